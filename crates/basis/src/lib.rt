@@ -1,0 +1,1 @@
+// Definitions and laws that every layer shares, in specs/ and proofs/. No code.

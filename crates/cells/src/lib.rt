@@ -1,0 +1,154 @@
+// The cells of a track, packed eight to a byte, highest bit first; the track is circular.
+ghost use mathlib.Core.Path.{_≡_};
+ghost use Prim.Native.Nat.{_<_, _≤_, _*_, _+_, _-_, _%_, _^_, min};
+ghost use lib.ListN.{length};
+ghost use Rattle.cells.specs.CellsAndBytes.{cellAt, cell, word, wordAt, leastPlace, cleared, withOne};
+
+// Cell i of packed bytes, 0 or 1; past their end 0.
+pub fn cell_at(bytes: &[u8], i: usize) -> u64
+    ensures { λ r. ⌜ r ≡ cellAt (now (bytes .entry)) i ⌝ }
+{
+    let k = i / 8;
+    if k < bytes.len() {
+        ((bytes[k] >> (7 - i % 8)) % 2) as u64
+    } else {
+        0
+    }
+}
+
+// Cell p of a track of n cells, counted on past n.
+pub fn cell_on(bytes: &[u8], n: usize, p: usize) -> u64
+    ensures { λ r. ⌜ r ≡ cell (now (bytes .entry)) n p ⌝ }
+{
+    if n == 0 {
+        return 0;
+    }
+    if p < n {
+        return cell_at(bytes, p);
+    }
+    cell_at(bytes, p % n)
+}
+
+// The place after `at`, round a track of n cells.
+fn next_place(at: usize, n: usize) -> usize
+    requires { ⌜ at < n ⌝ }
+    ensures { λ r. ⌜ r ≡ (at + 1) % n ⌝ }
+{
+    if at + 1 == n { 0 } else { at + 1 }
+}
+
+// The place k after `from`, round a track of n cells.
+fn place_after(from: usize, k: usize, n: usize) -> usize
+    requires { ⌜ 0 < n ⌝ }
+    ensures { λ r. ⌜ r ≡ (from + k) % n ⌝ }
+{
+    let at = from % n;
+    let left = n - at;
+    if k < left { at + k } else { (k - left) % n }
+}
+
+// The cells so far, of which only the last 64 are kept, and one more.
+fn append(cells: u64, cell: u64) -> u64
+    requires { ⌜ cell < 2 ⌝ }
+    ensures { λ r. ⌜ r ≡ (cells * 2 + cell) % 2 ^ 64 ⌝ }
+{
+    (cells % 0x8000_0000_0000_0000) * 2 + cell
+}
+
+// The last 64 of the k cells from p.
+fn cells_from(bytes: &[u8], n: usize, p: usize, k: usize) -> u64
+    requires { ⌜ 0 < n ⌝ }
+    ensures { λ r. ⌜ r ≡ word (cell (now (bytes .entry)) n) k p % 2 ^ 64 ⌝ }
+{
+    let mut cells: u64 = 0;
+    let mut at = p % n;
+    let mut i: usize = 0;
+    while i < k {
+        cells = append(cells, cell_at(bytes, at));
+        at = next_place(at, n);
+        i += 1;
+    }
+    cells
+}
+
+// The word of k cells from p, the first its highest bit; 0 where k is above 64.
+pub fn word_at(bytes: &[u8], n: usize, p: usize, k: usize) -> u64
+    ensures { λ r. ⌜ r ≡ wordAt (now (bytes .entry)) n p k ⌝ }
+{
+    if 64 < k {
+        return 0;
+    }
+    if n == 0 {
+        return 0;
+    }
+    cells_from(bytes, n, p, k)
+}
+
+// The search of find_word. The last cells are carried along: each place costs one cell more.
+fn find_in_range(bytes: &[u8], n: usize, x: u64, k: usize, from: usize, to: usize) -> usize
+    requires { ⌜ (0 < n) × (1 ≤ k) × (k ≤ 64) × (from ≤ to) ⌝ }
+    ensures { λ r. ⌜ r ≡ leastPlace (now (bytes .entry)) n k x from to ⌝ }
+{
+    let mask = 0xFFFF_FFFF_FFFF_FFFF >> (64 - k);
+    let mut cells = cells_from(bytes, n, from, k);
+    let mut at = place_after(from, k, n);
+    let mut p = from;
+    while p < to {
+        if cells & mask == x {
+            return p;
+        }
+        cells = append(cells, cell_at(bytes, at));
+        at = next_place(at, n);
+        p += 1;
+    }
+    to
+}
+
+// The least place from `from` and before `to`, counted on past n, at which the word x of k cells stands. Where there is
+// none, and so for a track of no cells and for a word of no or more than 64 cells, the end of the range.
+pub fn find_word(bytes: &[u8], n: usize, x: u64, k: usize, from: usize, to: usize) -> usize
+    ensures { λ r. ⌜ r ≡ leastPlace (now (bytes .entry)) n k x from to ⌝ }
+{
+    if to <= from {
+        return from;
+    }
+    if n == 0 {
+        return to;
+    }
+    if k == 0 {
+        return to;
+    }
+    if 64 < k {
+        return to;
+    }
+    find_in_range(bytes, n, x, k, from, to)
+}
+
+// The smaller of two numbers.
+fn smaller(a: usize, b: usize) -> usize
+    ensures { λ r. ⌜ (r ≡ min a b) × (r ≤ b) ⌝ }
+{
+    if a < b { a } else { b }
+}
+
+// Sets the first k bytes, or all where there are fewer, to 0.
+pub fn clear(bytes: &mut [u8], k: usize)
+    ensures { λ _. ⌜ now (bytes .exit) ≡ cleared k (now (bytes .entry)) ⌝ }
+{
+    let end = smaller(k, bytes.len());
+    let mut i: usize = 0;
+    while i < end {
+        bytes[i] = 0;
+        i += 1;
+    }
+}
+
+// Puts a one at cell p, where the bytes have such a cell.
+pub fn put_one(bytes: &mut [u8], p: usize)
+    ensures { λ _. ⌜ now (bytes .exit) ≡ withOne (now (bytes .entry)) p ⌝ }
+{
+    let k = p / 8;
+    if k < bytes.len() {
+        bytes[k] = bytes[k] | (1 << (7 - p % 8));
+    }
+}

@@ -1,0 +1,5 @@
+pub mod Cells
+pub mod Coder
+pub mod Decoder
+pub mod RoundTrip
+pub mod Calls

@@ -1,0 +1,114 @@
+// MFM coding and decoding.
+use refusals::Refusal;
+ghost use mathlib.Core.Path.{_≡_};
+ghost use mathlib.Core.Bool.{cond};
+ghost use Prim.Native.Nat.{_<_, _≤_, _*_, _+_, _/_, _%_, _^_};
+ghost use lib.ListN.{length};
+ghost use Rattle.basis.specs.Lists.{writtenOver};
+ghost use Rattle.mfm.specs.Coding.{clock, byteCells, encoded, decoded};
+ghost use Rattle.mfm.specs.Calls.{answerOf, coding, decoding, bufferAfter};
+
+// The most bytes that one call codes, and the most bytes of cells that one call decodes.
+pub const MOST_TO_CODE: usize = 8192;
+
+pub const MOST_TO_DECODE: usize = 16384;
+
+// What a call answers: the bytes written at the front of the lent buffer, or a refusal.
+pub enum Written {
+    Bytes(usize),
+    Refused(Refusal),
+}
+
+// The clock cell of a data bit after another.
+fn clock(before: u16, bit: u16) -> u16
+    ensures { λ r. ⌜ (r ≡ clock before bit) × (r < 2) ⌝ }
+{
+    if (before == 0) & (bit == 0) { 1 } else { 0 }
+}
+
+// The sixteen cells of a byte after a data bit, as a number: the clock rule, bit by bit.
+pub fn byte_cells(before: bool, byte: u8) -> u16
+    ensures { λ r. ⌜ r ≡ byteCells (cond before 1 0) byte ⌝ }
+{
+    let mut last = before as u16;
+    let mut cells: u16 = 0;
+    let mut k: u8 = 8;
+    while 0 < k {
+        k -= 1;
+        let bit = ((byte >> k) % 2) as u16;
+        cells = cells * 4 + clock(last, bit) * 2 + bit;
+        last = bit;
+    }
+    cells
+}
+
+// Codes all of `bytes` into the front of `cells`.
+fn write_cells(bytes: &[u8], before: bool, cells: &mut [u8])
+    requires { ⌜ 2 * length (now bytes) ≤ length (now cells) ⌝ }
+    ensures { λ _. ⌜ now (cells .exit) ≡ writtenOver (encoded (cond before 1 0) (now (bytes .entry))) (now (cells .entry)) ⌝ }
+{
+    let mut last = before;
+    let mut i: usize = 0;
+    while i < bytes.len() {
+        let byte = bytes[i];
+        let word = byte_cells(last, byte);
+        cells[2 * i] = (word / 256) as u8;
+        cells[2 * i + 1] = (word % 256) as u8;
+        last = byte % 2 == 1;
+        i += 1;
+    }
+}
+
+// Coding: two bytes of cells for each byte, at the front of `cells`. `before` is the data bit before the bytes.
+pub fn encode(bytes: &[u8], before: bool, cells: &mut [u8]) -> Written
+    ensures answer { λ r. ⌜ answerOf r ≡ coding (now (bytes .entry)) (now (cells .entry)) ⌝ }
+    ensures buffer { λ r. ⌜ now (cells .exit) ≡ bufferAfter (answerOf r) (encoded (cond before 1 0) (now (bytes .entry))) (now (cells .entry)) ⌝ }
+{
+    let given = bytes.len();
+    if MOST_TO_CODE < given {
+        return Written::Refused(Refusal::TooManyBytes(given));
+    }
+    let needed = 2 * given;
+    if cells.len() < needed {
+        return Written::Refused(Refusal::NoRoomForBytes(needed));
+    }
+    write_cells(bytes, before, cells);
+    Written::Bytes(needed)
+}
+
+// The four data cells of a byte of cells.
+fn nibble(cells: u8) -> u8
+    ensures { λ r. ⌜ (r ≡ cells / 2 ^ 6 % 2 * 8 + cells / 2 ^ 4 % 2 * 4 + cells / 2 ^ 2 % 2 * 2 + cells % 2) × (r < 16) ⌝ }
+{
+    (cells >> 6) % 2 * 8 + (cells >> 4) % 2 * 4 + (cells >> 2) % 2 * 2 + cells % 2
+}
+
+// Decodes every two bytes of `cells` into the front of `bytes`.
+fn write_bytes(cells: &[u8], bytes: &mut [u8])
+    requires { ⌜ length (now cells) / 2 ≤ length (now bytes) ⌝ }
+    ensures { λ _. ⌜ now (bytes .exit) ≡ writtenOver (decoded (now (cells .entry))) (now (bytes .entry)) ⌝ }
+{
+    let end = cells.len() / 2;
+    let mut i: usize = 0;
+    while i < end {
+        bytes[i] = nibble(cells[2 * i]) * 16 + nibble(cells[2 * i + 1]);
+        i += 1;
+    }
+}
+
+// Decoding: one byte for each two bytes of cells, at the front of `bytes`; an odd last byte of cells is not read.
+pub fn decode(cells: &[u8], bytes: &mut [u8]) -> Written
+    ensures answer { λ r. ⌜ answerOf r ≡ decoding (now (cells .entry)) (now (bytes .entry)) ⌝ }
+    ensures buffer { λ r. ⌜ now (bytes .exit) ≡ bufferAfter (answerOf r) (decoded (now (cells .entry))) (now (bytes .entry)) ⌝ }
+{
+    let given = cells.len();
+    if MOST_TO_DECODE < given {
+        return Written::Refused(Refusal::TooManyBytes(given));
+    }
+    let needed = given / 2;
+    if bytes.len() < needed {
+        return Written::Refused(Refusal::NoRoomForBytes(needed));
+    }
+    write_bytes(cells, bytes);
+    Written::Bytes(needed)
+}

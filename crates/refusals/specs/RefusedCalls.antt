@@ -1,0 +1,49 @@
+-- 01, "Refused calls": the number of each refusal, and what it gives also. Assumes nothing.
+use Prim.Native.Nat.{ℕ}
+use Rattle.refusals.specs.declared.Refusal.{Refusal}
+use Rattle.refusals.specs.declared.Refusal.the-variants.{TrackOrSide, CellCount, TooFewBytes, TooManySectors, ListTooShort, NoTimings, TooManyTimings, TimingOutOfRange, TooManyCells, NoRoomForCells, NoSuchSector, NoDataRead, NoRoomForBytes, TooManyBytes, NotATrackFile}
+
+-- the table's column "no"
+abbrev pub numberOf : Refusal → ℕ
+numberOf TrackOrSide = 1
+numberOf (CellCount cells) = 2
+numberOf (TooFewBytes needed) = 3
+numberOf (TooManySectors sectors) = 4
+numberOf (ListTooShort findings) = 5
+numberOf NoTimings = 6
+numberOf (TooManyTimings timings) = 7
+numberOf (TimingOutOfRange index) = 8
+numberOf (TooManyCells cells) = 9
+numberOf (NoRoomForCells needed) = 10
+numberOf (NoSuchSector sectors) = 11
+numberOf NoDataRead = 12
+numberOf (NoRoomForBytes needed) = 13
+numberOf (TooManyBytes given) = 14
+numberOf NotATrackFile = 15
+
+-- the table's column "gives also"
+abbrev pub valueOf : Refusal → ℕ
+valueOf TrackOrSide = 0
+valueOf (CellCount cells) = cells
+valueOf (TooFewBytes needed) = needed
+valueOf (TooManySectors sectors) = sectors
+valueOf (ListTooShort findings) = findings
+valueOf NoTimings = 0
+valueOf (TooManyTimings timings) = timings
+valueOf (TimingOutOfRange index) = index
+valueOf (TooManyCells cells) = cells
+valueOf (NoRoomForCells needed) = needed
+valueOf (NoSuchSector sectors) = sectors
+valueOf NoDataRead = 0
+valueOf (NoRoomForBytes needed) = needed
+valueOf (TooManyBytes given) = given
+valueOf NotATrackFile = 0
+
+-- what a call answers, in 01's terms: what an accepted call gives, or a refusal's number and what it gives also
+pub data Answer (A : Type 0) : Type 0 where
+  gives : A → Answer A
+  refused : ℕ → ℕ → Answer A
+
+-- the answer of a refusal
+abbrev pub refusedWith : {A : Type 0} → Refusal → Answer A
+refusedWith refusal = refused (numberOf refusal) (valueOf refusal)

@@ -1,0 +1,85 @@
+// 01's refusals, one variant for each row of its table "Refused calls", in that order.
+ghost use mathlib.Core.Path.{_≡_};
+ghost use Rattle.refusals.specs.RefusedCalls.{numberOf, valueOf};
+
+// Why a call was refused, with what 01 says is given also.
+pub enum Refusal {
+    // 1: the track is above 83 or the side above 1.
+    TrackOrSide,
+    // 2: the number of cells, below 20,000 or above 131,072.
+    CellCount(usize),
+    // 3: the bytes that the cells need, where fewer are there.
+    TooFewBytes(usize),
+    // 4: the sectors on the track, above 64.
+    TooManySectors(usize),
+    // 5: the findings, more than the list holds.
+    ListTooShort(usize),
+    // 6: there are no timings.
+    NoTimings,
+    // 7: the timings, above 65,536.
+    TooManyTimings(usize),
+    // 8: the index of the first timing outside its range.
+    TimingOutOfRange(usize),
+    // 9: the cells in all, above 131,072.
+    TooManyCells(usize),
+    // 10: the bytes that the cells need, where there is too little room.
+    NoRoomForCells(usize),
+    // 11: the sectors, none of which has the index asked for.
+    NoSuchSector(usize),
+    // 12: the sector has no data read.
+    NoDataRead,
+    // 13: the bytes needed, where there is too little room.
+    NoRoomForBytes(usize),
+    // 14: the bytes given, above 8,192 to code or 16,384 to decode.
+    TooManyBytes(usize),
+    // 15: not a track file.
+    NotATrackFile,
+}
+
+impl Refusal {
+    // The refusal's number in 01's table.
+    pub fn number(self) -> u32
+        ensures { λ r. ⌜ r ≡ numberOf self ⌝ }
+    {
+        match self {
+            Refusal::TrackOrSide => 1,
+            Refusal::CellCount(_) => 2,
+            Refusal::TooFewBytes(_) => 3,
+            Refusal::TooManySectors(_) => 4,
+            Refusal::ListTooShort(_) => 5,
+            Refusal::NoTimings => 6,
+            Refusal::TooManyTimings(_) => 7,
+            Refusal::TimingOutOfRange(_) => 8,
+            Refusal::TooManyCells(_) => 9,
+            Refusal::NoRoomForCells(_) => 10,
+            Refusal::NoSuchSector(_) => 11,
+            Refusal::NoDataRead => 12,
+            Refusal::NoRoomForBytes(_) => 13,
+            Refusal::TooManyBytes(_) => 14,
+            Refusal::NotATrackFile => 15,
+        }
+    }
+
+    // What the refusal gives also.
+    pub fn value(self) -> usize
+        ensures { λ r. ⌜ r ≡ valueOf self ⌝ }
+    {
+        match self {
+            Refusal::TrackOrSide => 0,
+            Refusal::CellCount(cells) => cells,
+            Refusal::TooFewBytes(needed) => needed,
+            Refusal::TooManySectors(sectors) => sectors,
+            Refusal::ListTooShort(findings) => findings,
+            Refusal::NoTimings => 0,
+            Refusal::TooManyTimings(timings) => timings,
+            Refusal::TimingOutOfRange(index) => index,
+            Refusal::TooManyCells(cells) => cells,
+            Refusal::NoRoomForCells(needed) => needed,
+            Refusal::NoSuchSector(sectors) => sectors,
+            Refusal::NoDataRead => 0,
+            Refusal::NoRoomForBytes(needed) => needed,
+            Refusal::TooManyBytes(given) => given,
+            Refusal::NotATrackFile => 0,
+        }
+    }
+}
