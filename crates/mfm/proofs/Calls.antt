@@ -1,9 +1,11 @@
 -- The judgement of a call, where it refuses and where it does not. Assumes nothing.
 use Prim.Native.Nat.{ℕ, _<_, _≤_}
-use mathlib.Core.Path.{_≡_, refl}
+use mathlib.Core.Path.{_≡_, refl, ap, _∙_}
+use mathlib.Core.List.{List}
 use borrow.Author.Tests.{lt-ltb, le-ltb}
+use Rattle.refusals.specs.RefusedCalls.{Answer}
 use Rattle.refusals.specs.RefusedCalls.Answer.{gives, refused}
-use Rattle.mfm.specs.Calls.{judged}
+use Rattle.mfm.specs.Calls.{judged, bufferAfter}
 
 module _ (most given needed room : ℕ) where
   pub too-many : most < given → refused 14 given ≡ judged most given needed room
@@ -17,3 +19,7 @@ module _ (most given needed room : ℕ) where
   pub in-room : given ≤ most → needed ≤ room → gives needed ≡ judged most given needed room
   unfolding judged
   in-room h g = rw (le-ltb most given h, le-ltb room needed g)
+
+-- an answer that is the judgement, and a buffer that is the answer's
+pub both : {a b : Answer ℕ} (made buffer : List ℕ) {after : List ℕ} → a ≡ b → after ≡ bufferAfter a made buffer → (a ≡ b) × (after ≡ bufferAfter b made buffer)
+both made buffer e h = (e, h ∙ ap (λ (x : Answer ℕ). bufferAfter x made buffer) e)

@@ -7,6 +7,7 @@ use lib.ListN.{length}
 use Rattle.basis.specs.Lists.{writtenOver}
 use Rattle.refusals.specs.RefusedCalls.{Answer, refusedWith}
 use Rattle.refusals.specs.RefusedCalls.Answer.{gives, refused}
+use Rattle.mfm.specs.Coding.{encoded, decoded}
 use Rattle.mfm.specs.declared.Written.{Written}
 use Rattle.mfm.specs.declared.Written.the-variants.{Bytes, Refused}
 
@@ -31,3 +32,10 @@ decoding cells bytes = judged 16384 (length cells) (length cells / 2) (length by
 unfoldable pub bufferAfter : Answer ℕ → List ℕ → List ℕ → List ℕ
 bufferAfter (gives count) made buffer = writtenOver made buffer
 bufferAfter (refused number value) made buffer = buffer
+
+-- the buffer lent to a call that codes, and the one lent to a call that decodes
+abbrev pub cellsAfter : ℕ → List ℕ → List ℕ → List ℕ
+cellsAfter before bytes cells = bufferAfter (coding bytes cells) (encoded before bytes) cells
+
+abbrev pub bytesAfter : List ℕ → List ℕ → List ℕ
+bytesAfter cells bytes = bufferAfter (decoding cells bytes) (decoded cells) bytes

@@ -6,7 +6,7 @@ ghost use Prim.Native.Nat.{_<_, _≤_, _*_, _+_, _/_, _%_, _^_};
 ghost use lib.ListN.{length};
 ghost use Rattle.basis.specs.Lists.{writtenOver};
 ghost use Rattle.mfm.specs.Coding.{clock, byteCells, encoded, decoded};
-ghost use Rattle.mfm.specs.Calls.{answerOf, coding, decoding, bufferAfter};
+ghost use Rattle.mfm.specs.Calls.{answerOf, coding, decoding, cellsAfter, bytesAfter};
 
 // The most bytes that one call codes, and the most bytes of cells that one call decodes.
 pub const MOST_TO_CODE: usize = 8192;
@@ -62,7 +62,7 @@ fn write_cells(bytes: &[u8], before: bool, cells: &mut [u8])
 // Coding: two bytes of cells for each byte, at the front of `cells`. `before` is the data bit before the bytes.
 pub fn encode(bytes: &[u8], before: bool, cells: &mut [u8]) -> Written
     ensures answer { λ r. ⌜ answerOf r ≡ coding (now (bytes .entry)) (now (cells .entry)) ⌝ }
-    ensures buffer { λ r. ⌜ now (cells .exit) ≡ bufferAfter (answerOf r) (encoded (cond before 1 0) (now (bytes .entry))) (now (cells .entry)) ⌝ }
+    ensures buffer { λ _. ⌜ now (cells .exit) ≡ cellsAfter (cond before 1 0) (now (bytes .entry)) (now (cells .entry)) ⌝ }
 {
     let given = bytes.len();
     if MOST_TO_CODE < given {
@@ -99,7 +99,7 @@ fn write_bytes(cells: &[u8], bytes: &mut [u8])
 // Decoding: one byte for each two bytes of cells, at the front of `bytes`; an odd last byte of cells is not read.
 pub fn decode(cells: &[u8], bytes: &mut [u8]) -> Written
     ensures answer { λ r. ⌜ answerOf r ≡ decoding (now (cells .entry)) (now (bytes .entry)) ⌝ }
-    ensures buffer { λ r. ⌜ now (bytes .exit) ≡ bufferAfter (answerOf r) (decoded (now (cells .entry))) (now (bytes .entry)) ⌝ }
+    ensures buffer { λ _. ⌜ now (bytes .exit) ≡ bytesAfter (now (cells .entry)) (now (bytes .entry)) ⌝ }
 {
     let given = cells.len();
     if MOST_TO_DECODE < given {

@@ -1,0 +1,14 @@
+-- Answers as C callers get them: a number, 0 for an accepted call and else 01's refusal, and a value beside it. Assumes nothing.
+use Prim.Native.Nat.{ℕ}
+use Rattle.refusals.specs.RefusedCalls.{Answer}
+use Rattle.refusals.specs.RefusedCalls.Answer.{gives, refused}
+
+-- the number that the call returns
+abbrev pub numberIn : Answer ℕ → ℕ
+numberIn (gives count) = 0
+numberIn (refused number value) = number
+
+-- the value that it stores: what an accepted call gives, or what the refusal gives also
+abbrev pub valueIn : Answer ℕ → ℕ
+valueIn (gives count) = count
+valueIn (refused number value) = value
