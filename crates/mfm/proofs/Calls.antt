@@ -3,9 +3,9 @@ use Prim.Native.Nat.{ℕ, _<_, _≤_}
 use mathlib.Core.Path.{_≡_, refl, ap, _∙_}
 use mathlib.Core.List.{List}
 use borrow.Author.Tests.{lt-ltb, le-ltb}
-use Rattle.refusals.specs.RefusedCalls.{Answer}
+use Rattle.refusals.specs.RefusedCalls.{Answer, bufferAfter}
 use Rattle.refusals.specs.RefusedCalls.Answer.{gives, refused}
-use Rattle.mfm.specs.Calls.{judged, bufferAfter}
+use Rattle.mfm.specs.Calls.{judged}
 
 module _ (most given needed room : ℕ) where
   pub too-many : most < given → refused 14 given ≡ judged most given needed room

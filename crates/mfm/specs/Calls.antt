@@ -4,8 +4,7 @@ use mathlib.Core.Bool.{cond}
 use mathlib.Core.List.{List}
 use lib.Dec.{ltb}
 use lib.ListN.{length}
-use Rattle.basis.specs.Lists.{writtenOver}
-use Rattle.refusals.specs.RefusedCalls.{Answer, refusedWith}
+use Rattle.refusals.specs.RefusedCalls.{Answer, refusedWith, bufferAfter}
 use Rattle.refusals.specs.RefusedCalls.Answer.{gives, refused}
 use Rattle.mfm.specs.Coding.{encoded, decoded}
 use Rattle.mfm.specs.declared.Written.{Written}
@@ -27,11 +26,6 @@ coding bytes cells = judged 8192 (length bytes) (2 * length bytes) (length cells
 -- up to 16,384 bytes of cells: one byte for each two
 abbrev pub decoding : List ℕ → List ℕ → Answer ℕ
 decoding cells bytes = judged 16384 (length cells) (length cells / 2) (length bytes)
-
--- the lent buffer afterwards: what was made stands at its front and the rest is kept; all of it is kept beside a refusal
-unfoldable pub bufferAfter : Answer ℕ → List ℕ → List ℕ → List ℕ
-bufferAfter (gives count) made buffer = writtenOver made buffer
-bufferAfter (refused number value) made buffer = buffer
 
 -- the buffer lent to a call that codes, and the one lent to a call that decodes
 abbrev pub cellsAfter : ℕ → List ℕ → List ℕ → List ℕ

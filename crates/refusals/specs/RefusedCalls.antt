@@ -1,5 +1,7 @@
 -- 01, "Refused calls": the number of each refusal, and what it gives also. Assumes nothing.
 use Prim.Native.Nat.{ℕ}
+use mathlib.Core.List.{List}
+use Rattle.basis.specs.Lists.{writtenOver}
 use Rattle.refusals.specs.declared.Refusal.{Refusal}
 use Rattle.refusals.specs.declared.Refusal.the-variants.{TrackOrSide, CellCount, TooFewBytes, TooManySectors, ListTooShort, NoTimings, TooManyTimings, TimingOutOfRange, TooManyCells, NoRoomForCells, NoSuchSector, NoDataRead, NoRoomForBytes, TooManyBytes, NotATrackFile}
 
@@ -47,3 +49,8 @@ pub data Answer (A : Type 0) : Type 0 where
 -- the answer of a refusal
 abbrev pub refusedWith : {A : Type 0} → Refusal → Answer A
 refusedWith refusal = refused (numberOf refusal) (valueOf refusal)
+
+-- "each writes nothing": a lent buffer after a call. Where the call is accepted, what it made stands at the front and the rest is kept
+unfoldable pub bufferAfter : {A B : Type 0} → Answer A → List B → List B → List B
+bufferAfter (gives result) made buffer = writtenOver made buffer
+bufferAfter (refused number value) made buffer = buffer

@@ -2,7 +2,7 @@
 use Prim.Native.Nat.{_*_, _/_, _≤_}
 use mathlib.Core.Path.{refl}
 use native.Mathlib.Omega.{arith}
-use Rattle.mfm.specs.Calls.{bufferAfter}
+use Rattle.refusals.specs.RefusedCalls.{bufferAfter}
 use Rattle.mfm.proofs.Calls.{too-many, no-room, in-room, both}
 use borrow.Author.Needs.{needs}
 use Rattle.mfm.proofs.encode.Statement.{statement}
