@@ -1,9 +1,10 @@
 -- What `least` means, and a turn of a loop that looks for it. Assumes nothing.
-use Prim.Native.Nat.{ℕ, zero, suc, _+_, _-_, _≤_, _<_}
+use Prim.Native.Nat.{ℕ, zero, suc, _+_, _-_, _*_, _/_, _%_, _≤_, _<_}
 use mathlib.Core.Path.{_≡_, refl, sym, ap, _∙_}
 use mathlib.Core.Bool.{Bool, true, false, cond}
 use mathlib.Core.Logic.{⊎-elim}
-use native.Mathlib.Nat.{eq-or-lt-of-le, add-zero}
+use native.Mathlib.Nat.{eq-or-lt-of-le, add-zero, add-mul, mod-lt, div-add-mod'}
+use native.Mathlib.Numerals.{add-one}
 use native.Mathlib.Omega.{arith}
 use Rattle.basis.specs.Search.{least}
 
@@ -28,11 +29,44 @@ least-found test (suc k) p l = go (test p) refl l (λ m. least-found test k (p +
     go true e m more = e
     go false e m more = more (omega arith)
 
--- where nothing passes, it is the end of the range
-pub least-none : (test : ℕ → Bool) → ((q : ℕ) → test q ≡ false) → (k p : ℕ) → least test k p ≡ p + k
+-- where nothing from p on passes, it is the end of the range
+pub least-none : (test : ℕ → Bool) (k p : ℕ) → ((q : ℕ) → p ≤ q → test q ≡ false) → least test k p ≡ p + k
 unfolding least
-least-none test h zero p = sym (add-zero p)
-least-none test h (suc k) p = let e : p + 1 + k ≡ p + suc k = omega arith in rw (h p, least-none test h k (p + 1), e)
+least-none test zero p h = sym (add-zero p)
+least-none test (suc k) p h =
+    let e : p + 1 + k ≡ p + suc k = omega arith in
+    rw (h p (omega arith), least-none test k (p + 1) (λ q l. h q (omega arith)), e)
+
+-- a place found in the first m places of a longer range is the longer range's
+pub least-longer : (test : ℕ → Bool) (m k p : ℕ) → m ≤ k → least test m p < p + m → least test k p ≡ least test m p
+unfolding least
+least-longer test zero k p h l = absurd (omega arith)
+least-longer test (suc m) zero p h l = absurd (omega arith)
+least-longer test (suc m) (suc k) p h l = go (test p) l (λ g. least-longer test m k (p + 1) (omega arith) g)
+  where
+    go : (b : Bool) → cond b p (least test m (p + 1)) < p + suc m → (least test m (p + 1) < p + 1 + m → least test k (p + 1) ≡ least test m (p + 1))
+        → cond b p (least test k (p + 1)) ≡ cond b p (least test m (p + 1))
+    go true l more = refl
+    go false l more = more (omega arith)
+
+-- a test that comes again after n places
+module _ (test : ℕ → Bool) (n : ℕ) (again : (p : ℕ) → test (p + n) ≡ test p) where
+  turns : (p m : ℕ) → test (p + m * n) ≡ test p
+  turns p zero = let e : p + 0 * n ≡ p = omega arith in ap test e
+  turns p (suc m) =
+      let e : p + suc m * n ≡ p + m * n + n = rw (← add-one m, add-mul m 1 n) (omega arith) in
+      ap test e ∙ again (p + m * n) ∙ turns p m
+
+  -- one turn without a place that passes: there is none
+  pub least-turn : (k p : ℕ) → 0 < n → p + n ≤ least test n p → least test k p ≡ p + k
+  least-turn k p h l = least-none test k p (λ q g. none q g)
+    where
+      none : (q : ℕ) → p ≤ q → test q ≡ false
+      none q g =
+          let d = q - p in
+          let r = mod-lt (q - p) h in
+          let e : q ≡ p + (q - p) % n + (q - p) / n * n = omega (arith, div-add-mod' (q - p) n) in
+          ap test e ∙ turns (p + (q - p) % n) ((q - p) / n) ∙ least-before test n p (p + (q - p) % n) (omega arith) (omega arith)
 
 -- a loop from p up to q: a turn that does not pass, one that does, and the end
 module _ (test : ℕ → Bool) (p q : ℕ) where
@@ -47,3 +81,9 @@ module _ (test : ℕ → Bool) (p q : ℕ) where
   pub least-end : q ≤ p → least test (q - p) p ≡ p
   unfolding least
   least-end h = let s : q - p ≡ 0 = omega arith in rw s
+
+-- tests that agree find the same place
+pub least-same : (test other : ℕ → Bool) → ((q : ℕ) → test q ≡ other q) → (k p : ℕ) → least test k p ≡ least other k p
+unfolding least
+least-same test other h zero p = refl
+least-same test other h (suc k) p = rw (h p, least-same test other h k (p + 1))

@@ -1,38 +1,65 @@
--- Where a word stands: the test that a search makes, and the words that stand nowhere. Assumes nothing.
-use Prim.Native.Nat.{ℕ, _≤_, _<_}
-use mathlib.Core.Path.{_≡_, refl}
-use mathlib.Core.Bool.{Bool, true, false, _&&_}
+-- Where a word stands: the test that a search makes, and that it comes again after a turn of the track. Assumes nothing.
+use Prim.Native.Nat.{ℕ, _+_, _-_, _≤_, _<_, min}
+use mathlib.Core.Path.{_≡_, refl, sym, ap, _∙_}
+use mathlib.Core.Bool.{Bool, true, false, cond}
 use mathlib.Core.List.{List}
-use borrow.Author.Tests.{lt-ltb, le-leb, lt-leb, eq-eqb, ne-eqb}
-use lib.Dec.{eqb, ltb, leb}
-use Rattle.cells.specs.CellsAndBytes.{cell, word, stands}
+use native.Mathlib.Decide.{ℕ-discrete}
+use native.Mathlib.Nat.{min-eq-left, min-le-right}
+use native.Mathlib.Omega.{arith}
+use borrow.Author.Tests.{eq-eqb, ne-eqb}
+use lib.Dec.{eqb}
+use Rattle.basis.proofs.Search.{least-same, least-hit, least-none}
+use Rattle.cells.specs.CellsAndBytes.{cell, word, wordAt, stands, leastPlace}
+use Rattle.cells.proofs.Places.{cell-round}
+use Rattle.cells.proofs.Words.{word-none, word-same}
 
 module _ (bytes : List ℕ) (n k x p : ℕ) where
-  pub stands-here : 0 < n → 1 ≤ k → k ≤ 64 → word (cell bytes n) k p ≡ x → stands bytes n k x p ≡ true
-  unfolding stands
-  stands-here h a b e = rw (lt-ltb 0 n h, le-leb 1 k a, le-leb k 64 b, eq-eqb _ _ e)
+  pub word-is : k ≤ 64 → wordAt bytes n p k ≡ word (cell bytes n) k p
+  unfolding wordAt
+  word-is h = rw (min-eq-left h)
 
-  pub stands-not : 0 < n → 1 ≤ k → k ≤ 64 → (word (cell bytes n) k p ≡ x → ⊥) → stands bytes n k x p ≡ false
+  pub stands-here : wordAt bytes n p k ≡ x → stands bytes n k x p ≡ true
   unfolding stands
-  stands-not h a b e = rw (lt-ltb 0 n h, le-leb 1 k a, le-leb k 64 b, ne-eqb _ _ e)
+  stands-here e = eq-eqb _ _ e
 
-  pub none-on-no-cells : n ≡ 0 → stands bytes n k x p ≡ false
+  pub stands-not : (wordAt bytes n p k ≡ x → ⊥) → stands bytes n k x p ≡ false
   unfolding stands
-  none-on-no-cells e = rw e
+  stands-not e = ne-eqb _ _ e
 
-  pub none-of-no-cells : k ≡ 0 → stands bytes n k x p ≡ false
-  unfolding stands
-  none-of-no-cells e = rw e (last (ltb 0 n) _)
+  pub stands-again : stands bytes n k x (p + n) ≡ stands bytes n k x p
+  unfolding stands wordAt
+  stands-again = rw (word-same (cell bytes n) (cell bytes n) (min k 64) (p + n) p (λ i l. again i))
     where
-      last : (a b : Bool) → ((a && false) && b) ≡ false
-      last true b = refl
-      last false b = refl
+      again : (i : ℕ) → cell bytes n (p + n + i) ≡ cell bytes n (p + i)
+      again i = let e : p + n + i ≡ p + i + n = omega arith in ap (cell bytes n) e ∙ cell-round bytes n (p + i)
 
-  pub none-too-long : 64 < k → stands bytes n k x p ≡ false
-  unfolding stands
-  none-too-long h = rw (lt-leb k 64 h) (last (ltb 0 n) (leb 1 k) _)
-    where
-      last : (a b d : Bool) → ((a && (b && false)) && d) ≡ false
-      last true true d = refl
-      last true false d = refl
-      last false b d = refl
+  -- the words of a track without cells, and words of no cells
+  pub word-without-cells : n ≡ 0 → wordAt bytes n p k ≡ 0
+  unfolding wordAt
+  word-without-cells e = rw e (word-none bytes (min k 64) p)
+
+  pub word-of-no-cells : min k 64 ≡ 0 → wordAt bytes n p k ≡ 0
+  unfolding wordAt word
+  word-of-no-cells e = rw e
+
+stands-capped : (bytes : List ℕ) (n k x q : ℕ) → stands bytes n (min k 64) x q ≡ stands bytes n k x q
+unfolding stands wordAt
+stands-capped bytes n k x q = rw (min-eq-left (min-le-right k 64))
+
+-- a word of more than 64 cells is looked for as one of 64
+pub least-capped : (bytes : List ℕ) (n k x from to : ℕ) → leastPlace bytes n (min k 64) x from to ≡ leastPlace bytes n k x from to
+least-capped bytes n k x from to = least-same (stands bytes n (min k 64) x) (stands bytes n k x) same (to - from) from
+  where
+    same : (q : ℕ) → stands bytes n (min k 64) x q ≡ stands bytes n k x q
+    same q = stands-capped bytes n k x q
+
+-- where every word is 0
+pub least-among-zeros : (bytes : List ℕ) (n k x from to : ℕ) → ((p : ℕ) → wordAt bytes n p k ≡ 0) → from < to
+    → cond (eqb x 0) from to ≡ leastPlace bytes n k x from to
+least-among-zeros bytes n k x from to z h = go (ℕ-discrete x 0)
+  where
+    go : Dec (x ≡ 0) → cond (eqb x 0) from to ≡ leastPlace bytes n k x from to
+    go (yes e) = rw (eq-eqb x 0 e) (sym (least-hit (stands bytes n k x) from to h (stands-here bytes n k x from (z from ∙ sym e))))
+    go (no e) =
+        let s : from + (to - from) ≡ to = omega arith in
+        rw (ne-eqb x 0 e) (sym (least-none (stands bytes n k x) (to - from) from (λ q g. stands-not bytes n k x q (λ f. e (sym f ∙ z q))) ∙ s))

@@ -6,11 +6,11 @@
 --
 -- A cell is 0 or 1. Reading the packed cells gives the cells (`cell-packed`, in proofs/Packing). Assumes nothing.
 use Prim.Native.Nat.{ℕ, zero, suc, _+_, _-_, _*_, _/_, _%_, _^_, min}
-use mathlib.Core.Bool.{Bool, cond, _&&_}
+use mathlib.Core.Bool.{Bool, cond}
 use mathlib.Core.List.{List}
 use lib.ListN.{length, getD, set, replicate}
 use lib.Bits.{bitOr}
-use lib.Dec.{eqb, ltb, leb}
+use lib.Dec.{eqb, ltb}
 use Rattle.basis.specs.Lists.{listed, writtenOver}
 use Rattle.basis.specs.Search.{least}
 
@@ -31,13 +31,13 @@ unfoldable pub word : (ℕ → ℕ) → ℕ → ℕ → ℕ
 word f zero p = 0
 word f (suc k) p = 2 * word f k p + f (p + k)
 
--- the word of k cells from p of a track, as a number of 64 bits; 0 where k is above 64
+-- the word of k cells from p of a track, as a number of 64 bits: a k above 64 counts as 64
 unfoldable pub wordAt : List ℕ → ℕ → ℕ → ℕ → ℕ
-wordAt bytes n p k = cond (leb k 64) (word (cell bytes n) k p) 0
+wordAt bytes n p k = word (cell bytes n) (min k 64) p
 
--- the word x of k cells stands at p of a track of n cells. A track has a cell at least, and a word 1 to 64 cells
+-- the word x of k cells stands at p
 unfoldable pub stands : List ℕ → ℕ → ℕ → ℕ → ℕ → Bool
-stands bytes n k x p = (ltb 0 n && (leb 1 k && leb k 64)) && eqb (word (cell bytes n) k p) x
+stands bytes n k x p = eqb (wordAt bytes n p k) x
 
 -- the least place from `from` and before `to`, counted on past n, at which the word x of k cells stands; the range's end where there is none
 abbrev pub leastPlace : List ℕ → ℕ → ℕ → ℕ → ℕ → ℕ → ℕ

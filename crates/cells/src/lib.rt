@@ -1,6 +1,8 @@
 // The cells of a track, packed eight to a byte, highest bit first; the track is circular.
 ghost use mathlib.Core.Path.{_≡_};
 ghost use Prim.Native.Nat.{_<_, _≤_, _*_, _+_, _-_, _%_, _^_, min};
+ghost use mathlib.Core.Bool.{cond};
+ghost use lib.Dec.{eqb};
 ghost use lib.ListN.{length};
 ghost use Rattle.cells.specs.CellsAndBytes.{cellAt, cell, word, wordAt, leastPlace, cleared, withOne};
 
@@ -55,6 +57,13 @@ fn append(cells: u64, cell: u64) -> u64
     (cells % 0x8000_0000_0000_0000) * 2 + cell
 }
 
+// The smaller of two numbers.
+fn smaller(a: usize, b: usize) -> usize
+    ensures { λ r. ⌜ (r ≡ min a b) × (r ≤ b) ⌝ }
+{
+    if a < b { a } else { b }
+}
+
 // The last 64 of the k cells from p.
 fn cells_from(bytes: &[u8], n: usize, p: usize, k: usize) -> u64
     requires { ⌜ 0 < n ⌝ }
@@ -71,20 +80,17 @@ fn cells_from(bytes: &[u8], n: usize, p: usize, k: usize) -> u64
     cells
 }
 
-// The word of k cells from p, the first its highest bit; 0 where k is above 64.
+// The word of k cells from p, the first its highest bit; a k above 64 counts as 64.
 pub fn word_at(bytes: &[u8], n: usize, p: usize, k: usize) -> u64
     ensures { λ r. ⌜ r ≡ wordAt (now (bytes .entry)) n p k ⌝ }
 {
-    if 64 < k {
-        return 0;
-    }
     if n == 0 {
         return 0;
     }
-    cells_from(bytes, n, p, k)
+    cells_from(bytes, n, p, smaller(k, 64))
 }
 
-// The search of find_word. The last cells are carried along: each place costs one cell more.
+// The search of find_word, of a word of 1 to 64 cells. The last cells are carried along: each place costs one cell more.
 fn find_in_range(bytes: &[u8], n: usize, x: u64, k: usize, from: usize, to: usize) -> usize
     requires { ⌜ (0 < n) × (1 ≤ k) × (k ≤ 64) × (from ≤ to) ⌝ }
     ensures { λ r. ⌜ r ≡ leastPlace (now (bytes .entry)) n k x from to ⌝ }
@@ -104,8 +110,28 @@ fn find_in_range(bytes: &[u8], n: usize, x: u64, k: usize, from: usize, to: usiz
     to
 }
 
-// The least place from `from` and before `to`, counted on past n, at which the word x of k cells stands. Where there is
-// none, and so for a track of no cells and for a word of no or more than 64 cells, the end of the range.
+// As find_in_range, in at most one turn of the track: after n places the words come again.
+fn find_in_turn(bytes: &[u8], n: usize, x: u64, k: usize, from: usize, to: usize) -> usize
+    requires { ⌜ (0 < n) × (1 ≤ k) × (k ≤ 64) × (from ≤ to) ⌝ }
+    ensures { λ r. ⌜ r ≡ leastPlace (now (bytes .entry)) n k x from to ⌝ }
+{
+    if to - from <= n {
+        return find_in_range(bytes, n, x, k, from, to);
+    }
+    let turn = from + n;
+    let p = find_in_range(bytes, n, x, k, from, turn);
+    if p < turn { p } else { to }
+}
+
+// As find_in_range, where every word is 0: on a track without cells, or of a word without cells.
+fn find_among_zeros(x: u64, from: usize, to: usize) -> usize
+    ensures { λ r. ⌜ r ≡ cond (eqb x 0) from to ⌝ }
+{
+    if x == 0 { from } else { to }
+}
+
+// The least place from `from` and before `to`, counted on past n, at which the word x of k cells stands; the end of the
+// range where there is none.
 pub fn find_word(bytes: &[u8], n: usize, x: u64, k: usize, from: usize, to: usize) -> usize
     ensures { λ r. ⌜ r ≡ leastPlace (now (bytes .entry)) n k x from to ⌝ }
 {
@@ -113,22 +139,13 @@ pub fn find_word(bytes: &[u8], n: usize, x: u64, k: usize, from: usize, to: usiz
         return from;
     }
     if n == 0 {
-        return to;
+        return find_among_zeros(x, from, to);
     }
-    if k == 0 {
-        return to;
+    let length = smaller(k, 64);
+    if length == 0 {
+        return find_among_zeros(x, from, to);
     }
-    if 64 < k {
-        return to;
-    }
-    find_in_range(bytes, n, x, k, from, to)
-}
-
-// The smaller of two numbers.
-fn smaller(a: usize, b: usize) -> usize
-    ensures { λ r. ⌜ (r ≡ min a b) × (r ≤ b) ⌝ }
-{
-    if a < b { a } else { b }
+    find_in_turn(bytes, n, x, length, from, to)
 }
 
 // Sets the first k bytes, or all where there are fewer, to 0.

@@ -19,7 +19,7 @@ pub extern "C" fn thikbromu_cell(bytes: &[u8], n: usize, p: usize) -> u64
     cells::cell_on(bytes, n, p)
 }
 
-// The word of k cells from p; 0 where k is above 64.
+// The word of k cells from p; a k above 64 counts as 64.
 #[no_mangle]
 pub extern "C" fn thikbromu_word(bytes: &[u8], n: usize, p: usize, k: usize) -> u64
     ensures { λ r. ⌜ r ≡ wordAt (now (bytes .entry)) n p k ⌝ }

@@ -32,7 +32,7 @@ loop-less : tie.Need-loop-less Inv-loop μ-loop
 loop-less c = search needs
 
 loop-again : tie.Need-loop-again Inv-loop μ-loop
-loop-again c =
+loop-again c = 
     let l = c .before .loop in
     let b = c .before .before .before .before .args .bytes .now in
     let h : l .i < length b = omega (arith, c .before .before .smaller .ensures .1) in
@@ -43,7 +43,7 @@ same-length c = c .before .loop .inv .1
 
 returns : tie.Need-returns Inv-loop μ-loop
 unfolding cleared
-returns c =
+returns c = 
     let l = c .before .loop in
     let b = c .before .before .before .before .args .bytes .now in
     let m = c .before .before .smaller .ensures .0 in

@@ -6,10 +6,10 @@ use mathlib.Core.List.{List}
 use native.Mathlib.Nat.{mod-lt}
 use native.Mathlib.Omega.{arith}
 use Rattle.basis.proofs.Search.{least-step, least-hit, least-end}
-use Rattle.cells.specs.CellsAndBytes.{cellAt, cell, word, stands, leastPlace}
+use Rattle.cells.specs.CellsAndBytes.{cellAt, cell, word, wordAt, leastPlace}
 use Rattle.cells.proofs.Places.{cellAt-lt, cell-lt, cell-is, next-is}
 use Rattle.cells.proofs.Words.{carried-start, carried-on, mask-is}
-use Rattle.cells.proofs.Standing.{stands-here, stands-not}
+use Rattle.cells.proofs.Standing.{word-is, stands-here, stands-not}
 use borrow.Author.Needs.{needs}
 use Rattle.cells.proofs.find_in_range.Statement.{statement}
 use Rattle.cells.proofs.find_in_range.Tie as tie
@@ -41,7 +41,7 @@ place-after-requires : tie.Need-place-after-requires Inv-loop μ-loop
 place-after-requires c κs = search needs
 
 loop-holds : tie.Need-loop-holds Inv-loop μ-loop
-loop-holds c =
+loop-holds c = 
     let s = c .before .before .before in
     let a = s .args in
     record {
@@ -54,13 +54,13 @@ loop-holds c =
     }
 
 returns : tie.Need-returns Inv-loop μ-loop
-returns c =
+returns c = 
     let l = c .before .before in
     let s = l .before .before .before .before in
     let a = s .args in
     let inv = l .loop .inv in
-    let e = sym (inv .carried) ∙ sym (mask-is (l .loop .cells) (a .k) (s .pre .2)) ∙ c .if1 .taken in
-    sym (least-hit _ _ _ (c .before .loop-test .taken) (stands-here (a .bytes .now) (a .n) (a .k) (a .x) (l .loop .p) (s .pre .0) (s .pre .1) (s .pre .2) e)) ∙ inv .same
+    let e = word-is (a .bytes .now) (a .n) (a .k) (a .x) (l .loop .p) (s .pre .2) ∙ sym (inv .carried) ∙ sym (mask-is (l .loop .cells) (a .k) (s .pre .2)) ∙ c .if1 .taken in
+    sym (least-hit _ _ _ (c .before .loop-test .taken) (stands-here (a .bytes .now) (a .n) (a .k) (a .x) (l .loop .p) e)) ∙ inv .same
 
 cell-at-requires : tie.Need-cell-at-requires Inv-loop μ-loop
 cell-at-requires c κs = search needs
@@ -78,7 +78,7 @@ loop-less : tie.Need-loop-less Inv-loop μ-loop
 loop-less c = search needs
 
 loop-again : tie.Need-loop-again Inv-loop μ-loop
-loop-again c =
+loop-again c = 
     let l = c .before .before .before .before .before in
     let s = l .before .before .before .before in
     let a = s .args in
@@ -86,18 +86,18 @@ loop-again c =
     let f = cell (a .bytes .now) (a .n) in
     let b = c .before .before .cell-at .ensures ∙ ap (cellAt (a .bytes .now)) (inv .place) ∙ sym (cell-is (a .bytes .now) (a .n) (l .loop .p + a .k) (s .pre .0)) in
     let g : l .loop .p + 1 + a .k ≡ l .loop .p + (a .k + 1) = omega arith in
-    let e : word f (a .k) (l .loop .p) ≡ a .x → ⊥ = λ q. c .before .before .before .if1 .left (mask-is (l .loop .cells) (a .k) (s .pre .2) ∙ inv .carried ∙ q) in
+    let e : wordAt (a .bytes .now) (a .n) (l .loop .p) (a .k) ≡ a .x → ⊥ = λ q. c .before .before .before .if1 .left (mask-is (l .loop .cells) (a .k) (s .pre .2) ∙ inv .carried ∙ sym (word-is (a .bytes .now) (a .n) (a .k) (a .x) (l .loop .p) (s .pre .2)) ∙ q) in
     record {
       after = search needs;
       before = search needs;
       carried = rw (c .before .append .ensures) (carried-on f (cell-lt (a .bytes .now) (a .n)) (a .k) (s .pre .2) (l .loop .p) (l .loop .cells) _ (inv .carried) b);
       place = rw g (c .next-place .ensures ∙ next-is _ _ _ _ (inv .place));
       inside = rw (c .next-place .ensures) (mod-lt _ (s .pre .0));
-      same = sym (least-step _ _ _ (c .before .before .before .before .loop-test .taken) (stands-not (a .bytes .now) (a .n) (a .k) (a .x) (l .loop .p) (s .pre .0) (s .pre .1) (s .pre .2) e)) ∙ inv .same;
+      same = sym (least-step _ _ _ (c .before .before .before .before .loop-test .taken) (stands-not (a .bytes .now) (a .n) (a .k) (a .x) (l .loop .p) e)) ∙ inv .same;
     }
 
 returns-2 : tie.Need-returns-2 Inv-loop μ-loop
-returns-2 c =
+returns-2 c = 
     let l = c .before in
     let inv = l .loop .inv in
     let e : l .before .before .before .before .args .to ≡ l .loop .p = omega (arith, inv .before) in

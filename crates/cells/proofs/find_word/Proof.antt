@@ -1,40 +1,54 @@
 -- `cells::find_word` meets its contract. Assumes nothing.
-use Prim.Native.Nat.{ℕ, _+_, _-_, _≤_, _<_}
-use mathlib.Core.Path.{_≡_, sym, _∙_}
-use native.Mathlib.Omega.{arith}
-use Rattle.basis.proofs.Search.{least-end, least-none}
-use Rattle.cells.proofs.Standing.{none-on-no-cells, none-of-no-cells, none-too-long}
+use Prim.Native.Nat.{ℕ}
+use mathlib.Core.Path.{sym, ap, _∙_}
+use Rattle.basis.proofs.Search.{least-end}
+use Rattle.cells.specs.CellsAndBytes.{leastPlace}
+use Rattle.cells.proofs.Standing.{word-without-cells, word-of-no-cells, least-capped, least-among-zeros}
 use borrow.Author.Needs.{needs}
 use Rattle.cells.proofs.find_word.Statement.{statement}
 use Rattle.cells.proofs.find_word.Tie as tie
 
-ends : (from to : ℕ) → from < to → to ≡ from + (to - from)
-ends from to h = omega arith
-
 returns : tie.Need-returns
 returns c = sym (least-end _ _ _ (c .if1 .taken))
 
+find-among-zeros-requires : tie.Need-find-among-zeros-requires
+find-among-zeros-requires c κs = search needs
+
 returns-2 : tie.Need-returns-2
-returns-2 c =
-    let e = c .if2 .taken in
-    ends _ _ (c .before .if1 .left) ∙ sym (least-none _ (λ q. none-on-no-cells _ _ _ _ q e) _ _)
+returns-2 c = 
+    let a = c .before .before .before .before .args in
+    c .find-among-zeros .ensures
+    ∙ least-among-zeros (a .bytes .now) (a .n) (a .k) (a .x) (a .from) (a .to) (λ p. word-without-cells (a .bytes .now) (a .n) (a .k) (a .x) p (c .before .if2 .taken)) (c .before .before .if1 .left)
+
+smaller-requires : tie.Need-smaller-requires
+smaller-requires c κs = search needs
+
+find-among-zeros-requires-2 : tie.Need-find-among-zeros-requires-2
+find-among-zeros-requires-2 c κs = search needs
 
 returns-3 : tie.Need-returns-3
-returns-3 c =
-    let e = c .if3 .taken in
-    ends _ _ (c .before .before .if1 .left) ∙ sym (least-none _ (λ q. none-of-no-cells _ _ _ _ q e) _ _)
+returns-3 c = 
+    let a = c .before .before .before .before .before .before .args in
+    c .find-among-zeros2 .ensures
+    ∙ least-among-zeros (a .bytes .now) (a .n) (a .k) (a .x) (a .from) (a .to) (λ p. word-of-no-cells (a .bytes .now) (a .n) (a .k) (a .x) p (sym (c .before .before .smaller .ensures .0) ∙ c .before .if3 .taken)) (c .before .before .before .before .if1 .left)
+
+find-in-turn-requires : tie.Need-find-in-turn-requires
+find-in-turn-requires c κs = search needs
 
 returns-4 : tie.Need-returns-4
-returns-4 c =
-    let e = c .if4 .taken in
-    ends _ _ (c .before .before .before .if1 .left) ∙ sym (least-none _ (λ q. none-too-long _ _ _ _ q e) _ _)
-
-find-in-range-requires : tie.Need-find-in-range-requires
-find-in-range-requires c κs = search needs
-
-returns-5 : tie.Need-returns-5
-returns-5 c = search needs
+returns-4 c = 
+    let a = c .before .before .before .before .before .before .args in
+    c .find-in-turn .ensures ∙ ap (λ (k : ℕ). leastPlace (a .bytes .now) (a .n) k (a .x) (a .from) (a .to)) (c .before .before .smaller .ensures .0) ∙ least-capped (a .bytes .now) (a .n) (a .k) (a .x) (a .from) (a .to)
 
 pub find-word-spec : {M : Type 1} → statement M
 find-word-spec =
-    tie.close (tie.spec returns returns-2 returns-3 returns-4 find-in-range-requires returns-5)
+    tie.close
+    (tie.spec
+    returns
+    find-among-zeros-requires
+    returns-2
+    smaller-requires
+    find-among-zeros-requires-2
+    returns-3
+    find-in-turn-requires
+    returns-4)

@@ -1,0 +1,177 @@
+//! 01, "Cells and bytes": coding, decoding and the check word.
+
+use crate::library;
+use crate::report::{Group, Lent};
+use second_program::random::Random;
+use second_program::{check_word, mfm};
+
+fn bytes_of(random: &mut Random, length: usize) -> Vec<u8> {
+    // Runs of equal bytes now and then: the clock rule looks at neighbours.
+    let mut bytes = Vec::with_capacity(length);
+    let mut byte = random.byte();
+    for _ in 0..length {
+        if !random.one_in(4) {
+            byte = if random.one_in(6) { 0 } else { random.byte() };
+        }
+        bytes.push(byte);
+    }
+    bytes
+}
+
+fn code_case(group: &mut Group, bytes: &[u8], before: bool, room: usize) {
+    let mut lent = Lent::new(room);
+    let ours = library::encode(bytes, before, lent.part());
+    let second = mfm::code(bytes, before, room);
+    let written = match &second {
+        Ok(cells) => cells.as_slice(),
+        Err(_) => &[],
+    };
+    let given = || format!("{} bytes {:02X?}, before {before}, room {room}", bytes.len(), &bytes[..bytes.len().min(16)]);
+    group.same(ours, second.clone().map(|cells| cells.len()), given);
+    group.same(lent.into_bytes(), Lent::expected(room, written), given);
+}
+
+fn decode_case(group: &mut Group, cells: &[u8], room: usize) {
+    let mut lent = Lent::new(room);
+    let ours = library::decode(cells, lent.part());
+    let second = mfm::decode(cells, room);
+    let written = match &second {
+        Ok(bytes) => bytes.as_slice(),
+        Err(_) => &[],
+    };
+    let given = || format!("{} bytes of cells {:02X?}, room {room}", cells.len(), &cells[..cells.len().min(16)]);
+    group.same(ours, second.clone().map(|bytes| bytes.len()), given);
+    group.same(lent.into_bytes(), Lent::expected(room, written), given);
+}
+
+/// Rooms around what is needed: one too small, exact, and larger.
+fn rooms(needed: usize) -> [usize; 5] {
+    [needed.saturating_sub(1), needed, needed + 1, needed + 37, 0]
+}
+
+pub fn coding(totals: &mut (usize, usize)) {
+    let mut group = Group::new("coding, every length to 64 and around 8,192");
+    let mut random = Random::new(1);
+    for length in (0..=64).chain([8_191, 8_192, 8_193, 8_194, 20_000]) {
+        let bytes = bytes_of(&mut random, length);
+        for before in [false, true] {
+            for room in rooms(2 * length) {
+                code_case(&mut group, &bytes, before, room);
+            }
+        }
+    }
+    group.close(totals);
+
+    let mut group = Group::new("coding, each byte after each bit");
+    for byte in 0..=255 {
+        for before in [false, true] {
+            code_case(&mut group, &[byte], before, 2);
+        }
+    }
+    group.close(totals);
+
+    let mut group = Group::new("coding, random");
+    for _ in 0..4_000 {
+        let most = if random.one_in(50) { 9_000 } else { 200 };
+        let length = random.below(most) as usize;
+        let bytes = bytes_of(&mut random, length);
+        let room = (2 * length + random.below(6) as usize).saturating_sub(3);
+        code_case(&mut group, &bytes, random.one_in(2), room);
+    }
+    group.close(totals);
+}
+
+pub fn decoding(totals: &mut (usize, usize)) {
+    let mut group = Group::new("decoding, every length to 64 and around 16,384");
+    let mut random = Random::new(2);
+    for length in (0..=64).chain([16_383, 16_384, 16_385, 16_386, 40_000]) {
+        let cells = bytes_of(&mut random, length);
+        for room in rooms(length / 2) {
+            decode_case(&mut group, &cells, room);
+        }
+    }
+    group.close(totals);
+
+    let mut group = Group::new("decoding, each pair of bytes");
+    for first in 0..=255 {
+        for second in 0..=255 {
+            decode_case(&mut group, &[first, second], 1);
+        }
+    }
+    group.close(totals);
+
+    let mut group = Group::new("decoding, random");
+    for _ in 0..4_000 {
+        let most = if random.one_in(50) { 17_000 } else { 400 };
+        let length = random.below(most) as usize;
+        let cells = bytes_of(&mut random, length);
+        let room = (length / 2 + random.below(6) as usize).saturating_sub(3);
+        decode_case(&mut group, &cells, room);
+    }
+    group.close(totals);
+}
+
+pub fn round_trip(totals: &mut (usize, usize)) {
+    let mut group = Group::new("decoding what was coded");
+    let mut random = Random::new(3);
+    for length in (0..=64).chain([8_191, 8_192]) {
+        let bytes = bytes_of(&mut random, length);
+        for before in [false, true] {
+            let mut cells = vec![0; 2 * length];
+            let mut back = vec![0; length];
+            let coded = library::encode(&bytes, before, &mut cells);
+            let decoded = library::decode(&cells, &mut back);
+            let given = || format!("{length} bytes, before {before}");
+            group.same((coded, decoded), (Ok(2 * length), Ok(length)), given);
+            group.same(&back, &bytes, given);
+        }
+    }
+    group.close(totals);
+}
+
+/// The numbers that 01 prints.
+pub fn printed(totals: &mut (usize, usize)) {
+    let mut group = Group::new("01's codings and check words");
+    let codings: [(u8, &[bool], [u8; 2]); 6] = [
+        (0x4E, &[false], [0x92, 0x54]),
+        (0x00, &[false], [0xAA, 0xAA]),
+        (0x00, &[true], [0x2A, 0xAA]),
+        (0xFF, &[false, true], [0x55, 0x55]),
+        (0xA1, &[false, true], [0x44, 0xA9]),
+        (0xC2, &[false, true], [0x52, 0xA4]),
+    ];
+    for (byte, bits, cells) in codings {
+        for &before in bits {
+            let mut coded = [0; 2];
+            let answer = library::encode(&[byte], before, &mut coded);
+            group.same((answer, coded), (Ok(2), cells), || format!("{byte:02X} after {before}"));
+        }
+    }
+    let words: [(&[u8], u16); 3] = [
+        (&[0xA1, 0xA1, 0xA1], 0xCDB4),
+        (&[0xA1, 0xA1, 0xA1, 0xFE], 0xB230),
+        (&[0xA1, 0xA1, 0xA1, 0xFB], 0xE295),
+    ];
+    for (bytes, word) in words {
+        group.same(library::check_word(bytes), word, || format!("{bytes:02X?}"));
+    }
+    group.close(totals);
+}
+
+pub fn check_words(totals: &mut (usize, usize)) {
+    let mut group = Group::new("check words, every length to 64 and random");
+    let mut random = Random::new(4);
+    for i in 0..4_000 {
+        let length = if i <= 64 { i } else { random.below(1_200) as usize };
+        let bytes = bytes_of(&mut random, length);
+        let start = random.next_number() as u16;
+        let given = || format!("{length} bytes {:02X?}, from {start:04X}", &bytes[..length.min(16)]);
+        group.same(library::check_word(&bytes), check_word::check_word(&bytes), given);
+        group.same(
+            library::check_word_from(start, &bytes),
+            check_word::check_word_from(start, &bytes),
+            given,
+        );
+    }
+    group.close(totals);
+}

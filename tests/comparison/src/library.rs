@@ -1,0 +1,98 @@
+//! The library's routines, as its archive exports them, behind safe functions.
+//!
+//! Nothing checks these declarations against crates/thikbromu/src/lib.rt: keep the two alike. A slice passes as its address
+//! and its length. None of the routines asks anything of its caller.
+
+use second_program::refusal::Refusal;
+
+extern "C" {
+    fn thikbromu_cell(bytes: *const u8, length: usize, n: usize, p: usize) -> u64;
+    fn thikbromu_word(bytes: *const u8, length: usize, n: usize, p: usize, k: usize) -> u64;
+    fn thikbromu_find_word(
+        bytes: *const u8,
+        length: usize,
+        n: usize,
+        x: u64,
+        k: usize,
+        from: usize,
+        to: usize,
+    ) -> usize;
+    fn thikbromu_clear(bytes: *mut u8, length: usize, k: usize);
+    fn thikbromu_put_one(bytes: *mut u8, length: usize, p: usize);
+    fn thikbromu_check_word(bytes: *const u8, length: usize) -> u16;
+    fn thikbromu_check_word_from(word: u16, bytes: *const u8, length: usize) -> u16;
+    fn thikbromu_encode(
+        bytes: *const u8,
+        length: usize,
+        before: bool,
+        cells: *mut u8,
+        room: usize,
+        value: *mut usize,
+    ) -> u32;
+    fn thikbromu_decode(
+        cells: *const u8,
+        length: usize,
+        bytes: *mut u8,
+        room: usize,
+        value: *mut usize,
+    ) -> u32;
+}
+
+pub fn cell(bytes: &[u8], n: usize, p: usize) -> u64 {
+    unsafe { thikbromu_cell(bytes.as_ptr(), bytes.len(), n, p) }
+}
+
+pub fn word(bytes: &[u8], n: usize, p: usize, k: usize) -> u64 {
+    unsafe { thikbromu_word(bytes.as_ptr(), bytes.len(), n, p, k) }
+}
+
+pub fn find_word(bytes: &[u8], n: usize, x: u64, k: usize, from: usize, to: usize) -> usize {
+    unsafe { thikbromu_find_word(bytes.as_ptr(), bytes.len(), n, x, k, from, to) }
+}
+
+pub fn clear(bytes: &mut [u8], k: usize) {
+    unsafe { thikbromu_clear(bytes.as_mut_ptr(), bytes.len(), k) }
+}
+
+pub fn put_one(bytes: &mut [u8], p: usize) {
+    unsafe { thikbromu_put_one(bytes.as_mut_ptr(), bytes.len(), p) }
+}
+
+pub fn check_word(bytes: &[u8]) -> u16 {
+    unsafe { thikbromu_check_word(bytes.as_ptr(), bytes.len()) }
+}
+
+pub fn check_word_from(word: u16, bytes: &[u8]) -> u16 {
+    unsafe { thikbromu_check_word_from(word, bytes.as_ptr(), bytes.len()) }
+}
+
+/// An answer in 01's terms: what an accepted call gives, or the refusal.
+fn answer(number: u32, value: usize) -> Result<usize, Refusal> {
+    match number {
+        0 => Ok(value),
+        _ => Err(Refusal { number, value: value as u64 }),
+    }
+}
+
+pub fn encode(bytes: &[u8], before: bool, cells: &mut [u8]) -> Result<usize, Refusal> {
+    let mut value = usize::MAX;
+    let number = unsafe {
+        thikbromu_encode(
+            bytes.as_ptr(),
+            bytes.len(),
+            before,
+            cells.as_mut_ptr(),
+            cells.len(),
+            &mut value,
+        )
+    };
+    answer(number, value)
+}
+
+pub fn decode(cells: &[u8], bytes: &mut [u8]) -> Result<usize, Refusal> {
+    let mut value = usize::MAX;
+    let number = unsafe {
+        thikbromu_decode(cells.as_ptr(), cells.len(), bytes.as_mut_ptr(), bytes.len(), &mut value)
+    };
+    answer(number, value)
+}

@@ -1,0 +1,24 @@
+//! Runs the library beside the second program on many inputs, long and short, and compares all that a caller can see.
+//!
+//! The last line is 'N passed, M failed'; the exit status is 1 where something failed.
+
+mod coding;
+mod library;
+mod report;
+mod track_cells;
+
+fn main() {
+    let mut totals = (0, 0);
+    track_cells::reading(&mut totals);
+    track_cells::finding(&mut totals);
+    track_cells::packing(&mut totals);
+    coding::printed(&mut totals);
+    coding::check_words(&mut totals);
+    coding::coding(&mut totals);
+    coding::decoding(&mut totals);
+    coding::round_trip(&mut totals);
+    println!("{} passed, {} failed", totals.0, totals.1);
+    if totals.1 > 0 {
+        std::process::exit(1);
+    }
+}

@@ -1,0 +1,84 @@
+//! Counting what agrees and what differs, and buffers that show a byte written outside.
+
+use std::fmt::Debug;
+
+/// The cases of one group that agreed, and those that did not.
+pub struct Group {
+    name: &'static str,
+    passed: usize,
+    failed: usize,
+}
+
+/// At most so many differences of a group are printed.
+const MOST_PRINTED: usize = 5;
+
+impl Group {
+    pub fn new(name: &'static str) -> Group {
+        Group { name, passed: 0, failed: 0 }
+    }
+
+    /// One case: the library's result, what it should be, and what was given.
+    pub fn same<T: PartialEq + Debug>(&mut self, ours: T, expected: T, given: impl Fn() -> String) {
+        if ours == expected {
+            self.passed += 1;
+            return;
+        }
+        self.failed += 1;
+        if self.failed <= MOST_PRINTED {
+            println!("{}: given {}", self.name, given());
+            println!("    library {}", short(&ours));
+            println!("    expected {}", short(&expected));
+        }
+    }
+
+    /// Prints the group's line and adds it to the totals.
+    pub fn close(self, totals: &mut (usize, usize)) {
+        println!("{}: {} cases, {} differ", self.name, self.passed + self.failed, self.failed);
+        totals.0 += self.passed;
+        totals.1 += self.failed;
+    }
+}
+
+fn short<T: Debug>(value: &T) -> String {
+    let text = format!("{value:02X?}");
+    match text.char_indices().nth(300) {
+        Some((end, _)) => format!("{} ..", &text[..end]),
+        None => text,
+    }
+}
+
+/// A buffer to lend, with bytes around it that no call may touch. All bytes are filled with a pattern first.
+pub struct Lent {
+    all: Vec<u8>,
+    room: usize,
+}
+
+/// The bytes on each side of the lent part.
+const MARGIN: usize = 64;
+
+fn pattern(i: usize) -> u8 {
+    (i.wrapping_mul(73) ^ (i >> 3) ^ 0xA5) as u8
+}
+
+impl Lent {
+    pub fn new(room: usize) -> Lent {
+        Lent { all: (0..room + 2 * MARGIN).map(pattern).collect(), room }
+    }
+
+    /// The part that is lent.
+    pub fn part(&mut self) -> &mut [u8] {
+        &mut self.all[MARGIN..MARGIN + self.room]
+    }
+
+    /// All bytes, the margins with them.
+    pub fn into_bytes(self) -> Vec<u8> {
+        self.all
+    }
+
+    /// All bytes as they should be with `front` written at the start of the lent part and nothing else changed.
+    pub fn expected(room: usize, front: &[u8]) -> Vec<u8> {
+        let mut lent = Lent::new(room);
+        lent.part()[..front.len()].copy_from_slice(front);
+        lent.all
+    }
+}

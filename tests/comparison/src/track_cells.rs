@@ -1,0 +1,116 @@
+//! 01, "Cells and bytes": cells of a circular track, words of cells, the least place of a word, and packing.
+
+use crate::library;
+use crate::report::{Group, Lent};
+use second_program::cells;
+use second_program::random::Random;
+
+fn track(random: &mut Random) -> (Vec<u8>, usize) {
+    let length = random.below(40) as usize;
+    let sparse = random.one_in(2);
+    let bytes: Vec<u8> =
+        (0..length).map(|_| if sparse { random.byte() & random.byte() } else { random.byte() }).collect();
+    // Also fewer and more cells than the bytes hold, and none.
+    let n = match random.below(8) {
+        0 => random.below(4) as usize,
+        1 => 8 * length + random.below(30) as usize,
+        _ => random.below(8 * length as u64 + 1) as usize,
+    };
+    (bytes, n)
+}
+
+/// A place on the track, past its end, or anywhere.
+fn place(random: &mut Random, n: usize) -> usize {
+    match random.below(6) {
+        0 => usize::MAX - random.below(100) as usize,
+        1 => random.next_number() as usize,
+        _ => random.below(3 * n as u64 + 2) as usize,
+    }
+}
+
+fn word_length(random: &mut Random) -> usize {
+    match random.below(12) {
+        0 => 64,
+        1 => 65,
+        2 => random.next_number() as usize,
+        3 => 0,
+        4 => 16,
+        5 => 48,
+        _ => random.below(65) as usize,
+    }
+}
+
+pub fn reading(totals: &mut (usize, usize)) {
+    let mut group = Group::new("cells and words of a track");
+    let mut random = Random::new(5);
+    for _ in 0..20_000 {
+        let (bytes, n) = track(&mut random);
+        let p = place(&mut random, n);
+        let k = word_length(&mut random);
+        let given = || format!("{bytes:02X?}, n {n}, p {p}, k {k}");
+        group.same(library::cell(&bytes, n, p), u64::from(cells::cell(&bytes, n, p)), given);
+        group.same(library::word(&bytes, n, p, k), cells::word(&bytes, n, p, k), given);
+    }
+    group.close(totals);
+}
+
+pub fn finding(totals: &mut (usize, usize)) {
+    let mut group = Group::new("the least place of a word");
+    let mut random = Random::new(6);
+    for _ in 0..20_000 {
+        let (bytes, n) = track(&mut random);
+        let k = if random.one_in(2) { random.below(7) as usize } else { word_length(&mut random) };
+        let aim = place(&mut random, n);
+        // A word of the track, one a bit off it, or any.
+        let x = match random.below(6) {
+            0 => random.next_number(),
+            1 => cells::word(&bytes, n, aim, k) ^ (1 << random.below(64)),
+            _ => cells::word(&bytes, n, aim, k),
+        };
+        let from = place(&mut random, n);
+        let to = match random.below(4) {
+            0 => place(&mut random, n),
+            1 => from.saturating_add(random.below(3) as usize),
+            _ => from.saturating_add(random.below(2 * n as u64 + 3) as usize),
+        };
+        group.same(
+            library::find_word(&bytes, n, x, k, from, to),
+            cells::find_word(&bytes, n, x, k, from, to),
+            || format!("{bytes:02X?}, n {n}, word {x:X} of {k}, from {from} to {to}"),
+        );
+    }
+    group.close(totals);
+}
+
+pub fn packing(totals: &mut (usize, usize)) {
+    let mut group = Group::new("packing cells");
+    let mut random = Random::new(7);
+    for _ in 0..4_000 {
+        let count = random.below(200) as usize;
+        let list: Vec<u8> = (0..count).map(|_| u8::from(random.one_in(3))).collect();
+        let packed = cells::pack(&list);
+        let room = packed.len() + random.below(4) as usize;
+        let mut lent = Lent::new(room);
+        library::clear(lent.part(), packed.len());
+        for (i, &one) in list.iter().enumerate() {
+            if one == 1 {
+                library::put_one(lent.part(), i);
+                // A one that is put twice stays.
+                library::put_one(lent.part(), i);
+            }
+        }
+        // Places that the buffer does not have change nothing.
+        library::put_one(lent.part(), 8 * room);
+        library::put_one(lent.part(), usize::MAX);
+        group.same(lent.into_bytes(), Lent::expected(room, &packed), || format!("cells {list:?}, room {room}"));
+    }
+    for room in 0..20 {
+        for k in [0, 1, 7, 19, 20, 21, usize::MAX] {
+            let mut lent = Lent::new(room);
+            library::clear(lent.part(), k);
+            let zeros = vec![0; k.min(room)];
+            group.same(lent.into_bytes(), Lent::expected(room, &zeros), || format!("clear {k} of {room}"));
+        }
+    }
+    group.close(totals);
+}

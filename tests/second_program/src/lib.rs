@@ -1,0 +1,11 @@
+//! The second program: the rules of the scope paper (01) in plain Rust.
+//!
+//! It is written from the text of 01 alone, for comparison with the library.
+//! Each module is one section of 01 and names the rules that it follows;
+//! `random` serves to make the inputs of the comparison.
+
+pub mod cells;
+pub mod check_word;
+pub mod mfm;
+pub mod random;
+pub mod refusal;
