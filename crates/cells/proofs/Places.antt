@@ -1,15 +1,15 @@
 -- Laws of cells and of places round a track. Assumes nothing.
-use Prim.Native.Nat.{ℕ, zero, suc, _+_, _-_, _*_, _/_, _%_, _^_, _<_, _≤_}
+use Prim.Native.Nat.{ℕ, _+_, _-_, _*_, _/_, _%_, _^_, _<_, _≤_}
 use mathlib.Core.Path.{_≡_, refl, sym, ap, _∙_}
 use mathlib.Core.Bool.{Bool, true, false, cond}
 use mathlib.Core.List.{List}
-use native.Mathlib.Nat.{mod-self, mod-eq-of-lt, mod-add-mod, add-mod-right, zero-div, one-mul}
+use native.Mathlib.Nat.{mod-eq-of-lt, mod-add-mod, add-mod-right, zero-div, one-mul}
 use native.Mathlib.Omega.{arith}
 use borrow.Author.Tests.{lt-ltb}
 use lib.Dec.{ltb}
 use lib.Pow.{pow-lt}
-use lib.ListN.{length, getD, List·getD-eq-default}
-use Rattle.cells.specs.CellsAndBytes.{bitOf, cellAt, cell}
+use lib.ListN.{length, List·getD-eq-default}
+use Rattle.cells.specs.CellsAndBytes.{cellAt, cell}
 
 pub cellAt-lt : (bytes : List ℕ) (i : ℕ) → cellAt bytes i < 2
 unfolding cellAt

@@ -1,15 +1,14 @@
 -- Laws of words of cells: of any cells f that are 0 or 1, and of a word that is carried along a track. Assumes nothing.
 use Prim.Native.Nat.{ℕ, zero, suc, _+_, _-_, _*_, _/_, _%_, _^_, _<_, _≤_}
 use mathlib.Core.Path.{_≡_, refl, sym, ap, _∙_}
-use mathlib.Core.Bool.{Bool, true, false, cond, _&&_}
 use mathlib.Core.List.{List}
-use native.Mathlib.Nat.{mod-add-mod, mod-eq-of-lt, add-mul-mod-self-right, add-mod, mod-lt, div-add-mod', mul-assoc, add-zero, add-suc, lt-of-lt-of-le}
+use native.Mathlib.Nat.{mod-eq-of-lt, add-mul-mod-self-right, div-add-mod', mul-assoc, add-zero, add-suc, lt-of-lt-of-le}
 use native.Mathlib.Numerals.{add-one}
 use native.Mathlib.Omega.{arith}
 use lib.Pow.{pow-add, pow-mono, pow-pos, low, high, ones-split, ones-lt, mod-mod-pow}
 use lib.Bits.{bitAnd, and-mask}
 use Rattle.cells.specs.CellsAndBytes.{cell, word}
-use Rattle.cells.proofs.Places.{cell-lt, cell-none}
+use Rattle.cells.proofs.Places.{cell-none}
 
 pub word-none : (bytes : List ℕ) (k p : ℕ) → word (cell bytes 0) k p ≡ 0
 unfolding word

@@ -1,9 +1,9 @@
 -- The check word's step is linear over exclusive or, so a byte goes in by one look-up in a table of 256.
 -- Assumes nothing.
-use Prim.Native.Nat.{ℕ, zero, suc, _+_, _-_, _*_, _/_, _%_, _^_, _<_, _≤_}
-use mathlib.Core.Path.{_≡_, refl, sym, ap, ap₂, _∙_}
+use Prim.Native.Nat.{ℕ, zero, suc, _+_, _-_, _*_, _/_, _%_, _^_, _<_}
+use mathlib.Core.Path.{_≡_, refl, sym, ap, _∙_}
 use mathlib.Core.Bool.{Bool, true, false, cond}
-use native.Mathlib.Nat.{zero-div, div-eq-of-lt, mod-eq-of-lt, mod-lt, mul-assoc, mul-comm, mul-one, mul-le-mul-left, mul-lt-mul-of-pos-right, mul-mod-left, add-zero, lt-of-le-of-lt, add-mul, mod-one, zero-mul}
+use native.Mathlib.Nat.{zero-div, div-eq-of-lt, mod-eq-of-lt, mod-lt, mul-assoc, mul-comm, mul-one, mul-le-mul-left, mul-lt-mul-of-pos-right, mul-mod-left, add-zero, add-mul, mod-one, zero-mul}
 use native.Mathlib.Numerals.{add-one, one-add}
 use native.Mathlib.Omega.{arith}
 use lib.Dec.{eqb}

@@ -1,6 +1,6 @@
 -- The judgement of a call, where it refuses and where it does not. Assumes nothing.
 use Prim.Native.Nat.{ℕ, _<_, _≤_}
-use mathlib.Core.Path.{_≡_, refl, ap, _∙_}
+use mathlib.Core.Path.{_≡_, ap, _∙_}
 use mathlib.Core.List.{List}
 use borrow.Author.Tests.{lt-ltb, le-ltb}
 use Rattle.refusals.specs.RefusedCalls.{Answer, bufferAfter}

@@ -1,13 +1,13 @@
 -- Decoding what was coded gives the bytes: of the definitions, and so of the two calls. Assumes nothing.
-use Prim.Native.Nat.{ℕ, _+_, _*_, _/_, _%_, _<_, _≤_}
-use mathlib.Core.Path.{_≡_, refl, sym, ap, _∙_}
-use mathlib.Core.List.{List, [], _∷_, _++_}
+use Prim.Native.Nat.{ℕ, _+_, _*_, _/_, _<_}
+use mathlib.Core.Path.{_≡_, _∙_}
+use mathlib.Core.List.{List}
 use native.Mathlib.Omega.{arith}
 use lib.ListN.{length, getD, take}
 use lib.Seq.{ext-getD, take-at}
-use Rattle.basis.specs.Lists.{listed, writtenOver}
+use Rattle.basis.specs.Lists.{writtenOver}
 use Rattle.basis.proofs.Lists.{length-listed, getD-listed}
-use Rattle.cells.specs.CellsAndBytes.{bitOf, cellAt, word, packed}
+use Rattle.cells.specs.CellsAndBytes.{bitOf, cellAt, packed}
 use Rattle.cells.proofs.Packing.{length-packed, cell-packed, word-bits}
 use Rattle.cells.proofs.Words.{word-same}
 use Rattle.mfm.specs.Coding.{dataBits, cellsOf, encoded, dataCell, byteOn, decodedByte, decoded}

@@ -3,7 +3,6 @@
 // A routine that 01 refuses some calls of returns a number: 0 where the call is accepted, else the refusal's number in
 // 01's table. What the call gives, or what the refusal gives also, is stored at `value`.
 use mfm::Written;
-
 ghost use mathlib.Core.Path.{_≡_};
 ghost use mathlib.Core.Bool.{cond};
 ghost use Rattle.cells.specs.CellsAndBytes.{cell, wordAt, leastPlace, cleared, withOne};
@@ -29,7 +28,14 @@ pub extern "C" fn thikbromu_word(bytes: &[u8], n: usize, p: usize, k: usize) -> 
 
 // The least place from `from` and before `to` at which the word x of k cells stands; the range's end where there is none.
 #[no_mangle]
-pub extern "C" fn thikbromu_find_word(bytes: &[u8], n: usize, x: u64, k: usize, from: usize, to: usize) -> usize
+pub extern "C" fn thikbromu_find_word(
+    bytes: &[u8],
+    n: usize,
+    x: u64,
+    k: usize,
+    from: usize,
+    to: usize,
+) -> usize
     ensures { λ r. ⌜ r ≡ leastPlace (now (bytes .entry)) n k x from to ⌝ }
 {
     cells::find_word(bytes, n, x, k, from, to)
@@ -85,7 +91,12 @@ fn told(written: Written, value: &mut usize) -> u32
 
 // Coding; `value` is the bytes of cells written.
 #[no_mangle]
-pub extern "C" fn thikbromu_encode(bytes: &[u8], before: bool, cells: &mut [u8], value: &mut usize) -> u32
+pub extern "C" fn thikbromu_encode(
+    bytes: &[u8],
+    before: bool,
+    cells: &mut [u8],
+    value: &mut usize,
+) -> u32
     ensures number { λ r. ⌜ r ≡ numberIn (coding (now (bytes .entry)) (now (cells .entry))) ⌝ }
     ensures value { λ _. ⌜ now (value .exit) ≡ valueIn (coding (now (bytes .entry)) (now (cells .entry))) ⌝ }
     ensures buffer { λ _. ⌜ now (cells .exit) ≡ cellsAfter (cond before 1 0) (now (bytes .entry)) (now (cells .entry)) ⌝ }

@@ -1,6 +1,6 @@
 -- `cells::clear` meets its contract: after i turns the buffer is i zeros and then what it was. Assumes nothing.
-use Prim.Native.Nat.{ℕ, _+_, _-_, _≤_, _<_, min}
-use mathlib.Core.Path.{_≡_, refl, sym, ap, _∙_}
+use Prim.Native.Nat.{ℕ, _+_, _-_, _≤_, _<_}
+use mathlib.Core.Path.{_≡_, refl, ap, _∙_}
 use mathlib.Core.List.{List, _++_}
 use native.Mathlib.Omega.{arith}
 use borrow.Author.Fill.{fill-none, fill-more}
@@ -32,7 +32,7 @@ loop-less : tie.Need-loop-less Inv-loop μ-loop
 loop-less c = search needs
 
 loop-again : tie.Need-loop-again Inv-loop μ-loop
-loop-again c = 
+loop-again c =
     let l = c .before .loop in
     let b = c .before .before .before .before .args .bytes .now in
     let h : l .i < length b = omega (arith, c .before .before .smaller .ensures .1) in
@@ -43,7 +43,7 @@ same-length c = c .before .loop .inv .1
 
 returns : tie.Need-returns Inv-loop μ-loop
 unfolding cleared
-returns c = 
+returns c =
     let l = c .before .loop in
     let b = c .before .before .before .before .args .bytes .now in
     let m = c .before .before .smaller .ensures .0 in

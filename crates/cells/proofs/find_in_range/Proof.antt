@@ -41,7 +41,7 @@ place-after-requires : tie.Need-place-after-requires Inv-loop μ-loop
 place-after-requires c κs = search needs
 
 loop-holds : tie.Need-loop-holds Inv-loop μ-loop
-loop-holds c = 
+loop-holds c =
     let s = c .before .before .before in
     let a = s .args in
     record {
@@ -54,7 +54,7 @@ loop-holds c =
     }
 
 returns : tie.Need-returns Inv-loop μ-loop
-returns c = 
+returns c =
     let l = c .before .before in
     let s = l .before .before .before .before in
     let a = s .args in
@@ -78,7 +78,7 @@ loop-less : tie.Need-loop-less Inv-loop μ-loop
 loop-less c = search needs
 
 loop-again : tie.Need-loop-again Inv-loop μ-loop
-loop-again c = 
+loop-again c =
     let l = c .before .before .before .before .before in
     let s = l .before .before .before .before in
     let a = s .args in
@@ -97,7 +97,7 @@ loop-again c =
     }
 
 returns-2 : tie.Need-returns-2 Inv-loop μ-loop
-returns-2 c = 
+returns-2 c =
     let l = c .before in
     let inv = l .loop .inv in
     let e : l .before .before .before .before .args .to ≡ l .loop .p = omega (arith, inv .before) in

@@ -1,6 +1,6 @@
 -- `cells::find_in_turn` meets its contract: a turn without the word shows that it stands nowhere. Assumes nothing.
-use Prim.Native.Nat.{ℕ, _+_, _-_, _≤_, _<_}
-use mathlib.Core.Path.{_≡_, refl, sym, ap, _∙_}
+use Prim.Native.Nat.{ℕ, _+_, _-_}
+use mathlib.Core.Path.{_≡_, sym, ap, _∙_}
 use native.Mathlib.Omega.{arith}
 use Rattle.basis.specs.Search.{least}
 use Rattle.basis.proofs.Search.{least-longer, least-turn}
@@ -29,14 +29,14 @@ find-in-range-requires-2 : tie.Need-find-in-range-requires-2
 find-in-range-requires-2 c κs = search needs
 
 returns-2 : tie.Need-returns-2
-returns-2 c = 
+returns-2 c =
     let a = c .before .before .before .before .args in
     let h = c .if2 .taken in
     let r = c .before .find-in-range2 .ensures ∙ ap (λ (m : ℕ). least (stands (a .bytes .now) (a .n) (a .k) (a .x)) m (a .from)) (turn-is (a .from) (a .n)) in
     r ∙ sym (least-longer (stands (a .bytes .now) (a .n) (a .k) (a .x)) (a .n) (a .to - a .from) (a .from) (omega arith) (omega (arith, sym r)))
 
 returns-3 : tie.Need-returns-3
-returns-3 c = 
+returns-3 c =
     let a = c .before .before .before .before .args in
     let s = c .before .before .before .before in
     let h = c .if2 .left in

@@ -15,7 +15,7 @@ find-among-zeros-requires : tie.Need-find-among-zeros-requires
 find-among-zeros-requires c κs = search needs
 
 returns-2 : tie.Need-returns-2
-returns-2 c = 
+returns-2 c =
     let a = c .before .before .before .before .args in
     c .find-among-zeros .ensures
     ∙ least-among-zeros (a .bytes .now) (a .n) (a .k) (a .x) (a .from) (a .to) (λ p. word-without-cells (a .bytes .now) (a .n) (a .k) (a .x) p (c .before .if2 .taken)) (c .before .before .if1 .left)
@@ -27,7 +27,7 @@ find-among-zeros-requires-2 : tie.Need-find-among-zeros-requires-2
 find-among-zeros-requires-2 c κs = search needs
 
 returns-3 : tie.Need-returns-3
-returns-3 c = 
+returns-3 c =
     let a = c .before .before .before .before .before .before .args in
     c .find-among-zeros2 .ensures
     ∙ least-among-zeros (a .bytes .now) (a .n) (a .k) (a .x) (a .from) (a .to) (λ p. word-of-no-cells (a .bytes .now) (a .n) (a .k) (a .x) p (sym (c .before .before .smaller .ensures .0) ∙ c .before .if3 .taken)) (c .before .before .before .before .if1 .left)
@@ -36,7 +36,7 @@ find-in-turn-requires : tie.Need-find-in-turn-requires
 find-in-turn-requires c κs = search needs
 
 returns-4 : tie.Need-returns-4
-returns-4 c = 
+returns-4 c =
     let a = c .before .before .before .before .before .before .args in
     c .find-in-turn .ensures ∙ ap (λ (k : ℕ). leastPlace (a .bytes .now) (a .n) k (a .x) (a .from) (a .to)) (c .before .before .smaller .ensures .0) ∙ least-capped (a .bytes .now) (a .n) (a .k) (a .x) (a .from) (a .to)
 

@@ -1,5 +1,4 @@
 -- `cells::place_after` meets its contract. Assumes nothing.
-use Prim.Native.Nat.{_%_, _≤_}
 use native.Mathlib.Nat.{mod-lt}
 use native.Mathlib.Omega.{arith}
 use Rattle.cells.proofs.Places.{after-low, after-round}

@@ -1,5 +1,5 @@
 -- `cells::put_one` meets its contract. Assumes nothing.
-use mathlib.Core.Path.{refl, sym}
+use mathlib.Core.Path.{sym}
 use lib.Seq.{set-out}
 use Rattle.cells.specs.CellsAndBytes.{withOne}
 use Rattle.cells.proofs.Places.{weight-fits}

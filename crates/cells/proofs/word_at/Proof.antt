@@ -11,7 +11,7 @@ use Rattle.cells.proofs.word_at.Statement.{statement}
 use Rattle.cells.proofs.word_at.Tie as tie
 
 returns : tie.Need-returns
-returns c = 
+returns c =
     let a = c .before .before .args in
     sym (word-without-cells (a .bytes .now) (a .n) (a .k) 0 (a .p) (c .if1 .taken))
 
@@ -23,7 +23,7 @@ cells-from-requires c κs = search needs
 
 returns-2 : tie.Need-returns-2
 unfolding wordAt
-returns-2 c = 
+returns-2 c =
     let a = c .before .before .before .before .args in
     c .cells-from .ensures ∙ ap (λ (k : ℕ). word (cell (a .bytes .now) (a .n)) k (a .p) % 2 ^ 64) (c .before .smaller .ensures .0)
     ∙ small (cell (a .bytes .now) (a .n)) (cell-lt (a .bytes .now) (a .n)) (min (a .k) 64) (min-le-right (a .k) 64) (a .p)

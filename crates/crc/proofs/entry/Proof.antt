@@ -1,5 +1,5 @@
 -- `crc::entry` meets its contract: the table is the list that its rule gives, by one computation. Assumes nothing.
-use Prim.Native.Nat.{ℕ, _*_, _<_}
+use Prim.Native.Nat.{ℕ, _*_}
 use mathlib.Core.Path.{_≡_, refl}
 use mathlib.Core.List.{List, [], _∷_}
 use Rattle.basis.specs.Lists.{listed}

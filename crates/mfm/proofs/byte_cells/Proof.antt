@@ -1,9 +1,8 @@
 -- `mfm::byte_cells` meets its contract: what is left of the bits takes the cells so far to the sixteen. Assumes nothing.
-use Prim.Native.Nat.{ℕ, _+_, _-_, _*_, _/_, _%_, _^_, _≤_, _<_}
-use mathlib.Core.Path.{_≡_, refl, sym, ap, _∙_}
+use Prim.Native.Nat.{_-_, _*_, _/_, _%_, _^_, _≤_, _<_}
+use mathlib.Core.Path.{_≡_, sym, _∙_}
 use mathlib.Core.Bool.{cond}
 use native.Mathlib.Omega.{arith}
-use Rattle.mfm.specs.Coding.{byteCells}
 use Rattle.mfm.proofs.Cells.{bit-lt, cast-is}
 use Rattle.mfm.proofs.Coder.{cellsFrom, bits-down, room, room-more, by-bits}
 use borrow.Author.Needs.{needs}
@@ -20,7 +19,7 @@ cast-last : tie.Need-cast-last Inv-loop μ-loop
 cast-last c = search needs
 
 loop-holds : tie.Need-loop-holds Inv-loop μ-loop
-loop-holds c = 
+loop-holds c =
     let a = c .args in
     (search needs, rw (cast-is (a .before)) (bit-lt (a .before)), search needs, rw (cast-is (a .before)))
 
@@ -34,7 +33,7 @@ cast-bit : tie.Need-cast-bit Inv-loop μ-loop
 cast-bit c = search needs
 
 mul-cells : tie.Need-mul-cells Inv-loop μ-loop
-mul-cells c = 
+mul-cells c =
     let l = c .before .loop in
     omega (arith, room (l .k) (l .cells) (c .loop-test .taken) (l .inv .0) (l .inv .2))
 
@@ -45,12 +44,12 @@ mul-cells-2 : tie.Need-mul-cells-2 Inv-loop μ-loop
 mul-cells-2 c = search needs
 
 add-cells : tie.Need-add-cells Inv-loop μ-loop
-add-cells c = 
+add-cells c =
     let l = c .before .before .loop in
     omega (arith, room (l .k) (l .cells) (c .before .loop-test .taken) (l .inv .0) (l .inv .2))
 
 add-cells-2 : tie.Need-add-cells-2 Inv-loop μ-loop
-add-cells-2 c = 
+add-cells-2 c =
     let l = c .before .before .loop in
     omega (arith, room (l .k) (l .cells) (c .before .loop-test .taken) (l .inv .0) (l .inv .2))
 
@@ -58,7 +57,7 @@ loop-less : tie.Need-loop-less Inv-loop μ-loop
 loop-less c = search needs
 
 loop-again : tie.Need-loop-again Inv-loop μ-loop
-loop-again c = 
+loop-again c =
     let l = c .before .before .loop in
     let byte = c .before .before .before .args .byte in
     let h = c .before .loop-test .taken in (
@@ -70,7 +69,7 @@ loop-again c =
 
 returns : tie.Need-returns Inv-loop μ-loop
 unfolding cellsFrom
-returns c = 
+returns c =
     let l = c .before .loop in
     let a = c .before .before .args in
     let z : l .k ≡ 0 = omega arith in

@@ -1,9 +1,9 @@
 -- `mfm::write_bytes` meets its contract: after i turns the first i bytes are decoded, and the rest is as it was. Assumes nothing.
 use Prim.Native.Nat.{ℕ, _+_, _-_, _*_, _/_, _≤_, _<_}
-use mathlib.Core.Path.{_≡_, refl, sym, ap, ap₂, _∙_}
-use mathlib.Core.List.{List, _++_}
+use mathlib.Core.Path.{_≡_, refl, ap₂, _∙_}
+use mathlib.Core.List.{_++_}
 use native.Mathlib.Omega.{arith}
-use lib.ListN.{length, set, drop, length-set}
+use lib.ListN.{length, drop, length-set}
 use Rattle.basis.specs.Lists.{listed}
 use Rattle.basis.proofs.Lists.{listed-more}
 use Rattle.mfm.specs.Coding.{decodedByte, decoded}
@@ -60,7 +60,7 @@ loop-less : tie.Need-loop-less Inv-loop μ-loop
 loop-less c = search needs
 
 loop-again : tie.Need-loop-again Inv-loop μ-loop
-loop-again c = 
+loop-again c =
     let l = c .before .before .before .before .before in
     let a = l .before .before .before .args in
     let inv = l .loop .inv in
@@ -73,7 +73,7 @@ same-length c = c .before .loop .inv .1
 
 returns : tie.Need-returns Inv-loop μ-loop
 unfolding decoded
-returns c = 
+returns c =
     let l = c .before .loop in
     let a = c .before .before .before .before .args in
     let e : l .i ≡ length (a .cells .now) / 2 = omega arith in

@@ -15,7 +15,7 @@ same-length : tie.Need-same-length
 same-length c = search needs
 
 returns : tie.Need-returns
-returns c = 
+returns c =
     let d = c .before .before .before .before .decode .ensures in
     (c .told .ensures .0 ∙ ap numberIn (d .0), (c .told .ensures .1 ∙ ap valueIn (d .0), d .1))
 
