@@ -39,7 +39,8 @@ wordAt bytes n p k = word (cell bytes n) (min k 64) p
 unfoldable pub stands : List ℕ → ℕ → ℕ → ℕ → ℕ → Bool
 stands bytes n k x p = eqb (wordAt bytes n p k) x
 
--- the least place from `from` and before `to`, counted on past n, at which the word x of k cells stands; the range's end where there is none
+-- the least place from `from` and before `to`, counted on past n, at which the word x of k cells stands. Where there
+-- is none, the greater of the two
 abbrev pub leastPlace : List ℕ → ℕ → ℕ → ℕ → ℕ → ℕ → ℕ
 leastPlace bytes n k x from to = least (stands bytes n k x) (to - from) from
 
@@ -63,6 +64,6 @@ packed cells = listed (packedByte cells) (bytesFor (length cells))
 unfoldable pub cleared : ℕ → List ℕ → List ℕ
 cleared k bytes = writtenOver (replicate (min k (length bytes)) 0) bytes
 
--- a buffer with a one put at cell p, where it has such a cell
+-- a buffer with a one put at cell p, where it has such a cell; all other cells are kept (`cell-with-one`, in proofs/Ones)
 unfoldable pub withOne : List ℕ → ℕ → List ℕ
 withOne bytes p = set bytes (p / 8) (bitOr (getD bytes (p / 8) 0) (2 ^ (7 - p % 8)))

@@ -31,55 +31,6 @@ pub fn cell_on(bytes: &[u8], n: usize, p: usize) -> u64
     cell_at(bytes, p % n)
 }
 
-// The place after `at`, round a track of n cells.
-fn next_place(at: usize, n: usize) -> usize
-    requires { ⌜ at < n ⌝ }
-    ensures { λ r. ⌜ r ≡ (at + 1) % n ⌝ }
-{
-    if at + 1 == n { 0 } else { at + 1 }
-}
-
-// The place k after `from`, round a track of n cells.
-fn place_after(from: usize, k: usize, n: usize) -> usize
-    requires { ⌜ 0 < n ⌝ }
-    ensures { λ r. ⌜ r ≡ (from + k) % n ⌝ }
-{
-    let at = from % n;
-    let left = n - at;
-    if k < left { at + k } else { (k - left) % n }
-}
-
-// The cells so far, of which only the last 64 are kept, and one more.
-fn append(cells: u64, cell: u64) -> u64
-    requires { ⌜ cell < 2 ⌝ }
-    ensures { λ r. ⌜ r ≡ (cells * 2 + cell) % 2 ^ 64 ⌝ }
-{
-    (cells % 0x8000_0000_0000_0000) * 2 + cell
-}
-
-// The smaller of two numbers.
-fn smaller(a: usize, b: usize) -> usize
-    ensures { λ r. ⌜ (r ≡ min a b) × (r ≤ b) ⌝ }
-{
-    if a < b { a } else { b }
-}
-
-// The last 64 of the k cells from p.
-fn cells_from(bytes: &[u8], n: usize, p: usize, k: usize) -> u64
-    requires { ⌜ 0 < n ⌝ }
-    ensures { λ r. ⌜ r ≡ word (cell (now (bytes .entry)) n) k p % 2 ^ 64 ⌝ }
-{
-    let mut cells: u64 = 0;
-    let mut at = p % n;
-    let mut i: usize = 0;
-    while i < k {
-        cells = append(cells, cell_at(bytes, at));
-        at = next_place(at, n);
-        i += 1;
-    }
-    cells
-}
-
 // The word of k cells from p, the first its highest bit; a k above 64 counts as 64.
 pub fn word_at(bytes: &[u8], n: usize, p: usize, k: usize) -> u64
     ensures { λ r. ⌜ r ≡ wordAt (now (bytes .entry)) n p k ⌝ }
@@ -90,48 +41,8 @@ pub fn word_at(bytes: &[u8], n: usize, p: usize, k: usize) -> u64
     cells_from(bytes, n, p, smaller(k, 64))
 }
 
-// The search of find_word, of a word of 1 to 64 cells. The last cells are carried along: each place costs one cell more.
-fn find_in_range(bytes: &[u8], n: usize, x: u64, k: usize, from: usize, to: usize) -> usize
-    requires { ⌜ (0 < n) × (1 ≤ k) × (k ≤ 64) × (from ≤ to) ⌝ }
-    ensures { λ r. ⌜ r ≡ leastPlace (now (bytes .entry)) n k x from to ⌝ }
-{
-    let mask = 0xFFFF_FFFF_FFFF_FFFF >> (64 - k);
-    let mut cells = cells_from(bytes, n, from, k);
-    let mut at = place_after(from, k, n);
-    let mut p = from;
-    while p < to {
-        if cells & mask == x {
-            return p;
-        }
-        cells = append(cells, cell_at(bytes, at));
-        at = next_place(at, n);
-        p += 1;
-    }
-    to
-}
-
-// As find_in_range, in at most one turn of the track: after n places the words come again.
-fn find_in_turn(bytes: &[u8], n: usize, x: u64, k: usize, from: usize, to: usize) -> usize
-    requires { ⌜ (0 < n) × (1 ≤ k) × (k ≤ 64) × (from ≤ to) ⌝ }
-    ensures { λ r. ⌜ r ≡ leastPlace (now (bytes .entry)) n k x from to ⌝ }
-{
-    if to - from <= n {
-        return find_in_range(bytes, n, x, k, from, to);
-    }
-    let turn = from + n;
-    let p = find_in_range(bytes, n, x, k, from, turn);
-    if p < turn { p } else { to }
-}
-
-// As find_in_range, where every word is 0: on a track without cells, or of a word without cells.
-fn find_among_zeros(x: u64, from: usize, to: usize) -> usize
-    ensures { λ r. ⌜ r ≡ cond (eqb x 0) from to ⌝ }
-{
-    if x == 0 { from } else { to }
-}
-
-// The least place from `from` and before `to`, counted on past n, at which the word x of k cells stands; the end of the
-// range where there is none.
+// The least place from `from` and before `to`, counted on past n, at which the word x of k cells stands. Where there is
+// none, the greater of the two.
 pub fn find_word(bytes: &[u8], n: usize, x: u64, k: usize, from: usize, to: usize) -> usize
     ensures { λ r. ⌜ r ≡ leastPlace (now (bytes .entry)) n k x from to ⌝ }
 {
@@ -168,4 +79,93 @@ pub fn put_one(bytes: &mut [u8], p: usize)
     if k < bytes.len() {
         bytes[k] = bytes[k] | (1 << (7 - p % 8));
     }
+}
+
+// As find_in_range, in at most one turn of the track: after n places the words come again.
+fn find_in_turn(bytes: &[u8], n: usize, x: u64, k: usize, from: usize, to: usize) -> usize
+    requires { ⌜ (0 < n) × (1 ≤ k) × (k ≤ 64) × (from ≤ to) ⌝ }
+    ensures { λ r. ⌜ r ≡ leastPlace (now (bytes .entry)) n k x from to ⌝ }
+{
+    if to - from <= n {
+        return find_in_range(bytes, n, x, k, from, to);
+    }
+    let turn = from + n;
+    let p = find_in_range(bytes, n, x, k, from, turn);
+    if p < turn { p } else { to }
+}
+
+// The search of find_word, of a word of 1 to 64 cells. The last cells are carried along: each place costs one cell more.
+fn find_in_range(bytes: &[u8], n: usize, x: u64, k: usize, from: usize, to: usize) -> usize
+    requires { ⌜ (0 < n) × (1 ≤ k) × (k ≤ 64) × (from ≤ to) ⌝ }
+    ensures { λ r. ⌜ r ≡ leastPlace (now (bytes .entry)) n k x from to ⌝ }
+{
+    let mask = 0xFFFF_FFFF_FFFF_FFFF >> (64 - k);
+    let mut cells = cells_from(bytes, n, from, k);
+    let mut at = place_after(from, k, n);
+    let mut p = from;
+    while p < to {
+        if cells & mask == x {
+            return p;
+        }
+        cells = append(cells, cell_at(bytes, at));
+        at = next_place(at, n);
+        p += 1;
+    }
+    to
+}
+
+// As find_in_range, where every word is 0: on a track without cells, or of a word without cells.
+fn find_among_zeros(x: u64, from: usize, to: usize) -> usize
+    ensures { λ r. ⌜ r ≡ cond (eqb x 0) from to ⌝ }
+{
+    if x == 0 { from } else { to }
+}
+
+// The last 64 of the k cells from p.
+fn cells_from(bytes: &[u8], n: usize, p: usize, k: usize) -> u64
+    requires { ⌜ 0 < n ⌝ }
+    ensures { λ r. ⌜ r ≡ word (cell (now (bytes .entry)) n) k p % 2 ^ 64 ⌝ }
+{
+    let mut cells: u64 = 0;
+    let mut at = p % n;
+    let mut i: usize = 0;
+    while i < k {
+        cells = append(cells, cell_at(bytes, at));
+        at = next_place(at, n);
+        i += 1;
+    }
+    cells
+}
+
+// The cells so far, of which only the last 64 are kept, and one more.
+fn append(cells: u64, cell: u64) -> u64
+    requires { ⌜ cell < 2 ⌝ }
+    ensures { λ r. ⌜ r ≡ (cells * 2 + cell) % 2 ^ 64 ⌝ }
+{
+    (cells % 0x8000_0000_0000_0000) * 2 + cell
+}
+
+// The place after `at`, round a track of n cells.
+fn next_place(at: usize, n: usize) -> usize
+    requires { ⌜ at < n ⌝ }
+    ensures { λ r. ⌜ r ≡ (at + 1) % n ⌝ }
+{
+    if at + 1 == n { 0 } else { at + 1 }
+}
+
+// The place k after `from`, round a track of n cells.
+fn place_after(from: usize, k: usize, n: usize) -> usize
+    requires { ⌜ 0 < n ⌝ }
+    ensures { λ r. ⌜ r ≡ (from + k) % n ⌝ }
+{
+    let at = from % n;
+    let left = n - at;
+    if k < left { at + k } else { (k - left) % n }
+}
+
+// The smaller of two numbers.
+fn smaller(a: usize, b: usize) -> usize
+    ensures { λ r. ⌜ (r ≡ min a b) × (r ≤ b) ⌝ }
+{
+    if a < b { a } else { b }
 }

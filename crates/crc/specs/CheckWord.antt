@@ -1,4 +1,5 @@
 -- 01, "Cells and bytes": "Check word: 16 bits, polynomial 1021 (hexadecimal), start FFFF, highest bit first."
+-- The code goes a byte at a time by a table, which is the list of what eight zero bits do to a high byte (`all`, in proofs/entry).
 -- Assumes nothing.
 use Prim.Native.Nat.{ℕ, zero, suc, _*_, _/_, _%_, _^_}
 use mathlib.Core.Bool.{cond}

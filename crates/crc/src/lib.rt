@@ -6,6 +6,48 @@ ghost use Rattle.crc.specs.CheckWord.{afterBits, afterByte, checkWordFro
 // What a check word starts from.
 pub const START: u16 = 0xFFFF;
 
+// The check word of bytes.
+pub fn check_word(bytes: &[u8]) -> u16
+    ensures { λ r. ⌜ r ≡ checkWord (now (bytes .entry)) ⌝ }
+{
+    check_word_from(START, bytes)
+}
+
+// The check word after bytes, from a word that earlier bytes left.
+pub fn check_word_from(word: u16, bytes: &[u8]) -> u16
+    ensures { λ r. ⌜ r ≡ checkWordFrom word (now (bytes .entry)) ⌝ }
+{
+    let mut so_far = word;
+    let mut i: usize = 0;
+    while i < bytes.len() {
+        so_far = step(so_far, bytes[i]);
+        i += 1;
+    }
+    so_far
+}
+
+// The check word after one byte more.
+pub fn step(word: u16, byte: u8) -> u16
+    ensures { λ r. ⌜ r ≡ afterByte word byte ⌝ }
+{
+    let high = (word / 256) ^ wide(byte);
+    entry(high) ^ ((word % 256) * 256)
+}
+
+// The table's entry of a high byte.
+fn entry(high: u16) -> u16
+    requires { ⌜ high < 256 ⌝ }
+    ensures { λ r. ⌜ r ≡ afterBits 8 (high * 256) 0 ⌝ }
+{
+    STEPS[high as usize]
+}
+
+fn wide(byte: u8) -> u16
+    ensures { λ r. ⌜ (r ≡ byte) × (r < 256) ⌝ }
+{
+    byte as u16
+}
+
 // Entry i: the check word i00 (hexadecimal) after eight zero bits.
 const STEPS: [u16; 256] = [
     0x0000,
@@ -265,45 +307,3 @@ const STEPS: [u16; 256] = [
     0x0ED1,
     0x1EF0,
 ];
-
-// The table's entry of a high byte.
-fn entry(high: u16) -> u16
-    requires { ⌜ high < 256 ⌝ }
-    ensures { λ r. ⌜ r ≡ afterBits 8 (high * 256) 0 ⌝ }
-{
-    STEPS[high as usize]
-}
-
-fn wide(byte: u8) -> u16
-    ensures { λ r. ⌜ (r ≡ byte) × (r < 256) ⌝ }
-{
-    byte as u16
-}
-
-// The check word after one byte more.
-pub fn step(word: u16, byte: u8) -> u16
-    ensures { λ r. ⌜ r ≡ afterByte word byte ⌝ }
-{
-    let high = (word / 256) ^ wide(byte);
-    entry(high) ^ ((word % 256) * 256)
-}
-
-// The check word after bytes, from a word that earlier bytes left.
-pub fn check_word_from(word: u16, bytes: &[u8]) -> u16
-    ensures { λ r. ⌜ r ≡ checkWordFrom word (now (bytes .entry)) ⌝ }
-{
-    let mut so_far = word;
-    let mut i: usize = 0;
-    while i < bytes.len() {
-        so_far = step(so_far, bytes[i]);
-        i += 1;
-    }
-    so_far
-}
-
-// The check word of bytes.
-pub fn check_word(bytes: &[u8]) -> u16
-    ensures { λ r. ⌜ r ≡ checkWord (now (bytes .entry)) ⌝ }
-{
-    check_word_from(START, bytes)
-}

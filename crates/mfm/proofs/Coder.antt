@@ -62,23 +62,23 @@ module _ (before byte : ℕ) where
   abbrev ofByte : List ℕ
   ofByte = cellsOf before (listed (bitOf byte) 8)
 
-  are : (i : ℕ) → getD ofByte i 0 < 2
-  are = cells-are before (listed (bitOf byte) 8) (of-byte byte)
+  cells-of-byte : (i : ℕ) → getD ofByte i 0 < 2
+  cells-of-byte = cells-are before (listed (bitOf byte) 8) (of-byte byte)
 
-  long : length ofByte ≡ 16
-  long = omega (arith, length-cells before (listed (bitOf byte) 8), length-listed (bitOf byte) 8)
+  sixteen-cells : length ofByte ≡ 16
+  sixteen-cells = omega (arith, length-cells before (listed (bitOf byte) 8), length-listed (bitOf byte) 8)
 
   two-bytes : packed ofByte ≡ byteCells before byte / 256 ∷ byteCells before byte % 256 ∷ []
   unfolding packed packedByte byteCells listed
   two-bytes =
-      let s = word-split (listCell ofByte) are 8 8 0 in
-      let l = word-lt (listCell ofByte) are 8 8 in
-      rw long (ap₂ (λ (a b : ℕ). a ∷ b ∷ []) (omega (arith, s, l)) (omega (arith, s, l)))
+      let s = word-split (listCell ofByte) cells-of-byte 8 8 0 in
+      let l = word-lt (listCell ofByte) cells-of-byte 8 8 in
+      rw sixteen-cells (ap₂ (λ (a b : ℕ). a ∷ b ∷ []) (omega (arith, s, l)) (omega (arith, s, l)))
 
   pub encoded-more : (bytes : List ℕ) → encoded before (byte ∷ bytes) ≡ byteCells before byte / 256 ∷ byteCells before byte % 256 ∷ encoded (byte % 2) bytes
   unfolding encoded dataBits
   encoded-more bytes =
-      rw (cells-append before (listed (bitOf byte) 8) (dataBits bytes), last-of-byte before byte, packed-append 2 ofByte (cellsOf (byte % 2) (dataBits bytes)) long, two-bytes)
+      rw (cells-append before (listed (bitOf byte) 8) (dataBits bytes), last-of-byte before byte, packed-append 2 ofByte (cellsOf (byte % 2) (dataBits bytes)) sixteen-cells, two-bytes)
 
 pub encoded-none : (before : ℕ) → encoded before [] ≡ []
 unfolding encoded dataBits cellsOf packed listed

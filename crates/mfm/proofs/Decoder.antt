@@ -10,23 +10,23 @@ use Rattle.cells.proofs.Words.{word-split}
 use Rattle.cells.proofs.Places.{cellAt-lt}
 use Rattle.mfm.specs.Coding.{dataCell, byteOn, decodedByte}
 
--- the four data cells of a byte of cells
+-- the four-digits data cells of a byte of cells
 abbrev pub nibbleOf : ℕ → ℕ
 nibbleOf cells = cells / 2 ^ 6 % 2 * 8 + cells / 2 ^ 4 % 2 * 4 + cells / 2 ^ 2 % 2 * 2 + cells % 2
 
-four : (x y z w : ℕ) → 2 * (2 * (2 * (2 * 0 + x) + y) + z) + w ≡ x * 8 + y * 4 + z * 2 + w
-four x y z w = omega arith
+four-digits : (x y z w : ℕ) → 2 * (2 * (2 * (2 * 0 + x) + y) + z) + w ≡ x * 8 + y * 4 + z * 2 + w
+four-digits x y z w = omega arith
 
-half : (f : ℕ → ℕ) (cells q : ℕ) → ((j : ℕ) → j < 4 → f (q + j) ≡ bitOf cells (2 * j + 1)) → word f 4 q ≡ nibbleOf cells
+word-of-nibble : (f : ℕ → ℕ) (cells q : ℕ) → ((j : ℕ) → j < 4 → f (q + j) ≡ bitOf cells (2 * j + 1)) → word f 4 q ≡ nibbleOf cells
 unfolding word
-half f cells q h =
+word-of-nibble f cells q h =
     rw (h 0 (omega arith), h 1 (omega arith), h 2 (omega arith), h 3 (omega arith), div-one cells)
-    (four (cells / 2 ^ 6 % 2) (cells / 2 ^ 4 % 2) (cells / 2 ^ 2 % 2) (cells % 2))
+    (four-digits (cells / 2 ^ 6 % 2) (cells / 2 ^ 4 % 2) (cells / 2 ^ 2 % 2) (cells % 2))
 
 -- data cell j of byte k of the cells
-cell-is : (cells : List ℕ) (k j p : ℕ) → j < 4 → p ≡ 8 * k + (2 * j + 1) → cellAt cells p ≡ bitOf (getD cells k 0) (2 * j + 1)
+data-cell-is : (cells : List ℕ) (k j p : ℕ) → j < 4 → p ≡ 8 * k + (2 * j + 1) → cellAt cells p ≡ bitOf (getD cells k 0) (2 * j + 1)
 unfolding cellAt
-cell-is cells k j p h e =
+data-cell-is cells k j p h e =
     let d : p / 8 ≡ k = omega arith in
     let m : p % 8 ≡ 2 * j + 1 = omega arith in
     rw (d, m)
@@ -36,6 +36,6 @@ unfolding decodedByte byteOn
 by-nibbles cells i =
     let f = dataCell (cellAt cells) (16 * i) in
     let s = word-split f (λ j. cellAt-lt cells (16 * i + (2 * j + 1))) 4 4 0 in
-    let a = half f (getD cells (2 * i) 0) 0 (λ j h. cell-is cells (2 * i) j (16 * i + (2 * (0 + j) + 1)) h (omega arith)) in
-    let b = half f (getD cells (2 * i + 1) 0) 4 (λ j h. cell-is cells (2 * i + 1) j (16 * i + (2 * (4 + j) + 1)) h (omega arith)) in
+    let a = word-of-nibble f (getD cells (2 * i) 0) 0 (λ j h. data-cell-is cells (2 * i) j (16 * i + (2 * (0 + j) + 1)) h (omega arith)) in
+    let b = word-of-nibble f (getD cells (2 * i + 1) 0) 4 (λ j h. data-cell-is cells (2 * i + 1) j (16 * i + (2 * (4 + j) + 1)) h (omega arith)) in
     sym (s ∙ ap₂ (λ (x y : ℕ). x * 16 + y) a b)

@@ -1,4 +1,6 @@
--- The two calls of 01, "Cells and bytes", with the refusals of "Refused calls": "Coding and decoding: 14, 13". Assumes nothing.
+-- The two calls of 01, "Cells and bytes", with the refusals of "Refused calls": "Coding and decoding: 14, 13".
+-- What is written has as many bytes as are answered (`length-encoded`, `length-decoded`), and a call that decodes what a call coded
+-- gives the bytes back (`calls-round-trip`, all in proofs/RoundTrip). Assumes nothing.
 use Prim.Native.Nat.{ℕ, _*_, _/_}
 use mathlib.Core.Bool.{cond}
 use mathlib.Core.List.{List}
@@ -19,17 +21,17 @@ answerOf (Refused refusal) = refusedWith refusal
 unfoldable pub judged : (most given needed room : ℕ) → Answer ℕ
 judged most given needed room = cond (ltb most given) (refused 14 given) (cond (ltb room needed) (refused 13 needed) (gives needed))
 
--- "given up to 8,192 bytes": two bytes of cells for each
-abbrev pub coding : List ℕ → List ℕ → Answer ℕ
-coding bytes cells = judged 8192 (length bytes) (2 * length bytes) (length cells)
+-- "given up to 8,192 bytes .. two bytes of cells for each. No bytes give no cells": what a call that codes answers
+abbrev pub codingAnswer : List ℕ → List ℕ → Answer ℕ
+codingAnswer bytes cells = judged 8192 (length bytes) (2 * length bytes) (length cells)
 
--- up to 16,384 bytes of cells: one byte for each two
-abbrev pub decoding : List ℕ → List ℕ → Answer ℕ
-decoding cells bytes = judged 16384 (length cells) (length cells / 2) (length bytes)
+-- up to 16,384 bytes of cells, "one byte for each two bytes of cells": what a call that decodes answers
+abbrev pub decodingAnswer : List ℕ → List ℕ → Answer ℕ
+decodingAnswer cells bytes = judged 16384 (length cells) (length cells / 2) (length bytes)
 
 -- the buffer lent to a call that codes, and the one lent to a call that decodes
 abbrev pub cellsAfter : ℕ → List ℕ → List ℕ → List ℕ
-cellsAfter before bytes cells = bufferAfter (coding bytes cells) (encoded before bytes) cells
+cellsAfter before bytes cells = bufferAfter (codingAnswer bytes cells) (encoded before bytes) cells
 
 abbrev pub bytesAfter : List ℕ → List ℕ → List ℕ
-bytesAfter cells bytes = bufferAfter (decoding cells bytes) (decoded cells) bytes
+bytesAfter cells bytes = bufferAfter (decodingAnswer cells bytes) (decoded cells) bytes

@@ -42,7 +42,7 @@ dataCell f p i = f (p + (2 * i + 1))
 unfoldable pub byteOn : (ℕ → ℕ) → ℕ → ℕ
 byteOn f p = word (dataCell f p) 8 0
 
--- byte i of packed cells
+-- the byte that the cells 16i to 16i+15 decode to
 unfoldable pub decodedByte : List ℕ → ℕ → ℕ
 decodedByte cells i = byteOn (cellAt cells) (16 * i)
 

@@ -6,7 +6,7 @@ ghost use Prim.Native.Nat.{_<_, _≤_, _*_, _+_, _/_, _%_, _^_};
 ghost use lib.ListN.{length};
 ghost use Rattle.basis.specs.Lists.{writtenOver};
 ghost use Rattle.mfm.specs.Coding.{clock, byteCells, encoded, decoded};
-ghost use Rattle.mfm.specs.Calls.{answerOf, coding, decoding, cellsAfter, bytesAfter};
+ghost use Rattle.mfm.specs.Calls.{answerOf, codingAnswer, decodingAnswer, cellsAfter, bytesAfter};
 
 // The most bytes that one call codes, and the most bytes of cells that one call decodes.
 pub const MOST_TO_CODE: usize = 8192;
@@ -19,11 +19,38 @@ pub enum Written {
     Refused(Refusal),
 }
 
-// The clock cell of a data bit after another.
-fn clock(before: u16, bit: u16) -> u16
-    ensures { λ r. ⌜ (r ≡ clock before bit) × (r < 2) ⌝ }
+// Coding: two bytes of cells for each byte, at the front of `cells`. `before` is the data bit before the bytes.
+pub fn encode(bytes: &[u8], before: bool, cells: &mut [u8]) -> Written
+    ensures answer { λ r. ⌜ answerOf r ≡ codingAnswer (now (bytes .entry)) (now (cells .entry)) ⌝ }
+    ensures buffer { λ _. ⌜ now (cells .exit) ≡ cellsAfter (cond before 1 0) (now (bytes .entry)) (now (cells .entry)) ⌝ }
 {
-    if (before == 0) & (bit == 0) { 1 } else { 0 }
+    let given = bytes.len();
+    if MOST_TO_CODE < given {
+        return Written::Refused(Refusal::TooManyBytes(given));
+    }
+    let needed = 2 * given;
+    if cells.len() < needed {
+        return Written::Refused(Refusal::NoRoomForBytes(needed));
+    }
+    write_cells(bytes, before, cells);
+    Written::Bytes(needed)
+}
+
+// Decoding: one byte for each two bytes of cells, at the front of `bytes`; an odd last byte of cells is not read.
+pub fn decode(cells: &[u8], bytes: &mut [u8]) -> Written
+    ensures answer { λ r. ⌜ answerOf r ≡ decodingAnswer (now (cells .entry)) (now (bytes .entry)) ⌝ }
+    ensures buffer { λ _. ⌜ now (bytes .exit) ≡ bytesAfter (now (cells .entry)) (now (bytes .entry)) ⌝ }
+{
+    let given = cells.len();
+    if MOST_TO_DECODE < given {
+        return Written::Refused(Refusal::TooManyBytes(given));
+    }
+    let needed = given / 2;
+    if bytes.len() < needed {
+        return Written::Refused(Refusal::NoRoomForBytes(needed));
+    }
+    write_bytes(cells, bytes);
+    Written::Bytes(needed)
 }
 
 // The sixteen cells of a byte after a data bit, as a number: the clock rule, bit by bit.
@@ -59,28 +86,11 @@ fn write_cells(bytes: &[u8], before: bool, cells: &mut [u8])
     }
 }
 
-// Coding: two bytes of cells for each byte, at the front of `cells`. `before` is the data bit before the bytes.
-pub fn encode(bytes: &[u8], before: bool, cells: &mut [u8]) -> Written
-    ensures answer { λ r. ⌜ answerOf r ≡ coding (now (bytes .entry)) (now (cells .entry)) ⌝ }
-    ensures buffer { λ _. ⌜ now (cells .exit) ≡ cellsAfter (cond before 1 0) (now (bytes .entry)) (now (cells .entry)) ⌝ }
+// The clock cell of a data bit after another.
+fn clock(before: u16, bit: u16) -> u16
+    ensures { λ r. ⌜ (r ≡ clock before bit) × (r < 2) ⌝ }
 {
-    let given = bytes.len();
-    if MOST_TO_CODE < given {
-        return Written::Refused(Refusal::TooManyBytes(given));
-    }
-    let needed = 2 * given;
-    if cells.len() < needed {
-        return Written::Refused(Refusal::NoRoomForBytes(needed));
-    }
-    write_cells(bytes, before, cells);
-    Written::Bytes(needed)
-}
-
-// The four data cells of a byte of cells.
-fn nibble(cells: u8) -> u8
-    ensures { λ r. ⌜ (r ≡ cells / 2 ^ 6 % 2 * 8 + cells / 2 ^ 4 % 2 * 4 + cells / 2 ^ 2 % 2 * 2 + cells % 2) × (r < 16) ⌝ }
-{
-    (cells >> 6) % 2 * 8 + (cells >> 4) % 2 * 4 + (cells >> 2) % 2 * 2 + cells % 2
+    if (before == 0) & (bit == 0) { 1 } else { 0 }
 }
 
 // Decodes every two bytes of `cells` into the front of `bytes`.
@@ -96,19 +106,9 @@ fn write_bytes(cells: &[u8], bytes: &mut [u8])
     }
 }
 
-// Decoding: one byte for each two bytes of cells, at the front of `bytes`; an odd last byte of cells is not read.
-pub fn decode(cells: &[u8], bytes: &mut [u8]) -> Written
-    ensures answer { λ r. ⌜ answerOf r ≡ decoding (now (cells .entry)) (now (bytes .entry)) ⌝ }
-    ensures buffer { λ _. ⌜ now (bytes .exit) ≡ bytesAfter (now (cells .entry)) (now (bytes .entry)) ⌝ }
+// The four data cells of a byte of cells.
+fn nibble(cells: u8) -> u8
+    ensures { λ r. ⌜ (r ≡ cells / 2 ^ 6 % 2 * 8 + cells / 2 ^ 4 % 2 * 4 + cells / 2 ^ 2 % 2 * 2 + cells % 2) × (r < 16) ⌝ }
 {
-    let given = cells.len();
-    if MOST_TO_DECODE < given {
-        return Written::Refused(Refusal::TooManyBytes(given));
-    }
-    let needed = given / 2;
-    if bytes.len() < needed {
-        return Written::Refused(Refusal::NoRoomForBytes(needed));
-    }
-    write_bytes(cells, bytes);
-    Written::Bytes(needed)
+    (cells >> 6) % 2 * 8 + (cells >> 4) % 2 * 4 + (cells >> 2) % 2 * 2 + cells % 2
 }

@@ -1,4 +1,5 @@
--- 01, "Refused calls": the number of each refusal, and what it gives also. Assumes nothing.
+-- 01, "Refused calls": the number of each refusal, what it gives also, and what a call leaves in a lent buffer. A refused call leaves
+-- it as it was. Assumes nothing.
 use Prim.Native.Nat.{ℕ}
 use mathlib.Core.List.{List}
 use Rattle.basis.specs.Lists.{writtenOver}

@@ -1,13 +1,16 @@
-// The library for C and Rust: each routine on numbers and slices. include/thikbromu.h declares them.
+// The library for C and Rust: each routine on numbers and slices, which pass as an address and a length.
 //
 // A routine that 01 refuses some calls of returns a number: 0 where the call is accepted, else the refusal's number in
-// 01's table. What the call gives, or what the refusal gives also, is stored at `value`.
+// 01's table. What the call gives, or what the refusal gives also, is stored at `value`; a refused call writes nothing else.
+//
+// What the boundary asks of a caller in another language: each address is valid for its length, lent memory does not
+// overlap what else is passed, and a bool is 0 or 1. The routines ask nothing of the values.
 use mfm::Written;
 ghost use mathlib.Core.Path.{_≡_};
 ghost use mathlib.Core.Bool.{cond};
 ghost use Rattle.cells.specs.CellsAndBytes.{cell, wordAt, leastPlace, cleared, withOne};
 ghost use Rattle.crc.specs.CheckWord.{checkWordFrom, checkWord};
-ghost use Rattle.mfm.specs.Calls.{answerOf, coding, decoding, cellsAfter, bytesAfter};
+ghost use Rattle.mfm.specs.Calls.{answerOf, codingAnswer, decodingAnswer, cellsAfter, bytesAfter};
 ghost use Rattle.thikbromu.specs.Numbers.{numberIn, valueIn};
 
 // Cell p of a track of n cells, counted on past n.
@@ -26,7 +29,8 @@ pub extern "C" fn thikbromu_word(bytes: &[u8], n: usize, p: usize, k: usize) -> 
     cells::word_at(bytes, n, p, k)
 }
 
-// The least place from `from` and before `to` at which the word x of k cells stands; the range's end where there is none.
+// The least place from `from` and before `to`, counted on past n, at which the word x of k cells stands. Where there is
+// none, the greater of the two.
 #[no_mangle]
 pub extern "C" fn thikbromu_find_word(
     bytes: &[u8],
@@ -41,7 +45,7 @@ pub extern "C" fn thikbromu_find_word(
     cells::find_word(bytes, n, x, k, from, to)
 }
 
-// Sets the first k bytes to 0.
+// Sets the first k bytes, or all where there are fewer, to 0.
 #[no_mangle]
 pub extern "C" fn thikbromu_clear(bytes: &mut [u8], k: usize)
     ensures { λ _. ⌜ now (bytes .exit) ≡ cleared k (now (bytes .entry)) ⌝ }
@@ -49,7 +53,7 @@ pub extern "C" fn thikbromu_clear(bytes: &mut [u8], k: usize)
     cells::clear(bytes, k);
 }
 
-// Puts a one at cell p.
+// Puts a one at cell p, where the bytes have such a cell.
 #[no_mangle]
 pub extern "C" fn thikbromu_put_one(bytes: &mut [u8], p: usize)
     ensures { λ _. ⌜ now (bytes .exit) ≡ withOne (now (bytes .entry)) p ⌝ }
@@ -97,8 +101,8 @@ pub extern "C" fn thikbromu_encode(
     cells: &mut [u8],
     value: &mut usize,
 ) -> u32
-    ensures number { λ r. ⌜ r ≡ numberIn (coding (now (bytes .entry)) (now (cells .entry))) ⌝ }
-    ensures value { λ _. ⌜ now (value .exit) ≡ valueIn (coding (now (bytes .entry)) (now (cells .entry))) ⌝ }
+    ensures number { λ r. ⌜ r ≡ numberIn (codingAnswer (now (bytes .entry)) (now (cells .entry))) ⌝ }
+    ensures value { λ _. ⌜ now (value .exit) ≡ valueIn (codingAnswer (now (bytes .entry)) (now (cells .entry))) ⌝ }
     ensures buffer { λ _. ⌜ now (cells .exit) ≡ cellsAfter (cond before 1 0) (now (bytes .entry)) (now (cells .entry)) ⌝ }
 {
     told(mfm::encode(bytes, before, cells), value)
@@ -107,8 +111,8 @@ pub extern "C" fn thikbromu_encode(
 // Decoding; `value` is the bytes written.
 #[no_mangle]
 pub extern "C" fn thikbromu_decode(cells: &[u8], bytes: &mut [u8], value: &mut usize) -> u32
-    ensures number { λ r. ⌜ r ≡ numberIn (decoding (now (cells .entry)) (now (bytes .entry))) ⌝ }
-    ensures value { λ _. ⌜ now (value .exit) ≡ valueIn (decoding (now (cells .entry)) (now (bytes .entry))) ⌝ }
+    ensures number { λ r. ⌜ r ≡ numberIn (decodingAnswer (now (cells .entry)) (now (bytes .entry))) ⌝ }
+    ensures value { λ _. ⌜ now (value .exit) ≡ valueIn (decodingAnswer (now (cells .entry)) (now (bytes .entry))) ⌝ }
     ensures buffer { λ _. ⌜ now (bytes .exit) ≡ bytesAfter (now (cells .entry)) (now (bytes .entry)) ⌝ }
 {
     told(mfm::decode(cells, bytes), value)

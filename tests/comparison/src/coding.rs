@@ -19,29 +19,29 @@ fn bytes_of(random: &mut Random, length: usize) -> Vec<u8> {
 }
 
 fn code_case(group: &mut Group, bytes: &[u8], before: bool, room: usize) {
+    let input = bytes.to_vec();
     let mut lent = Lent::new(room);
-    let ours = library::encode(bytes, before, lent.part());
+    let ours = library::encode(&input, before, lent.part());
     let second = mfm::code(bytes, before, room);
-    let written = match &second {
-        Ok(cells) => cells.as_slice(),
-        Err(_) => &[],
-    };
-    let given = || format!("{} bytes {:02X?}, before {before}, room {room}", bytes.len(), &bytes[..bytes.len().min(16)]);
-    group.same(ours, second.clone().map(|cells| cells.len()), given);
-    group.same(lent.into_bytes(), Lent::expected(room, written), given);
+    let written = second.clone().unwrap_or_default();
+    group.same(
+        (ours, lent.into_bytes(), input),
+        (second.map(|cells| cells.len()), Lent::expected(room, &written), bytes.to_vec()),
+        || format!("{} bytes {:02X?}, before {before}, room {room}", bytes.len(), &bytes[..bytes.len().min(16)]),
+    );
 }
 
 fn decode_case(group: &mut Group, cells: &[u8], room: usize) {
+    let input = cells.to_vec();
     let mut lent = Lent::new(room);
-    let ours = library::decode(cells, lent.part());
+    let ours = library::decode(&input, lent.part());
     let second = mfm::decode(cells, room);
-    let written = match &second {
-        Ok(bytes) => bytes.as_slice(),
-        Err(_) => &[],
-    };
-    let given = || format!("{} bytes of cells {:02X?}, room {room}", cells.len(), &cells[..cells.len().min(16)]);
-    group.same(ours, second.clone().map(|bytes| bytes.len()), given);
-    group.same(lent.into_bytes(), Lent::expected(room, written), given);
+    let written = second.clone().unwrap_or_default();
+    group.same(
+        (ours, lent.into_bytes(), input),
+        (second.map(|bytes| bytes.len()), Lent::expected(room, &written), cells.to_vec()),
+        || format!("{} bytes of cells {:02X?}, room {room}", cells.len(), &cells[..cells.len().min(16)]),
+    );
 }
 
 /// Rooms around what is needed: one too small, exact, and larger.
@@ -71,7 +71,7 @@ pub fn coding(totals: &mut (usize, usize)) {
     group.close(totals);
 
     let mut group = Group::new("coding, random");
-    for _ in 0..4_000 {
+    for _ in 0..8_000 {
         let most = if random.one_in(50) { 9_000 } else { 200 };
         let length = random.below(most) as usize;
         let bytes = bytes_of(&mut random, length);
@@ -101,7 +101,7 @@ pub fn decoding(totals: &mut (usize, usize)) {
     group.close(totals);
 
     let mut group = Group::new("decoding, random");
-    for _ in 0..4_000 {
+    for _ in 0..8_000 {
         let most = if random.one_in(50) { 17_000 } else { 400 };
         let length = random.below(most) as usize;
         let cells = bytes_of(&mut random, length);
@@ -121,9 +121,9 @@ pub fn round_trip(totals: &mut (usize, usize)) {
             let mut back = vec![0; length];
             let coded = library::encode(&bytes, before, &mut cells);
             let decoded = library::decode(&cells, &mut back);
-            let given = || format!("{length} bytes, before {before}");
-            group.same((coded, decoded), (Ok(2 * length), Ok(length)), given);
-            group.same(&back, &bytes, given);
+            group.same((coded, decoded, &back), (Ok(2 * length), Ok(length), &bytes), || {
+                format!("{length} bytes, before {before}")
+            });
         }
     }
     group.close(totals);
@@ -161,16 +161,15 @@ pub fn printed(totals: &mut (usize, usize)) {
 pub fn check_words(totals: &mut (usize, usize)) {
     let mut group = Group::new("check words, every length to 64 and random");
     let mut random = Random::new(4);
-    for i in 0..4_000 {
+    for i in 0..8_000 {
         let length = if i <= 64 { i } else { random.below(1_200) as usize };
         let bytes = bytes_of(&mut random, length);
         let start = random.next_number() as u16;
-        let given = || format!("{length} bytes {:02X?}, from {start:04X}", &bytes[..length.min(16)]);
-        group.same(library::check_word(&bytes), check_word::check_word(&bytes), given);
+        let input = bytes.clone();
         group.same(
-            library::check_word_from(start, &bytes),
-            check_word::check_word_from(start, &bytes),
-            given,
+            (library::check_word(&input), library::check_word_from(start, &input), &input),
+            (check_word::check_word(&bytes), check_word::check_word_from(start, &bytes), &bytes),
+            || format!("{length} bytes {:02X?}, from {start:04X}", &bytes[..length.min(16)]),
         );
     }
     group.close(totals);

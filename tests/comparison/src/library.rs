@@ -1,7 +1,7 @@
 //! The library's routines, as its archive exports them, behind safe functions.
 //!
 //! Nothing checks these declarations against crates/thikbromu/src/lib.rt: keep the two alike. A slice passes as its address
-//! and its length. None of the routines asks anything of its caller.
+//! and its length; safe Rust ensures what the boundary asks of the two.
 
 use second_program::refusal::Refusal;
 

@@ -1,4 +1,5 @@
-//! Runs the library beside the second program on many inputs, long and short, and compares all that a caller can see.
+//! Runs the library beside the second program on many inputs, long and short, and compares what each
+//! answers and all memory that a caller passed.
 //!
 //! The last line is 'N passed, M failed'; the exit status is 1 where something failed.
 
@@ -11,6 +12,7 @@ fn main() {
     let mut totals = (0, 0);
     track_cells::reading(&mut totals);
     track_cells::finding(&mut totals);
+    track_cells::marks(&mut totals);
     track_cells::packing(&mut totals);
     coding::printed(&mut totals);
     coding::check_words(&mut totals);

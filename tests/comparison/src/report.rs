@@ -17,7 +17,7 @@ impl Group {
         Group { name, passed: 0, failed: 0 }
     }
 
-    /// One case: the library's result, what it should be, and what was given.
+    /// One case: what the library made of an input, what it should be, and what was given.
     pub fn same<T: PartialEq + Debug>(&mut self, ours: T, expected: T, given: impl Fn() -> String) {
         if ours == expected {
             self.passed += 1;

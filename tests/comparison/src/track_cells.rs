@@ -47,9 +47,12 @@ pub fn reading(totals: &mut (usize, usize)) {
         let (bytes, n) = track(&mut random);
         let p = place(&mut random, n);
         let k = word_length(&mut random);
-        let given = || format!("{bytes:02X?}, n {n}, p {p}, k {k}");
-        group.same(library::cell(&bytes, n, p), u64::from(cells::cell(&bytes, n, p)), given);
-        group.same(library::word(&bytes, n, p, k), cells::word(&bytes, n, p, k), given);
+        let input = bytes.clone();
+        group.same(
+            (library::cell(&input, n, p), library::word(&input, n, p, k), &input),
+            (u64::from(cells::cell(&bytes, n, p)), cells::word(&bytes, n, p, k), &bytes),
+            || format!("{bytes:02X?}, n {n}, p {p}, k {k}"),
+        );
     }
     group.close(totals);
 }
@@ -73,11 +76,44 @@ pub fn finding(totals: &mut (usize, usize)) {
             1 => from.saturating_add(random.below(3) as usize),
             _ => from.saturating_add(random.below(2 * n as u64 + 3) as usize),
         };
+        let input = bytes.clone();
         group.same(
-            library::find_word(&bytes, n, x, k, from, to),
-            cells::find_word(&bytes, n, x, k, from, to),
+            (library::find_word(&input, n, x, k, from, to), &input),
+            (cells::find_word(&bytes, n, x, k, from, to), &bytes),
             || format!("{bytes:02X?}, n {n}, word {x:X} of {k}, from {from} to {to}"),
         );
+    }
+    group.close(totals);
+}
+
+/// Three syncs 4489 on tracks of real sizes, at places round the index in every phase.
+pub fn marks(totals: &mut (usize, usize)) {
+    const SYNCS: u64 = 0x4489_4489_4489;
+    let mut group = Group::new("three syncs on whole tracks");
+    let mut random = Random::new(8);
+    for n in [20_000, 19_999, 100_000, 131_072, 131_071] {
+        for back in 0..=56 {
+            // The filling, lawful cells or none, holds no sync.
+            let filling = if random.one_in(2) { 0xAA } else { 0x00 };
+            let mut bytes = vec![filling; cells::bytes_needed(n)];
+            for i in 0..48 {
+                let p = cells::place_on_track(n, n - back, i);
+                let weight = 0x80 >> (p % 8);
+                bytes[p / 8] &= !weight;
+                if SYNCS >> (47 - i) & 1 == 1 {
+                    bytes[p / 8] |= weight;
+                }
+            }
+            for (from, to) in [(0, n), (1, 2 * n), (n - 60, n + 60), (n, 3 * n)] {
+                for (x, k) in [(SYNCS, 48), (0x4489, 16), (0x5224, 16)] {
+                    group.same(
+                        library::find_word(&bytes, n, x, k, from, to),
+                        cells::find_word(&bytes, n, x, k, from, to),
+                        || format!("n {n}, syncs {back} before the index, word {x:X}, from {from} to {to}"),
+                    );
+                }
+            }
+        }
     }
     group.close(totals);
 }

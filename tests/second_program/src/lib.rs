@@ -1,6 +1,7 @@
 //! The second program: the rules of the scope paper (01) in plain Rust.
 //!
-//! It is written from the text of 01 alone, for comparison with the library.
+//! It is written from the text of 01 (docs/01-scope.md), for comparison with the
+//! library; what 01 leaves open is read as docs/DECISIONS.md says.
 //! Each module is one section of 01 and names the rules that it follows;
 //! `random` serves to make the inputs of the comparison.
 
