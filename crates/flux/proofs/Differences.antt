@@ -2,12 +2,12 @@
 -- Assumes nothing.
 use mathlib.Core.Path.{_≡_, refl, sym, _∙_, ap, subst}
 use mathlib.Core.Logic.{_⊎_, inl, inr, ⊎-elim}
-use mathlib.Core.Bool.{Bool, true, false}
-use Prim.Native.Nat.{ℕ, zero, suc, _+_, _-_, _*_, _/_, _≤_, _<_}
+use mathlib.Core.Bool.{true, false}
+use Prim.Native.Nat.{ℕ, zero, suc, _+_, _-_, _≤_, _<_}
 use native.Mathlib.Decide.{decLt}
 use native.Mathlib.Omega.{arith}
 use borrow.Author.Tests.{lt-ltb, le-ltb, le-leb, lt-leb, ltb-true, ltb-false}
-use lib.Dec.{T, ltb, leb, leb→le, le→leb}
+use lib.Dec.{T, leb→le, le→leb}
 use lib.IntN.{ℤ, pos, negsuc, negℤ, natAbs, subℕ, _+ℤ_, _-ℤ_}
 use lib.Signed.{leZ, ltZ, mag}
 
@@ -66,15 +66,6 @@ sub-parts a b = ⊎-elim (lo a b) (hi a b) (lt-or-le a b)
     hi : (a b : ℕ) → b ≤ a → up (subℕ a b) + b ≡ a + down (subℕ a b)
     hi a b h = rw (sub-pos a b h) (omega arith)
 
--- two equal differences
-pub sub-inj : (a b c d : ℕ) → subℕ a b ≡ subℕ c d → a + d ≡ c + b
-sub-inj a b c d e =
-    let p = sub-parts a b in
-    let q = sub-parts c d in
-    let u : up (subℕ a b) ≡ up (subℕ c d) = ap up e in
-    let v : down (subℕ a b) ≡ down (subℕ c d) = ap down e in
-    omega arith
-
 -- a sum, and a difference, of two differences
 add-raw : (x y : ℤ) → x +ℤ y ≡ subℕ (up x + up y) (down x + down y)
 add-raw (pos a) (pos b) = pos-sub (a + b) ∙ sub-same (a + b) 0 (a + b) (0 + 0) (omega arith)
@@ -102,12 +93,22 @@ neg-sub a b =
 pub minus-sub : (a b c d : ℕ) → subℕ a b -ℤ subℕ c d ≡ subℕ (a + d) (b + c)
 minus-sub a b c d = ap (λ (z : ℤ). subℕ a b +ℤ z) (neg-sub c d) ∙ add-sub a b d c
 
+pub minus-parts : (x y : ℤ) → up (x -ℤ y) + (down x + up y) ≡ up x + down y + down (x -ℤ y)
+minus-parts x y =
+    subst (λ (z : ℤ). up z + (down x + up y) ≡ up x + down y + down z) (sym e) (sub-parts (up x + down y) (down x + up y))
+  where
+    e : x -ℤ y ≡ subℕ (up x + down y) (down x + up y)
+    e =
+        ap (λ (z : ℤ). z -ℤ y) (as-sub x)
+        ∙ ap (λ (z : ℤ). subℕ (up x) (down x) -ℤ z) (as-sub y)
+        ∙ minus-sub (up x) (down x) (up y) (down y)
+
 -- an order of two differences
-le-raw : (x y : ℤ) → T (leZ x y) → up x + down y ≤ up y + down x
-le-raw (pos a) (pos b) t = omega (arith, leb→le a b t)
-le-raw (pos a) (negsuc b) t = absurd t
-le-raw (negsuc a) (pos b) t = omega arith
-le-raw (negsuc a) (negsuc b) t = omega (arith, leb→le b a t)
+pub le-of : (x y : ℤ) → T (leZ x y) → up x + down y ≤ up y + down x
+le-of (pos a) (pos b) t = omega (arith, leb→le a b t)
+le-of (pos a) (negsuc b) t = absurd t
+le-of (negsuc a) (pos b) t = omega arith
+le-of (negsuc a) (negsuc b) t = omega (arith, leb→le b a t)
 
 raw-le : (x y : ℤ) → up x + down y ≤ up y + down x → T (leZ x y)
 raw-le (pos a) (pos b) h = le→leb a b (omega arith)
@@ -115,21 +116,15 @@ raw-le (pos a) (negsuc b) h = let z : ⊥ = omega arith in absurd z
 raw-le (negsuc a) (pos b) h = tt
 raw-le (negsuc a) (negsuc b) h = le→leb b a (omega arith)
 
-pub le-of : (x y : ℤ) → T (leZ x y) → up x + down y ≤ up y + down x
-le-of = le-raw
-
 pub sub-le : (a b c d : ℕ) → a + d ≤ c + b → T (leZ (subℕ a b) (subℕ c d))
 sub-le a b c d h =
     let p = sub-parts a b in
     let q = sub-parts c d in
     raw-le (subℕ a b) (subℕ c d) (omega arith)
 
-abs-raw : (x : ℤ) (k : ℕ) → up x ≤ down x + k → down x ≤ up x + k → natAbs x ≤ k
-abs-raw (pos n) k h j = omega arith
-abs-raw (negsuc n) k h j = omega arith
-
-pub abs-le : (a b k : ℕ) → a ≤ b + k → b ≤ a + k → natAbs (subℕ a b) ≤ k
-abs-le a b k h j = let p = sub-parts a b in abs-raw (subℕ a b) k (omega arith) (omega arith)
+pub abs-le : (x : ℤ) (k : ℕ) → up x ≤ down x + k → down x ≤ up x + k → natAbs x ≤ k
+abs-le (pos n) k h j = omega arith
+abs-le (negsuc n) k h j = omega arith
 
 pub le-abs : (x : ℤ) (k : ℕ) → natAbs x ≤ k → (up x ≤ down x + k) × (down x ≤ up x + k)
 le-abs (pos n) k h = (omega arith, omega arith)

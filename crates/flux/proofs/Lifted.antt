@@ -1,7 +1,7 @@
 -- The rule at a residual that is kept as a natural number `half` larger, for any half window: b stands for b - half, `subℕ b half`.
 -- Assumes nothing.
 use Prim.Native.Nat.{ℕ, suc, _+_, _-_, _*_, _/_, _%_, _≤_, _<_}
-use mathlib.Core.Path.{_≡_, refl, sym, _∙_, ap}
+use mathlib.Core.Path.{_≡_, sym, _∙_, ap}
 use mathlib.Core.Bool.{cond}
 use mathlib.Core.Logic.{⊎-elim}
 use native.Mathlib.Nat.{div-add-mod, mod-lt}

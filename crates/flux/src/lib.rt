@@ -2,12 +2,16 @@
 use refusals::Refusal;
 ghost use mathlib.Core.Path.{_≡_};
 ghost use mathlib.Core.List.{List, []};
-ghost use mathlib.Core.Bool.{true, false};
+ghost use mathlib.Core.Bool.{true, false, cond};
 ghost use Prim.Native.Nat.{ℕ, _+_, _-_, _*_, _/_, _%_, _≤_, _<_};
+ghost use lib.Dec.{eqb};
 ghost use lib.ListN.{length, getD, replicate};
 ghost use lib.IntN.{ℤ, pos};
+ghost use Rattle.basis.specs.Lists.{writtenOver};
+ghost use Rattle.refusals.specs.RefusedCalls.Answer.{gives};
+ghost use Rattle.cells.specs.CellsAndBytes.{bytesFor, packed, withOne};
 ghost use Rattle.flux.specs.Rule.{halved, usable, inRange, takenAnswer, stepAnswer, stepResidual};
-ghost use Rattle.flux.specs.Separation.{answerOf, separation, cellsAfter};
+ghost use Rattle.flux.specs.Separation.{firstOut, cellsOf, answerOf, separation, cellsAfter};
 ghost use Rattle.flux.specs.Demand3.{Demand3};
 ghost use Rattle.flux.specs.Histogram.{countedAnswer, counting, countsAfter, sumOf};
 
@@ -121,4 +125,106 @@ impl Separator {
             next: next,
         }
     }
+}
+
+// The index of the first timing outside its range; their number where there is none.
+pub fn first_out(timings: &[u32]) -> usize
+    ensures { λ r. ⌜ r ≡ firstOut (now (timings .entry)) ⌝ }
+{
+    let mut i: usize = 0;
+    while i < timings.len() {
+        if !is_timing(timings[i]) {
+            return i;
+        }
+        i += 1;
+    }
+    i
+}
+
+// The number of cells that a step gave; 0 where it refused.
+fn cells_in(taken: Taken) -> usize
+    ensures { λ r. ⌜ ((n : ℕ) → takenAnswer taken ≡ gives n → r ≡ n) ⌝ }
+{
+    match taken {
+        Taken::Cells(cells) => cells as usize,
+        Taken::Refused(_) => 0,
+    }
+}
+
+// The number of cells in all of timings that are in range.
+fn count_cells(timings: &[u32]) -> usize
+    requires { ⌜ (length (now timings) ≤ 65536) × (firstOut (now timings) ≡ length (now timings)) ⌝ }
+    ensures { λ r. ⌜ r ≡ length (cellsOf (now (timings .entry))) ⌝ }
+{
+    let mut count: usize = 0;
+    let mut state = Separator::new();
+    let mut i: usize = 0;
+    while i < timings.len() {
+        let stepped = state.step(timings[i]);
+        let taken = stepped.taken;
+        count += cells_in(taken);
+        state = stepped.next;
+        i += 1;
+    }
+    count
+}
+
+// Puts the cells of a timing at cell `at`, where zeros stand: all that changes is a one at the last of them.
+fn put_cells(cells: &mut [u8], at: usize, count: usize)
+    requires { ⌜ at + count ≤ 131072 ⌝ }
+    ensures { λ _. ⌜ now (cells .exit) ≡ cond (eqb count 0) (now (cells .entry)) (withOne (now (cells .entry)) (at + (count - 1))) ⌝ }
+{
+    if count == 0 {
+        return;
+    }
+    cells::put_one(cells, at + (count - 1));
+}
+
+// Writes the cells of timings that are in range to the front of a buffer that has room for them.
+fn write_cells(timings: &[u32], needed: usize, cells: &mut [u8])
+    requires { ⌜ (firstOut (now timings) ≡ length (now timings)) × (length (cellsOf (now timings)) ≤ 131072) × (needed ≡ bytesFor (length (cellsOf (now timings)))) × (needed ≤ length (now cells)) ⌝ }
+    ensures { λ _. ⌜ now (cells .exit) ≡ writtenOver (packed (cellsOf (now (timings .entry)))) (now (cells .entry)) ⌝ }
+{
+    cells::clear(cells, needed);
+    let mut at: usize = 0;
+    let mut state = Separator::new();
+    let mut i: usize = 0;
+    while i < timings.len() {
+        let stepped = state.step(timings[i]);
+        let taken = stepped.taken;
+        let count = cells_in(taken);
+        put_cells(cells, at, count);
+        at += count;
+        state = stepped.next;
+        i += 1;
+    }
+}
+
+// The whole list of timings, to cells at the front of a buffer.
+pub fn separate(timings: &[u32], cells: &mut [u8]) -> Separated
+    ensures answer { λ r. ⌜ answerOf r ≡ separation (now (timings .entry)) (length (now (cells .entry))) ⌝ }
+    ensures buffer { λ _. ⌜ now (cells .exit) ≡ cellsAfter (now (timings .entry)) (now (cells .entry)) ⌝ }
+    ensures demand3 { λ r. ⌜ Demand3 (now (timings .entry)) (answerOf r) (now (cells .entry)) (now (cells .exit)) ⌝ }
+{
+    let given = timings.len();
+    if given == 0 {
+        return Separated::Refused(Refusal::NoTimings);
+    }
+    if MOST_TIMINGS < given {
+        return Separated::Refused(Refusal::TooManyTimings(given));
+    }
+    let first = first_out(timings);
+    if first < given {
+        return Separated::Refused(Refusal::TimingOutOfRange(first));
+    }
+    let count = count_cells(timings);
+    if MOST_CELLS < count {
+        return Separated::Refused(Refusal::TooManyCells(count));
+    }
+    let needed = (count + 7) / 8;
+    if cells.len() < needed {
+        return Separated::Refused(Refusal::NoRoomForCells(needed));
+    }
+    write_cells(timings, needed, cells);
+    Separated::Cells(count)
 }

@@ -1,21 +1,21 @@
 -- `flux::Separator::step` meets its contract. Assumes nothing.
 use Prim.Native.Nat.{ℕ, _≤_}
-use mathlib.Core.Path.{_≡_, refl, sym, _∙_, ap, subst}
-use mathlib.Core.Bool.{true, false}
+use mathlib.Core.Path.{_≡_, sym, _∙_, ap, subst}
+use mathlib.Core.Bool.{true}
 use native.Mathlib.Omega.{arith}
 use borrow.Author.Needs.{needs}
 use borrow.Author.Tests.{not-true, not-false}
 use lib.Dec.{T}
-use lib.IntN.{ℤ, pos, natAbs}
+use lib.IntN.{ℤ, natAbs}
 use lib.Signed.{nonNeg}
 use mir.Syntax.{w32}
-use mir.Val.{SFits, Fits}
+use mir.Val.{Fits}
 use mir.Facts.{toZ-ofZ}
 use Rattle.flux.specs.Rule.{inRange, usable, halved, halfWindow}
 use Rattle.flux.proofs.Lifted.{Kept}
 use Rattle.flux.proofs.Timing.{range-of}
 use Rattle.flux.proofs.Residual.{usable-kept}
-use Rattle.flux.proofs.MachineStep.{readBack, t-fits, u-fits, sum-fits, n-fits, windows-fits, e-fits, n-is, e-is, cells-small}
+use Rattle.flux.proofs.MachineStep.{t-fits, u-fits, sum-fits, n-fits, windows-fits, e-fits, n-is, e-is, cells-small}
 use Rattle.flux.proofs.Stepping.{step-refused, step-taken}
 use Rattle.flux.proofs.Separator.step.Statement.{statement}
 use Rattle.flux.proofs.Separator.step.Tie as tie
