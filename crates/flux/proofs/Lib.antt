@@ -1,4 +1,5 @@
 pub mod Differences
+pub mod Orders
 pub mod Lifted
 pub mod Timing
 pub mod Residual

@@ -8,7 +8,7 @@ use mir.Syntax.{w32}
 use mir.Val.{SFits, toZ, ofZ}
 use mir.Facts.{toZ-ofZ, toZ-pos}
 use Rattle.flux.specs.Rule.{reading, cellsAt, offsetAt, halfWindow}
-use Rattle.flux.proofs.Differences.{mag-sub}
+use Rattle.flux.proofs.Orders.{mag-sub}
 use Rattle.flux.proofs.Lifted.{Kept, reading-is, lifted-reading, cells-is, offset-is}
 
 -- half of a number that fits

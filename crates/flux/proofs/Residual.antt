@@ -7,7 +7,8 @@ use lib.Dec.{T}
 use lib.IntN.{ℤ, pos, negsuc, subℕ}
 use lib.Signed.{leZ, ltZ}
 use Rattle.flux.specs.Rule.{usable, halfWindow}
-use Rattle.flux.proofs.Differences.{up, down, as-sub, sub-same, le-of, sub-le, lt-not-le, not-lt-le}
+use Rattle.flux.proofs.Differences.{up, down, as-sub, sub-same}
+use Rattle.flux.proofs.Orders.{le-of, sub-le, lt-not-le, not-lt-le}
 use Rattle.flux.proofs.Lifted.{Kept, kept-none}
 
 sure : (x : Bool) → T x → x ≡ true

@@ -8,7 +8,7 @@ use native.Mathlib.Omega.{arith}
 use lib.IntN.{ℤ, pos}
 use lib.ListN.{length, getD, drop, replicate, length-append, length-replicate, drop-of-length-le}
 use Rattle.cells.proofs.Packing.{Cells}
-use Rattle.cells.proofs.Appending.{cells-append, cells-zeros, cells-one}
+use Rattle.cells.proofs.Zeros.{cells-append, cells-zeros, cells-one}
 use Rattle.flux.specs.Rule.{inRange, cellsAt, residualAfter, halfWindow}
 use Rattle.flux.specs.Separation.{cellsFor, windowsFrom, cellsIn, cellsOf}
 use Rattle.flux.proofs.Lifted.{Kept, kept-none, kept-next}

@@ -13,7 +13,8 @@ use Rattle.basis.specs.Lists.{listed, writtenOver}
 use Rattle.basis.proofs.Lists.{length-listed}
 use Rattle.cells.specs.CellsAndBytes.{bytesFor, packedByte, packed, cleared, withOne}
 use Rattle.cells.proofs.Packing.{Cells}
-use Rattle.cells.proofs.Appending.{cells-append, cells-zeros, packed-with-zeros, packed-with-one, cleared-front}
+use Rattle.cells.proofs.Zeros.{cells-append, cells-zeros, packed-with-zeros, cleared-front}
+use Rattle.cells.proofs.Appending.{packed-with-one}
 use Rattle.flux.specs.Rule.{inRange, cellsAt, residualAfter, halfWindow}
 use Rattle.flux.specs.Separation.{cellsFor, cellsOf}
 use Rattle.flux.proofs.Walk.{Walked, walk-start, start-passed, walk-next, next-passed, walk-within, walk-end}

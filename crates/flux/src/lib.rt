@@ -187,15 +187,15 @@ fn write_cells(timings: &[u32], needed: usize, cells: &mut [u8])
 {
     cells::clear(cells, needed);
     let mut at: usize = 0;
-    let mut state = Separator::new();
+    let mut separator = Separator::new();
     let mut i: usize = 0;
     while i < timings.len() {
-        let stepped = state.step(timings[i]);
+        let stepped = separator.step(timings[i]);
         let taken = stepped.taken;
         let count = cells_in(taken);
         put_cells(cells, at, count);
         at += count;
-        state = stepped.next;
+        separator = stepped.next;
         i += 1;
     }
 }

@@ -13,10 +13,10 @@ use Rattle.flux.proofs.write_cells.Statement.{statement}
 use Rattle.flux.proofs.write_cells.Tie as tie
 
 abbrev Inv-loop : tie.InvT-loop
-Inv-loop timings needed cells₀ at₀ state₀ i₀ cells at state i = Filled timings needed cells₀ cells at (state .residual) i
+Inv-loop timings needed cells₀ at₀ separator₀ i₀ cells at separator i = Filled timings needed cells₀ cells at (separator .residual) i
 
 abbrev μ-loop : tie.MeasureT-loop
-μ-loop timings needed cells₀ at₀ state₀ i₀ cells at state i = length timings - i
+μ-loop timings needed cells₀ at₀ separator₀ i₀ cells at separator i = length timings - i
 
 clear-requires : tie.Need-clear-requires Inv-loop μ-loop
 clear-requires c κs = search needs
@@ -59,10 +59,10 @@ module _ (c : tie.After-cells-in Inv-loop μ-loop) where
   ranged : inRange T₀ ≡ true
   ranged = all-in-range _ (A .pre .0) _ (c .before .before .before .loop-test .taken)
 
-  gives-n : c .cells-in .result ≡ cellsAt halfWindow (L .loop .state .residual) T₀
+  gives-n : c .cells-in .result ≡ cellsAt halfWindow (L .loop .separator .residual) T₀
   gives-n = c .cells-in .ensures _ (c .before .step .ensures .0 ∙ step-answers _ _ (L .loop .inv .walked .kept) ranged)
 
-  leaves-r : c .before .step .result .next .residual ≡ residualAfter halfWindow (L .loop .state .residual) T₀
+  leaves-r : c .before .step .result .next .residual ≡ residualAfter halfWindow (L .loop .separator .residual) T₀
   leaves-r = c .before .step .ensures .1 ∙ step-leaves _ _ (L .loop .inv .walked .kept) ranged
 
   within : L .loop .at + c .cells-in .result ≤ 131072
