@@ -15,6 +15,7 @@ use Rattle.cells.proofs.Words.{word-split, word-front, word-same}
 use Rattle.cells.proofs.Packing.{Cells}
 use Rattle.cells.proofs.Zeros.{word-zeros, cells-append, cells-one}
 
+-- the cells q, and q with a one after its last cell, which goes into byte `full` at bit `over`
 module _ (q : List ℕ) (bits : Cells q) where
   abbrev more : List ℕ
   more = q ++ (1 ∷ [])
@@ -103,7 +104,7 @@ module _ (q : List ℕ) (bits : Cells q) where
 
   -- "a one put at cell p", where p is the cell after those at the front of a buffer
   pub packed-with-one : (n : ℕ) (rest : List ℕ) → length q < 8 * n
-      → withOne (listed (packedByte q) n ++ rest) (length q) ≡ listed (packedByte more) n ++ rest
+      → withOne (listed (packedByte q) n ++ rest) (length q) ≡ listed (packedByte (q ++ (1 ∷ []))) n ++ rest
   unfolding withOne
   packed-with-one n rest h =
       let front = listed (packedByte q) n in

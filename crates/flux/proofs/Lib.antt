@@ -13,3 +13,4 @@ pub mod Tolerance
 pub mod Recovery
 pub mod Promise
 pub mod Witness
+pub mod Rows
