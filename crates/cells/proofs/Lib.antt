@@ -3,3 +3,5 @@ pub mod Words
 pub mod Standing
 pub mod Packing
 pub mod Ones
+pub mod Zeros
+pub mod Appending

@@ -1,0 +1,16 @@
+pub mod Differences
+pub mod Orders
+pub mod Lifted
+pub mod Timing
+pub mod Residual
+pub mod MachineStep
+pub mod Stepping
+pub mod FirstOut
+pub mod Walk
+pub mod Writing
+pub mod Judging
+pub mod Tolerance
+pub mod Recovery
+pub mod Promise
+pub mod Witness
+pub mod Rows
