@@ -1,6 +1,8 @@
 // The separator: from flux timings to cells. And the histogram of timings.
-use refusals::Refusal;
+mod counting;
 
+pub use counting::histogram_of;
+use refusals::Refusal;
 ghost use mathlib.Core.Path.{_≡_};
 ghost use mathlib.Core.List.{List, []};
 ghost use mathlib.Core.Bool.{true, false};
@@ -8,7 +10,7 @@ ghost use Prim.Native.Nat.{ℕ, _+_, _-_, _*_, _/_, _%_, _≤_, _<_};
 ghost use lib.ListN.{length, getD, replicate};
 ghost use lib.IntN.{ℤ, pos};
 ghost use Rattle.flux.specs.Rule.{halved, usable, inRange, takenAnswer, stepAnswer, stepResidual};
-ghost use Rattle.flux.specs.Separation.{answerOf, separation, cellsAfter};
+ghost use Rattle.flux.specs.Separation.{firstOut, answerOf, separation, cellsAfter};
 ghost use Rattle.flux.specs.Demand3.{Demand3};
 ghost use Rattle.flux.specs.Histogram.{countedAnswer, counting, countsAfter, sumOf};
 
@@ -54,4 +56,25 @@ pub enum Counted {
 pub struct Histogram {
     pub counts: [u32; 256],
     pub answer: Counted,
+}
+
+// Whether a timing is in its range.
+fn in_range(timing: u32) -> bool
+    ensures { λ r. ⌜ r ≡ inRange timing ⌝ }
+{
+    (SHORTEST_TIMING <= timing) & (timing <= LONGEST_TIMING)
+}
+
+// The index of the first timing outside its range; their number where there is none.
+pub fn first_out(timings: &[u32]) -> usize
+    ensures { λ r. ⌜ r ≡ firstOut (now (timings .entry)) ⌝ }
+{
+    let mut i: usize = 0;
+    while i < timings.len() {
+        if !in_range(timings[i]) {
+            return i;
+        }
+        i += 1;
+    }
+    i
 }

@@ -1,0 +1,12 @@
+-- `flux::in_range` meets its contract. Assumes nothing.
+use mathlib.Core.Path.{refl}
+use Rattle.flux.specs.Rule.{inRange}
+use Rattle.flux.proofs.in_range.Statement.{statement}
+use Rattle.flux.proofs.in_range.Tie as tie
+
+returns : tie.Need-returns
+unfolding inRange
+returns c = refl
+
+pub in-range-spec : {M : Type 1} → statement M
+in-range-spec = tie.close (tie.spec returns)
