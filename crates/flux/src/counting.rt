@@ -12,7 +12,7 @@ ghost use Rattle.flux.specs.declared.Counted.{Counted};
 
 // The count that a timing belongs to.
 fn bin(timing: u32) -> usize
-    ensures { λ r. ⌜ (r ≡ binOf timing) ⌝ }
+    ensures { λ r. ⌜ r ≡ binOf timing ⌝ }
 {
     let bin = (timing / 100) as usize;
     if bin < 255 { bin } else { 255 }

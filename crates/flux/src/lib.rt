@@ -59,7 +59,7 @@ pub struct Histogram {
 }
 
 // Whether a timing is in its range.
-fn in_range(timing: u32) -> bool
+fn is_timing(timing: u32) -> bool
     ensures { λ r. ⌜ r ≡ inRange timing ⌝ }
 {
     (SHORTEST_TIMING <= timing) & (timing <= LONGEST_TIMING)
@@ -71,7 +71,7 @@ pub fn first_out(timings: &[u32]) -> usize
 {
     let mut i: usize = 0;
     while i < timings.len() {
-        if !in_range(timings[i]) {
+        if !is_timing(timings[i]) {
             return i;
         }
         i += 1;

@@ -37,19 +37,19 @@ module _ (ts : List ℕ) (i : ℕ) (inv : i + firstOut (drop i ts) ≡ firstOut 
 loop-holds : tie.Need-loop-holds Inv-loop μ-loop
 loop-holds c = (search needs, zero-add _)
 
-mul-in-range : tie.Need-mul-in-range Inv-loop μ-loop
-mul-in-range c = search needs
+mul-is-timing : tie.Need-mul-is-timing Inv-loop μ-loop
+mul-is-timing c = search needs
 
-shared-slice-read-in-range : tie.Need-shared-slice-read-in-range Inv-loop μ-loop
-shared-slice-read-in-range c = search needs
+shared-slice-read-is-timing : tie.Need-shared-slice-read-is-timing Inv-loop μ-loop
+shared-slice-read-is-timing c = search needs
 
-in-range-requires : tie.Need-in-range-requires Inv-loop μ-loop
-in-range-requires c κs = search needs
+is-timing-requires : tie.Need-is-timing-requires Inv-loop μ-loop
+is-timing-requires c κs = search needs
 
 returns : tie.Need-returns Inv-loop μ-loop
 returns c =
     let l = c .before .before .before .before in
-    stops _ _ (l .loop .inv .1) (c .before .before .before .loop-test .taken) (sym (c .before .in-range .ensures) ∙ not-true _ (c .if1 .taken))
+    stops _ _ (l .loop .inv .1) (c .before .before .before .loop-test .taken) (sym (c .before .is-timing .ensures) ∙ not-true _ (c .if1 .taken))
 
 add-i : tie.Need-add-i Inv-loop μ-loop
 add-i c = search needs
@@ -60,7 +60,7 @@ loop-less c = search needs
 loop-again : tie.Need-loop-again Inv-loop μ-loop
 loop-again c =
     let l = c .before .before .before .before in
-    (search needs, goes-on _ _ (l .loop .inv .1) (c .before .before .before .loop-test .taken) (sym (c .before .in-range .ensures) ∙ not-false _ (c .if1 .left)))
+    (search needs, goes-on _ _ (l .loop .inv .1) (c .before .before .before .loop-test .taken) (sym (c .before .is-timing .ensures) ∙ not-false _ (c .if1 .left)))
 
 returns-2 : tie.Need-returns-2 Inv-loop μ-loop
 returns-2 c = ends _ _ (c .before .loop .inv .1) (c .loop-test .left)
@@ -72,9 +72,9 @@ first-out-spec =
     Inv-loop
     μ-loop
     loop-holds
-    mul-in-range
-    shared-slice-read-in-range
-    in-range-requires
+    mul-is-timing
+    shared-slice-read-is-timing
+    is-timing-requires
     returns
     add-i
     loop-less
