@@ -1,7 +1,10 @@
 // The separator: from flux timings to cells. And the histogram of timings.
 mod counting;
+mod lent;
 
 pub use counting::histogram_of;
+pub use lent::step_in_place;
+pub use lent::step_lent;
 use refusals::Refusal;
 ghost use mathlib.Core.Path.{_≡_};
 ghost use mathlib.Core.List.{List, []};
@@ -23,6 +26,15 @@ pub const MOST_TIMINGS: usize = 65_536;
 
 // The most cells that one call gives.
 pub const MOST_CELLS: usize = 131_072;
+
+// The window, its half, and the residuals that a step can leave, in nanoseconds.
+const WINDOW: i32 = 2000;
+
+const HALF_WINDOW: i32 = 1000;
+
+const LEAST_RESIDUAL: i32 = -500;
+
+const MOST_RESIDUAL: i32 = 499;
 
 // The separator's state: the residual, in nanoseconds.
 pub struct Separator {
@@ -63,6 +75,58 @@ fn is_timing(timing: u32) -> bool
     ensures { λ r. ⌜ r ≡ inRange timing ⌝ }
 {
     (SHORTEST_TIMING <= timing) & (timing <= LONGEST_TIMING)
+}
+
+// Half of an offset, rounded towards zero.
+fn half(offset: i32) -> i32
+    ensures { λ r. ⌜ r ≡ halved offset ⌝ }
+{
+    offset / 2
+}
+
+// A residual that is outside -500 to 499 counts as 0.
+fn in_range(residual: i32) -> i32
+    ensures { λ r. ⌜ r ≡ usable residual ⌝ }
+{
+    if residual < LEAST_RESIDUAL {
+        return 0;
+    }
+    if MOST_RESIDUAL < residual {
+        return 0;
+    }
+    residual
+}
+
+impl Separator {
+    pub fn new() -> Self
+        ensures { λ r. ⌜ r .residual ≡ pos 0 ⌝ }
+    {
+        Separator { residual: 0 }
+    }
+
+    // One timing.
+    pub fn step(self, timing: u32) -> Stepped
+        ensures answer { λ r. ⌜ takenAnswer (r .taken) ≡ stepAnswer (self .residual) timing ⌝ }
+        ensures state { λ r. ⌜ r .next .residual ≡ stepResidual (self .residual) timing ⌝ }
+    {
+        if !is_timing(timing) {
+            return Stepped {
+                taken: Taken::Refused(Refusal::TimingOutOfRange(0)),
+                next: self,
+            };
+        }
+        let residual = self.residual;
+        let r = in_range(residual);
+        let u = (timing as i32) + r;
+        let n = (u + HALF_WINDOW) / WINDOW;
+        let e = u - WINDOW * n;
+        let cells = n as u32;
+        let next = Separator { residual: half(e) };
+        Stepped {
+            taken: Taken::Cells(cells),
+            next: next,
+        }
+    }
 }
 
 // The index of the first timing outside its range; their number where there is none.
