@@ -1,4 +1,11 @@
 // The separator: from flux timings to cells. And the histogram of timings.
+mod counting;
+
+mod lent;
+
+pub use counting::histogram_of;
+pub use lent::step_in_place;
+pub use lent::step_lent;
 use refusals::Refusal;
 ghost use mathlib.Core.Path.{_≡_};
 ghost use mathlib.Core.List.{List, []};
@@ -13,7 +20,6 @@ ghost use Rattle.cells.specs.CellsAndBytes.{bytesFor, packed, withOne};
 ghost use Rattle.flux.specs.Rule.{halved, usable, inRange, takenAnswer, stepAnswer, stepResidual};
 ghost use Rattle.flux.specs.Separation.{firstOut, cellsOf, answerOf, separation, cellsAfter};
 ghost use Rattle.flux.specs.Demand3.{Demand3};
-ghost use Rattle.flux.specs.Histogram.{countedAnswer, counting, countsAfter, sumOf};
 
 // The shortest and the longest timing, in nanoseconds, and the most timings of one call.
 pub const SHORTEST_TIMING: u32 = 1;

@@ -1,0 +1,31 @@
+-- 01's worked examples hold, each by computation. Assumes nothing.
+use mathlib.Core.Path.{refl}
+use Rattle.basis.specs.Lists.{listed}
+use Rattle.cells.specs.CellsAndBytes.{word, packedByte, packed}
+use Rattle.crc.specs.CheckWord.{afterBit, afterBits, afterByte, checkWordFrom}
+use Rattle.flux.specs.Rule.{reading, cellsAt, offsetAt, halved, residualAfter}
+use Rattle.flux.specs.Separation.{windowsFrom}
+use Rattle.mfm.specs.Coding.{dataBits, cellsOf, encoded}
+use Rattle.worked_examples.specs.WorkedExamples.{residualsFrom, AllHold, table}
+
+pub table-holds : AllHold table
+unfolding listed word packedByte packed afterBit afterBits afterByte checkWordFrom reading cellsAt offsetAt halved residualAfter windowsFrom dataBits cellsOf encoded residualsFrom
+table-holds = (
+  (refl, refl, refl),
+  (
+    (refl, refl, refl),
+    (
+      (refl, refl, refl),
+      (
+        (refl, refl, refl),
+        (
+          (refl, refl, refl),
+          (
+            (refl, refl, refl),
+            (refl, (refl, (refl, (refl, (refl, (refl, tt)))))),
+          ),
+        ),
+      ),
+    ),
+  ),
+)

@@ -1,0 +1,49 @@
+-- 01, "What every statement must pin": "Proved as a single table under a single statement: the six separator rows, the 4E and two 00
+-- codings, and the three check words." The statement is `AllHold table`; `table-holds`, in proofs/Table, proves it. Assumes nothing.
+use Prim.Native.Nat.{ℕ}
+use mathlib.Core.List.{List, [], _∷_, map}
+use mathlib.Core.Path.{_≡_}
+use lib.IntN.{ℤ, pos, negsuc}
+use Rattle.crc.specs.CheckWord.{checkWord}
+use Rattle.flux.specs.Rule.{residualAfter, halfWindow}
+use Rattle.flux.specs.Separation.{Window, windowsOf}
+use Rattle.mfm.specs.Coding.{encoded}
+
+-- the residual after each timing, from the residual r on
+unfoldable pub residualsFrom : ℤ → List ℕ → List ℤ
+residualsFrom r [] = []
+residualsFrom r (t ∷ ts) = residualAfter halfWindow r t ∷ residualsFrom (residualAfter halfWindow r t) ts
+
+-- an example: a row of the separator's table, with n, e and "r after" of each timing; a byte coded after a bit; a check word
+pub data Example : Type 0 where
+  separates : List ℕ → List ℕ → List ℤ → List ℤ → Example
+  codes : ℕ → ℕ → List ℕ → Example
+  checks : List ℕ → ℕ → Example
+
+-- what an example says
+abbrev pub Holds : Example → Type 0
+Holds (separates timings n e r) =
+    (map (λ (w : Window). w .cells) (windowsOf timings) ≡ n) × (map (λ (w : Window). w .offset) (windowsOf timings) ≡ e) × (residualsFrom (pos 0) timings ≡ r)
+Holds (codes before byte cells) = encoded before (byte ∷ []) ≡ cells
+Holds (checks bytes word) = checkWord bytes ≡ word
+
+abbrev pub AllHold : List Example → Type 0
+AllHold [] = Unit
+AllHold (example ∷ examples) = Holds example × AllHold examples
+
+-- the table, in 01's order within each kind; negsuc k is -(k + 1)
+abbrev pub table : List Example
+table =
+    separates (4900 ∷ 4000 ∷ []) (2 ∷ 2 ∷ []) (pos 900 ∷ pos 450 ∷ []) (pos 450 ∷ pos 225 ∷ [])
+    ∷ separates (4999 ∷ []) (2 ∷ []) (pos 999 ∷ []) (pos 499 ∷ [])
+    ∷ separates (5000 ∷ 5000 ∷ []) (3 ∷ 2 ∷ []) (negsuc 999 ∷ pos 500 ∷ []) (negsuc 499 ∷ pos 250 ∷ [])
+    ∷ separates (5001 ∷ []) (3 ∷ []) (negsuc 998 ∷ []) (negsuc 498 ∷ [])
+    ∷ separates (500 ∷ 3500 ∷ []) (0 ∷ 2 ∷ []) (pos 500 ∷ negsuc 249 ∷ []) (pos 250 ∷ negsuc 124 ∷ [])
+    ∷ separates (10000000 ∷ []) (5000 ∷ []) (pos 0 ∷ []) (pos 0 ∷ [])
+    ∷ codes 0 0x4E (0x92 ∷ 0x54 ∷ [])
+    ∷ codes 0 0x00 (0xAA ∷ 0xAA ∷ [])
+    ∷ codes 1 0x00 (0x2A ∷ 0xAA ∷ [])
+    ∷ checks (0xA1 ∷ 0xA1 ∷ 0xA1 ∷ []) 0xCDB4
+    ∷ checks (0xA1 ∷ 0xA1 ∷ 0xA1 ∷ 0xFE ∷ []) 0xB230
+    ∷ checks (0xA1 ∷ 0xA1 ∷ 0xA1 ∷ 0xFB ∷ []) 0xE295
+    ∷ []
