@@ -1,6 +1,5 @@
 // The separator: from flux timings to cells. And the histogram of timings.
 mod counting;
-
 mod lent;
 
 pub use counting::histogram_of;
@@ -8,12 +7,11 @@ pub use lent::step_in_place;
 pub use lent::step_lent;
 use refusals::Refusal;
 ghost use mathlib.Core.Path.{_≡_};
-ghost use mathlib.Core.List.{List, []};
-ghost use mathlib.Core.Bool.{true, false, cond};
-ghost use Prim.Native.Nat.{ℕ, _+_, _-_, _*_, _/_, _%_, _≤_, _<_};
+ghost use mathlib.Core.Bool.{cond};
+ghost use Prim.Native.Nat.{ℕ, _+_, _-_, _*_, _/_, _≤_, _<_};
 ghost use lib.Dec.{eqb};
-ghost use lib.ListN.{length, getD, replicate};
-ghost use lib.IntN.{ℤ, pos};
+ghost use lib.ListN.{length};
+ghost use lib.IntN.{pos};
 ghost use Rattle.basis.specs.Lists.{writtenOver};
 ghost use Rattle.refusals.specs.RefusedCalls.Answer.{gives};
 ghost use Rattle.cells.specs.CellsAndBytes.{bytesFor, packed, withOne};
@@ -30,15 +28,6 @@ pub const MOST_TIMINGS: usize = 65_536;
 
 // The most cells that one call gives.
 pub const MOST_CELLS: usize = 131_072;
-
-// The window, its half, and the residuals that a step can leave, in nanoseconds.
-const WINDOW: i32 = 2000;
-
-const HALF_WINDOW: i32 = 1000;
-
-const LEAST_RESIDUAL: i32 = -500;
-
-const MOST_RESIDUAL: i32 = 499;
 
 // The separator's state: the residual, in nanoseconds.
 pub struct Separator {
@@ -69,36 +58,10 @@ pub enum Counted {
     Refused(Refusal),
 }
 
+// A histogram: 256 counts, all zeros beside a refusal, and what the call answers.
 pub struct Histogram {
     pub counts: [u32; 256],
     pub answer: Counted,
-}
-
-// Whether a timing is in its range.
-fn is_timing(timing: u32) -> bool
-    ensures { λ r. ⌜ r ≡ inRange timing ⌝ }
-{
-    (SHORTEST_TIMING <= timing) & (timing <= LONGEST_TIMING)
-}
-
-// Half of an offset, rounded towards zero.
-fn half(offset: i32) -> i32
-    ensures { λ r. ⌜ r ≡ halved offset ⌝ }
-{
-    offset / 2
-}
-
-// A residual that is outside -500 to 499 counts as 0.
-fn in_range(residual: i32) -> i32
-    ensures { λ r. ⌜ r ≡ usable residual ⌝ }
-{
-    if residual < LEAST_RESIDUAL {
-        return 0;
-    }
-    if MOST_RESIDUAL < residual {
-        return 0;
-    }
-    residual
 }
 
 impl Separator {
@@ -133,79 +96,6 @@ impl Separator {
     }
 }
 
-// The index of the first timing outside its range; their number where there is none.
-pub fn first_out(timings: &[u32]) -> usize
-    ensures { λ r. ⌜ r ≡ firstOut (now (timings .entry)) ⌝ }
-{
-    let mut i: usize = 0;
-    while i < timings.len() {
-        if !is_timing(timings[i]) {
-            return i;
-        }
-        i += 1;
-    }
-    i
-}
-
-// The number of cells that a step gave; 0 where it refused.
-fn cells_in(taken: Taken) -> usize
-    ensures { λ r. ⌜ ((n : ℕ) → takenAnswer taken ≡ gives n → r ≡ n) ⌝ }
-{
-    match taken {
-        Taken::Cells(cells) => cells as usize,
-        Taken::Refused(_) => 0,
-    }
-}
-
-// The number of cells in all of timings that are in range.
-fn count_cells(timings: &[u32]) -> usize
-    requires { ⌜ (length (now timings) ≤ 65536) × (firstOut (now timings) ≡ length (now timings)) ⌝ }
-    ensures { λ r. ⌜ r ≡ length (cellsOf (now (timings .entry))) ⌝ }
-{
-    let mut count: usize = 0;
-    let mut state = Separator::new();
-    let mut i: usize = 0;
-    while i < timings.len() {
-        let stepped = state.step(timings[i]);
-        let taken = stepped.taken;
-        count += cells_in(taken);
-        state = stepped.next;
-        i += 1;
-    }
-    count
-}
-
-// Puts the cells of a timing at cell `at`, where zeros stand: all that changes is a one at the last of them.
-fn put_cells(cells: &mut [u8], at: usize, count: usize)
-    requires { ⌜ at + count ≤ 131072 ⌝ }
-    ensures { λ _. ⌜ now (cells .exit) ≡ cond (eqb count 0) (now (cells .entry)) (withOne (now (cells .entry)) (at + (count - 1))) ⌝ }
-{
-    if count == 0 {
-        return;
-    }
-    cells::put_one(cells, at + (count - 1));
-}
-
-// Writes the cells of timings that are in range to the front of a buffer that has room for them.
-fn write_cells(timings: &[u32], needed: usize, cells: &mut [u8])
-    requires { ⌜ (firstOut (now timings) ≡ length (now timings)) × (length (cellsOf (now timings)) ≤ 131072) × (needed ≡ bytesFor (length (cellsOf (now timings)))) × (needed ≤ length (now cells)) ⌝ }
-    ensures { λ _. ⌜ now (cells .exit) ≡ writtenOver (packed (cellsOf (now (timings .entry)))) (now (cells .entry)) ⌝ }
-{
-    cells::clear(cells, needed);
-    let mut at: usize = 0;
-    let mut separator = Separator::new();
-    let mut i: usize = 0;
-    while i < timings.len() {
-        let stepped = separator.step(timings[i]);
-        let taken = stepped.taken;
-        let count = cells_in(taken);
-        put_cells(cells, at, count);
-        at += count;
-        separator = stepped.next;
-        i += 1;
-    }
-}
-
 // The whole list of timings, to cells at the front of a buffer.
 pub fn separate(timings: &[u32], cells: &mut [u8]) -> Separated
     ensures answer { λ r. ⌜ answerOf r ≡ separation (now (timings .entry)) (length (now (cells .entry))) ⌝ }
@@ -233,4 +123,113 @@ pub fn separate(timings: &[u32], cells: &mut [u8]) -> Separated
     }
     write_cells(timings, needed, cells);
     Separated::Cells(count)
+}
+
+// The index of the first timing outside its range; their number where there is none.
+pub fn first_out(timings: &[u32]) -> usize
+    ensures { λ r. ⌜ r ≡ firstOut (now (timings .entry)) ⌝ }
+{
+    let mut i: usize = 0;
+    while i < timings.len() {
+        if !is_timing(timings[i]) {
+            return i;
+        }
+        i += 1;
+    }
+    i
+}
+
+// The window, its half, and the residuals that a step can leave, in nanoseconds.
+const WINDOW: i32 = 2000;
+
+const HALF_WINDOW: i32 = 1000;
+
+const LEAST_RESIDUAL: i32 = -500;
+
+const MOST_RESIDUAL: i32 = 499;
+
+// Whether a timing is in its range.
+fn is_timing(timing: u32) -> bool
+    ensures { λ r. ⌜ r ≡ inRange timing ⌝ }
+{
+    (SHORTEST_TIMING <= timing) & (timing <= LONGEST_TIMING)
+}
+
+// A residual that is outside -500 to 499 counts as 0.
+fn in_range(residual: i32) -> i32
+    ensures { λ r. ⌜ r ≡ usable residual ⌝ }
+{
+    if residual < LEAST_RESIDUAL {
+        return 0;
+    }
+    if MOST_RESIDUAL < residual {
+        return 0;
+    }
+    residual
+}
+
+// Half of an offset, rounded towards zero.
+fn half(offset: i32) -> i32
+    ensures { λ r. ⌜ r ≡ halved offset ⌝ }
+{
+    offset / 2
+}
+
+// The number of cells in all of timings that are in range.
+fn count_cells(timings: &[u32]) -> usize
+    requires { ⌜ (length (now timings) ≤ 65536) × (firstOut (now timings) ≡ length (now timings)) ⌝ }
+    ensures { λ r. ⌜ r ≡ length (cellsOf (now (timings .entry))) ⌝ }
+{
+    let mut count: usize = 0;
+    let mut state = Separator::new();
+    let mut i: usize = 0;
+    while i < timings.len() {
+        let stepped = state.step(timings[i]);
+        let taken = stepped.taken;
+        count += cells_in(taken);
+        state = stepped.next;
+        i += 1;
+    }
+    count
+}
+
+// Writes the cells of timings that are in range to the front of a buffer that has room for them.
+fn write_cells(timings: &[u32], needed: usize, cells: &mut [u8])
+    requires { ⌜ (firstOut (now timings) ≡ length (now timings)) × (length (cellsOf (now timings)) ≤ 131072) × (needed ≡ bytesFor (length (cellsOf (now timings)))) × (needed ≤ length (now cells)) ⌝ }
+    ensures { λ _. ⌜ now (cells .exit) ≡ writtenOver (packed (cellsOf (now (timings .entry)))) (now (cells .entry)) ⌝ }
+{
+    cells::clear(cells, needed);
+    let mut at: usize = 0;
+    let mut separator = Separator::new();
+    let mut i: usize = 0;
+    while i < timings.len() {
+        let stepped = separator.step(timings[i]);
+        let taken = stepped.taken;
+        let count = cells_in(taken);
+        put_cells(cells, at, count);
+        at += count;
+        separator = stepped.next;
+        i += 1;
+    }
+}
+
+// Puts the cells of a timing at cell `at`, where zeros stand: all that changes is a one at the last of them.
+fn put_cells(cells: &mut [u8], at: usize, count: usize)
+    requires { ⌜ at + count ≤ 131072 ⌝ }
+    ensures { λ _. ⌜ now (cells .exit) ≡ cond (eqb count 0) (now (cells .entry)) (withOne (now (cells .entry)) (at + (count - 1))) ⌝ }
+{
+    if count == 0 {
+        return;
+    }
+    cells::put_one(cells, at + (count - 1));
+}
+
+// The number of cells that a step gave; 0 where it refused.
+fn cells_in(taken: Taken) -> usize
+    ensures { λ r. ⌜ ((n : ℕ) → takenAnswer taken ≡ gives n → r ≡ n) ⌝ }
+{
+    match taken {
+        Taken::Cells(cells) => cells as usize,
+        Taken::Refused(_) => 0,
+    }
 }

@@ -1,5 +1,9 @@
 -- Answers as C callers get them: a number, 0 for an accepted call and else 01's refusal, and a value beside it. Assumes nothing.
 use Prim.Native.Nat.{ℕ}
+use mathlib.Core.List.{List}
+use lib.ListN.{length, take}
+use Rattle.basis.specs.Lists.{writtenOver}
+use Rattle.flux.specs.Histogram.{counting, countsAfter}
 use Rattle.refusals.specs.RefusedCalls.{Answer}
 use Rattle.refusals.specs.RefusedCalls.Answer.{gives, refused}
 
@@ -12,3 +16,7 @@ numberIn (refused number value) = number
 abbrev pub valueIn : Answer ℕ → ℕ
 valueIn (gives count) = count
 valueIn (refused number value) = value
+
+-- a lent list of counts after the histogram's call: the 256 counts at its front, or as many as it has room for
+abbrev pub countsLent : List ℕ → List ℕ → List ℕ
+countsLent timings counts = writtenOver (take (length counts) (countsAfter (counting timings) timings)) counts

@@ -5,13 +5,24 @@
 //
 // What the boundary asks of a caller in another language: each address is valid for its length, lent memory does not
 // overlap what else is passed, and a bool is 0 or 1. The routines ask nothing of the values.
+use flux::Counted;
+use flux::Separated;
+use flux::Separator;
+use flux::Taken;
 use mfm::Written;
 ghost use mathlib.Core.Path.{_≡_};
 ghost use mathlib.Core.Bool.{cond};
+ghost use Prim.Native.Nat.{_≤_, min};
+ghost use lib.ListN.{length, take};
+ghost use Rattle.basis.specs.Lists.{writtenOver};
 ghost use Rattle.cells.specs.CellsAndBytes.{cell, wordAt, leastPlace, cleared, withOne};
 ghost use Rattle.crc.specs.CheckWord.{checkWordFrom, checkWord};
 ghost use Rattle.mfm.specs.Calls.{answerOf, codingAnswer, decodingAnswer, cellsAfter, bytesAfter};
-ghost use Rattle.thikbromu.specs.Numbers.{numberIn, valueIn};
+ghost use Rattle.flux.specs.Rule.{takenAnswer, stepAnswer, stepResidual};
+ghost use Rattle.flux.specs.Separation.{answerOf as separatedAnswer, separation, cellsAfter as separatedCells};
+ghost use Rattle.flux.specs.Demand3.{Demand3};
+ghost use Rattle.flux.specs.Histogram.{countedAnswer, counting};
+ghost use Rattle.thikbromu.specs.Numbers.{numberIn, valueIn, countsLent};
 
 // Cell p of a track of n cells, counted on past n.
 #[no_mangle]
@@ -116,4 +127,138 @@ pub extern "C" fn thikbromu_decode(cells: &[u8], bytes: &mut [u8], value: &mut u
     ensures buffer { λ _. ⌜ now (bytes .exit) ≡ bytesAfter (now (cells .entry)) (now (bytes .entry)) ⌝ }
 {
     told(mfm::decode(cells, bytes), value)
+}
+
+// One step of the separator from a residual, its state; `value` is the number of cells.
+#[no_mangle]
+pub extern "C" fn thikbromu_step(residual: i32, timing: u32, value: &mut usize) -> u32
+    ensures number { λ r. ⌜ r ≡ numberIn (stepAnswer residual timing) ⌝ }
+    ensures value { λ _. ⌜ now (value .exit) ≡ valueIn (stepAnswer residual timing) ⌝ }
+{
+    let state = Separator { residual: residual };
+    let stepped = state.step(timing);
+    let taken = stepped.taken;
+    told_taken(taken, value)
+}
+
+// The residual after that step, which is the same beside a refusal.
+#[no_mangle]
+pub extern "C" fn thikbromu_residual_after(residual: i32, timing: u32) -> i32
+    ensures { λ r. ⌜ r ≡ stepResidual residual timing ⌝ }
+{
+    let state = Separator { residual: residual };
+    let after = state.step(timing);
+    let next = after.next;
+    next.residual
+}
+
+// As thikbromu_step, by way of a state that is lent.
+#[no_mangle]
+pub extern "C" fn thikbromu_step_lent(residual: i32, timing: u32, value: &mut usize) -> u32
+    ensures number { λ r. ⌜ r ≡ numberIn (stepAnswer residual timing) ⌝ }
+    ensures value { λ _. ⌜ now (value .exit) ≡ valueIn (stepAnswer residual timing) ⌝ }
+{
+    let stepped = flux::step_lent(residual, timing);
+    let taken = stepped.taken;
+    told_taken(taken, value)
+}
+
+// As thikbromu_residual_after, by way of a state that is lent.
+#[no_mangle]
+pub extern "C" fn thikbromu_residual_after_lent(residual: i32, timing: u32) -> i32
+    ensures { λ r. ⌜ r ≡ stepResidual residual timing ⌝ }
+{
+    let after = flux::step_lent(residual, timing);
+    let next = after.next;
+    next.residual
+}
+
+fn told_taken(taken: Taken, value: &mut usize) -> u32
+    ensures { λ r. ⌜ (r ≡ numberIn (takenAnswer taken)) × (now (value .exit) ≡ valueIn (takenAnswer taken)) ⌝ }
+{
+    match taken {
+        Taken::Cells(count) => {
+            *value = count as usize;
+            0
+        }
+        Taken::Refused(refusal) => {
+            *value = refusal.value();
+            refusal.number()
+        }
+    }
+}
+
+// The separator on a list of timings; `value` is the number of cells, packed at the front of `cells`.
+#[no_mangle]
+pub extern "C" fn thikbromu_separate(timings: &[u32], cells: &mut [u8], value: &mut usize) -> u32
+    ensures number { λ r. ⌜ r ≡ numberIn (separation (now (timings .entry)) (length (now (cells .entry)))) ⌝ }
+    ensures value { λ _. ⌜ now (value .exit) ≡ valueIn (separation (now (timings .entry)) (length (now (cells .entry)))) ⌝ }
+    ensures buffer { λ _. ⌜ now (cells .exit) ≡ separatedCells (now (timings .entry)) (now (cells .entry)) ⌝ }
+    ensures demand3 { λ _. ⌜ Demand3 (now (timings .entry)) (separation (now (timings .entry)) (length (now (cells .entry)))) (now (cells .entry)) (now (cells .exit)) ⌝ }
+{
+    told_separated(flux::separate(timings, cells), value)
+}
+
+fn told_separated(separated: Separated, value: &mut usize) -> u32
+    ensures { λ r. ⌜ (r ≡ numberIn (separatedAnswer separated)) × (now (value .exit) ≡ valueIn (separatedAnswer separated)) ⌝ }
+{
+    match separated {
+        Separated::Cells(count) => {
+            *value = count;
+            0
+        }
+        Separated::Refused(refusal) => {
+            *value = refusal.value();
+            refusal.number()
+        }
+    }
+}
+
+// The histogram of timings: 256 counts to the front of `counts`, or as many as it has room for; `value` is the number of
+// timings. The counts are all zeros beside a refusal.
+#[no_mangle]
+pub extern "C" fn thikbromu_histogram(timings: &[u32], counts: &mut [u32], value: &mut usize) -> u32
+    ensures number { λ r. ⌜ r ≡ numberIn (counting (now (timings .entry))) ⌝ }
+    ensures value { λ _. ⌜ now (value .exit) ≡ valueIn (counting (now (timings .entry))) ⌝ }
+    ensures counts { λ _. ⌜ now (counts .exit) ≡ countsLent (now (timings .entry)) (now (counts .entry)) ⌝ }
+{
+    let histogram = flux::histogram_of(timings);
+    let made = histogram.counts;
+    copy_numbers(&made, counts);
+    let answer = histogram.answer;
+    told_counted(answer, value)
+}
+
+// The smaller of two numbers.
+fn smaller(a: usize, b: usize) -> usize
+    ensures { λ r. ⌜ (r ≡ min a b) × (r ≤ a) × (r ≤ b) ⌝ }
+{
+    if a < b { a } else { b }
+}
+
+// Copies numbers to the front of a lent list, as many as it has room for.
+fn copy_numbers(numbers: &[u32], list: &mut [u32])
+    ensures { λ _. ⌜ now (list .exit) ≡ writtenOver (take (length (now (list .entry))) (now (numbers .entry))) (now (list .entry)) ⌝ }
+{
+    let end = smaller(list.len(), numbers.len());
+    let mut i: usize = 0;
+    while i < end {
+        list[i] = numbers[i];
+        i += 1;
+    }
+}
+
+fn told_counted(counted: Counted, value: &mut usize) -> u32
+    ensures { λ r. ⌜ (r ≡ numberIn (countedAnswer counted)) × (now (value .exit) ≡ valueIn (countedAnswer counted)) ⌝ }
+{
+    match counted {
+        Counted::Timings(count) => {
+            *value = count;
+            0
+        }
+        Counted::Refused(refusal) => {
+            *value = refusal.value();
+            refusal.number()
+        }
+    }
 }

@@ -25,7 +25,7 @@ fn code_case(group: &mut Group, bytes: &[u8], before: bool, room: usize) {
     let second = mfm::code(bytes, before, room);
     let written = second.clone().unwrap_or_default();
     group.same(
-        (ours, lent.into_bytes(), input),
+        (ours, lent.into_all(), input),
         (second.map(|cells| cells.len()), Lent::expected(room, &written), bytes.to_vec()),
         || format!("{} bytes {:02X?}, before {before}, room {room}", bytes.len(), &bytes[..bytes.len().min(16)]),
     );
@@ -38,7 +38,7 @@ fn decode_case(group: &mut Group, cells: &[u8], room: usize) {
     let second = mfm::decode(cells, room);
     let written = second.clone().unwrap_or_default();
     group.same(
-        (ours, lent.into_bytes(), input),
+        (ours, lent.into_all(), input),
         (second.map(|bytes| bytes.len()), Lent::expected(room, &written), cells.to_vec()),
         || format!("{} bytes of cells {:02X?}, room {room}", cells.len(), &cells[..cells.len().min(16)]),
     );

@@ -36,6 +36,24 @@ extern "C" {
         room: usize,
         value: *mut usize,
     ) -> u32;
+    fn thikbromu_step(residual: i32, timing: u32, value: *mut usize) -> u32;
+    fn thikbromu_residual_after(residual: i32, timing: u32) -> i32;
+    fn thikbromu_step_lent(residual: i32, timing: u32, value: *mut usize) -> u32;
+    fn thikbromu_residual_after_lent(residual: i32, timing: u32) -> i32;
+    fn thikbromu_separate(
+        timings: *const u32,
+        length: usize,
+        cells: *mut u8,
+        room: usize,
+        value: *mut usize,
+    ) -> u32;
+    fn thikbromu_histogram(
+        timings: *const u32,
+        length: usize,
+        counts: *mut u32,
+        room: usize,
+        value: *mut usize,
+    ) -> u32;
 }
 
 pub fn cell(bytes: &[u8], n: usize, p: usize) -> u64 {
@@ -93,6 +111,36 @@ pub fn decode(cells: &[u8], bytes: &mut [u8]) -> Result<usize, Refusal> {
     let mut value = usize::MAX;
     let number = unsafe {
         thikbromu_decode(cells.as_ptr(), cells.len(), bytes.as_mut_ptr(), bytes.len(), &mut value)
+    };
+    answer(number, value)
+}
+
+/// A step: what it answers, and the residual afterwards.
+pub fn step(residual: i32, timing: u32) -> (Result<usize, Refusal>, i32) {
+    let mut value = usize::MAX;
+    let number = unsafe { thikbromu_step(residual, timing, &mut value) };
+    (answer(number, value), unsafe { thikbromu_residual_after(residual, timing) })
+}
+
+/// A step by way of a state that is lent.
+pub fn step_lent(residual: i32, timing: u32) -> (Result<usize, Refusal>, i32) {
+    let mut value = usize::MAX;
+    let number = unsafe { thikbromu_step_lent(residual, timing, &mut value) };
+    (answer(number, value), unsafe { thikbromu_residual_after_lent(residual, timing) })
+}
+
+pub fn separate(timings: &[u32], cells: &mut [u8]) -> Result<usize, Refusal> {
+    let mut value = usize::MAX;
+    let number = unsafe {
+        thikbromu_separate(timings.as_ptr(), timings.len(), cells.as_mut_ptr(), cells.len(), &mut value)
+    };
+    answer(number, value)
+}
+
+pub fn histogram(timings: &[u32], counts: &mut [u32]) -> Result<usize, Refusal> {
+    let mut value = usize::MAX;
+    let number = unsafe {
+        thikbromu_histogram(timings.as_ptr(), timings.len(), counts.as_mut_ptr(), counts.len(), &mut value)
     };
     answer(number, value)
 }

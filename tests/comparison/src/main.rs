@@ -4,6 +4,7 @@
 //! The last line is 'N passed, M failed'; the exit status is 1 where something failed.
 
 mod coding;
+mod flux;
 mod library;
 mod report;
 mod track_cells;
@@ -19,6 +20,11 @@ fn main() {
     coding::coding(&mut totals);
     coding::decoding(&mut totals);
     coding::round_trip(&mut totals);
+    flux::printed(&mut totals);
+    flux::steps(&mut totals);
+    flux::lists(&mut totals);
+    flux::limits(&mut totals);
+    flux::histograms(&mut totals);
     println!("{} passed, {} failed", totals.0, totals.1);
     if totals.1 > 0 {
         std::process::exit(1);

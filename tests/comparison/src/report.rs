@@ -47,36 +47,53 @@ fn short<T: Debug>(value: &T) -> String {
     }
 }
 
-/// A buffer to lend, with bytes around it that no call may touch. All bytes are filled with a pattern first.
-pub struct Lent {
-    all: Vec<u8>,
+/// A number that a lent buffer can hold.
+pub trait Element: Copy {
+    fn from_pattern(pattern: u32) -> Self;
+}
+
+impl Element for u8 {
+    fn from_pattern(pattern: u32) -> u8 {
+        pattern as u8
+    }
+}
+
+impl Element for u32 {
+    fn from_pattern(pattern: u32) -> u32 {
+        pattern
+    }
+}
+
+/// A buffer to lend, with elements around it that no call may touch. All are filled with a pattern first.
+pub struct Lent<T> {
+    all: Vec<T>,
     room: usize,
 }
 
-/// The bytes on each side of the lent part.
+/// The elements on each side of the lent part.
 const MARGIN: usize = 64;
 
-fn pattern(i: usize) -> u8 {
-    (i.wrapping_mul(73) ^ (i >> 3) ^ 0xA5) as u8
+fn pattern(i: usize) -> u32 {
+    (i.wrapping_mul(0x9E37_0049) ^ (i >> 3) ^ 0xA5) as u32
 }
 
-impl Lent {
-    pub fn new(room: usize) -> Lent {
-        Lent { all: (0..room + 2 * MARGIN).map(pattern).collect(), room }
+impl<T: Element> Lent<T> {
+    pub fn new(room: usize) -> Lent<T> {
+        Lent { all: (0..room + 2 * MARGIN).map(|i| T::from_pattern(pattern(i))).collect(), room }
     }
 
     /// The part that is lent.
-    pub fn part(&mut self) -> &mut [u8] {
+    pub fn part(&mut self) -> &mut [T] {
         &mut self.all[MARGIN..MARGIN + self.room]
     }
 
-    /// All bytes, the margins with them.
-    pub fn into_bytes(self) -> Vec<u8> {
+    /// All elements, the margins with them.
+    pub fn into_all(self) -> Vec<T> {
         self.all
     }
 
-    /// All bytes as they should be with `front` written at the start of the lent part and nothing else changed.
-    pub fn expected(room: usize, front: &[u8]) -> Vec<u8> {
+    /// All elements as they should be with `front` written at the start of the lent part and nothing else changed.
+    pub fn expected(room: usize, front: &[T]) -> Vec<T> {
         let mut lent = Lent::new(room);
         lent.part()[..front.len()].copy_from_slice(front);
         lent.all

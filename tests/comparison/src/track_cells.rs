@@ -138,14 +138,14 @@ pub fn packing(totals: &mut (usize, usize)) {
         // Places that the buffer does not have change nothing.
         library::put_one(lent.part(), 8 * room);
         library::put_one(lent.part(), usize::MAX);
-        group.same(lent.into_bytes(), Lent::expected(room, &packed), || format!("cells {list:?}, room {room}"));
+        group.same(lent.into_all(), Lent::expected(room, &packed), || format!("cells {list:?}, room {room}"));
     }
     for room in 0..20 {
         for k in [0, 1, 7, 19, 20, 21, usize::MAX] {
             let mut lent = Lent::new(room);
             library::clear(lent.part(), k);
             let zeros = vec![0; k.min(room)];
-            group.same(lent.into_bytes(), Lent::expected(room, &zeros), || format!("clear {k} of {room}"));
+            group.same(lent.into_all(), Lent::expected(room, &zeros), || format!("clear {k} of {room}"));
         }
     }
     group.close(totals);

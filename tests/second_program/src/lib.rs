@@ -3,10 +3,12 @@
 //! It is written from the text of 01 (docs/01-scope.md), for comparison with the
 //! library; what 01 leaves open is read as docs/DECISIONS.md says.
 //! Each module is one section of 01 and names the rules that it follows;
-//! `random` serves to make the inputs of the comparison.
+//! `random` and `flux_tracks` make the inputs of the comparison.
 
 pub mod cells;
 pub mod check_word;
+pub mod flux_tracks;
 pub mod mfm;
 pub mod random;
 pub mod refusal;
+pub mod separator;

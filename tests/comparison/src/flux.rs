@@ -1,0 +1,233 @@
+//! 01, "The separator": the step by value and on a lent state, the call on a list, and the histogram.
+
+use crate::library;
+use crate::report::{Group, Lent};
+use second_program::cells;
+use second_program::flux_tracks::{flux_track, Choice};
+use second_program::random::Random;
+use second_program::refusal::Refusal;
+use second_program::separator::{self, SeparatorState};
+
+/// The list call: answer, buffer and the timings afterwards. Gives the number of cells.
+fn list_case(group: &mut Group, timings: &[u32], room: usize) {
+    let input = timings.to_vec();
+    let mut lent = Lent::new(room);
+    let ours = library::separate(&input, lent.part());
+    let second = separator::separate(timings, room);
+    let written = second.clone().map(|(_, packed)| packed).unwrap_or_default();
+    group.same(
+        (ours, lent.into_all(), input),
+        (second.map(|(count, _)| count), Lent::expected(room, &written), timings.to_vec()),
+        || format!("{} timings {:?}, room {room}", timings.len(), &timings[..timings.len().min(12)]),
+    );
+}
+
+/// The bytes that the cells of timings need, whatever the room is.
+fn bytes_needed(timings: &[u32]) -> usize {
+    match separator::separate(timings, usize::MAX) {
+        Ok((count, _)) => cells::bytes_needed(count),
+        Err(_) => 0,
+    }
+}
+
+/// The rows and the cells that 01 prints.
+pub fn printed(totals: &mut (usize, usize)) {
+    let mut group = Group::new("01's rows of the separator, and its cells");
+    let rows: [(&[u32], &[usize], &[i32]); 6] = [
+        (&[4_900, 4_000], &[2, 2], &[450, 225]),
+        (&[4_999], &[2], &[499]),
+        (&[5_000, 5_000], &[3, 2], &[-500, 250]),
+        (&[5_001], &[3], &[-499]),
+        (&[500, 3_500], &[0, 2], &[250, -125]),
+        (&[10_000_000], &[5_000], &[0]),
+    ];
+    for (timings, counts, residuals) in rows {
+        let mut residual = 0;
+        for (i, &timing) in timings.iter().enumerate() {
+            let expected = (Ok(counts[i]), residuals[i]);
+            group.same(library::step(residual, timing), expected, || format!("{timings:?}, timing {i}"));
+            group.same(library::step_lent(residual, timing), expected, || format!("{timings:?}, timing {i}, lent"));
+            residual = residuals[i];
+        }
+    }
+    let mut packed = [0xFF; 2];
+    let answer = library::separate(&[5_000, 5_000], &mut packed);
+    group.same((answer, packed), (Ok(5), [0b0010_1000, 0xFF]), || "5000, 5000".to_string());
+    let answer = library::separate(&[500], &mut []);
+    group.same(answer, Ok(0), || "500, no room".to_string());
+    group.close(totals);
+}
+
+/// A residual in range, at its bounds, or any.
+fn any_residual(random: &mut Random) -> i32 {
+    match random.below(6) {
+        0 => random.next_number() as i32,
+        1 => [-501, -500, -499, -1, 0, 1, 498, 499, 500, i32::MIN, i32::MAX][random.below(11) as usize],
+        _ => random.between(-500, 499) as i32,
+    }
+}
+
+/// A timing in range, at a bound of its range or of a window, or any.
+fn any_timing(random: &mut Random) -> u32 {
+    match random.below(10) {
+        0 => random.next_number() as u32,
+        1 => [0, 1, 2, 9_999_999, 10_000_000, 10_000_001, u32::MAX][random.below(7) as usize],
+        2 => random.between(1, 10_000_000) as u32,
+        3 => (random.between(1, 9) * 1_000 + random.between(-2, 2)) as u32,
+        _ => random.between(1, 12_000) as u32,
+    }
+}
+
+pub fn steps(totals: &mut (usize, usize)) {
+    let mut group = Group::new("separator steps, by value and lent");
+    let mut random = Random::new(10);
+    for _ in 0..40_000 {
+        let residual = any_residual(&mut random);
+        let timing = any_timing(&mut random);
+        let (next, answer) = SeparatorState { residual: i64::from(residual) }.step(timing);
+        let expected = (answer.map(|step| step.cells as usize), next.residual as i32);
+        let ours = (library::step(residual, timing), library::step_lent(residual, timing));
+        group.same(ours, (expected, expected), || format!("residual {residual}, timing {timing}"));
+    }
+    group.close(totals);
+}
+
+pub fn lists(totals: &mut (usize, usize)) {
+    let mut group = Group::new("separator lists within demand 3's tolerance");
+    let mut random = Random::new(11);
+    for i in 0..3_000 {
+        let most = if i % 100 == 0 { 40_000 } else { 200 };
+        let length = 1 + random.below(most) as usize;
+        let choice = [Choice::Any, Choice::Bounds, Choice::LongDrift][i % 3];
+        let track = flux_track(&mut random, length, choice);
+        // The cells written are what demand 3 asks, whatever the second program's separator says.
+        let packed = cells::pack(&track.cells);
+        let room = packed.len() + random.below(4) as usize;
+        let mut lent = Lent::new(room);
+        let ours = library::separate(&track.timings, lent.part());
+        let expected = if track.cells.len() > 131_072 {
+            (Err(Refusal::too_many_cells(track.cells.len())), Lent::expected(room, &[]))
+        } else {
+            (Ok(track.cells.len()), Lent::expected(room, &packed))
+        };
+        group.same((ours, lent.into_all()), expected, || {
+            format!("{length} timings {:?}, {choice:?}", &track.timings[..length.min(12)])
+        });
+        if !packed.is_empty() {
+            list_case(&mut group, &track.timings, packed.len() - 1);
+        }
+    }
+    group.close(totals);
+
+    let mut group = Group::new("separator lists of any timings");
+    for _ in 0..8_000 {
+        let length = random.below(60) as usize;
+        let wild = random.one_in(4);
+        let timings: Vec<u32> = (0..length)
+            .map(|_| if wild { any_timing(&mut random) } else { random.between(1, 12_000) as u32 })
+            .collect();
+        let needed = bytes_needed(&timings);
+        for room in [needed, needed.saturating_sub(1), needed + 3] {
+            list_case(&mut group, &timings, room);
+        }
+    }
+    group.close(totals);
+
+    let mut group = Group::new("the list call beside step after step");
+    for _ in 0..1_000 {
+        let length = 1 + random.below(80) as usize;
+        let timings: Vec<u32> = (0..length).map(|_| random.between(1, 14_000) as u32).collect();
+        let mut list = Vec::new();
+        let mut residual = 0;
+        for &timing in &timings {
+            let (answer, next) = library::step(residual, timing);
+            let count = answer.unwrap_or(0);
+            if count > 0 {
+                list.resize(list.len() + count - 1, 0);
+                list.push(1);
+            }
+            residual = next;
+        }
+        let packed = cells::pack(&list);
+        let mut buffer = vec![0xFF; packed.len()];
+        let answer = library::separate(&timings, &mut buffer);
+        group.same((answer, &buffer), (Ok(list.len()), &packed), || format!("{timings:?}"));
+    }
+    group.close(totals);
+}
+
+pub fn limits(totals: &mut (usize, usize)) {
+    let mut group = Group::new("separator lists at the limits of each refusal");
+    // 6 and 7, and the most timings; 131,072 cells from 65,536 timings, then one and two more.
+    for length in [0, 1, 65_535, 65_536, 65_537, 70_000] {
+        for timing in [1, 999, 1_000, 4_000, 4_001] {
+            let mut timings = vec![timing; length];
+            for room in [0, 16_383, 16_384, 16_385] {
+                list_case(&mut group, &timings, room);
+            }
+            // 8 goes before 9 and 10, and after 7.
+            if length > 0 {
+                timings[length / 2] = 0;
+                list_case(&mut group, &timings, 16_384);
+                timings[length / 2] = 10_000_001;
+                list_case(&mut group, &timings, 0);
+            }
+        }
+    }
+    for extra in [1_000, 2_000, 4_000, 6_000, 8_000] {
+        for length in [65_534, 65_535, 65_536] {
+            let mut timings = vec![4_000; length];
+            timings[length - 1] = extra;
+            for room in [16_383, 16_384, 16_385] {
+                list_case(&mut group, &timings, room);
+            }
+        }
+    }
+    // Few timings of many cells: up to 5,000 each, far past the limit.
+    for length in 1..=40 {
+        let timings = vec![10_000_000; length];
+        for room in [0, 625 * length - 1, 625 * length, 625 * length + 1] {
+            list_case(&mut group, &timings, room);
+        }
+    }
+    list_case(&mut group, &vec![10_000_000; 65_536], 16_384);
+    group.close(totals);
+}
+
+pub fn histograms(totals: &mut (usize, usize)) {
+    let mut group = Group::new("histograms");
+    let mut random = Random::new(12);
+    for i in 0..4_000 {
+        let length = match i {
+            0..=64 => i,
+            65 => 65_535,
+            66 => 65_536,
+            67 => 65_537,
+            _ => random.below(300) as usize,
+        };
+        let wild = random.one_in(4);
+        let timings: Vec<u32> = (0..length)
+            .map(|_| match random.below(4) {
+                0 if wild => any_timing(&mut random),
+                1 => (100 * random.between(1, 257) + random.between(-1, 1)) as u32,
+                _ => random.between(1, 30_000) as u32,
+            })
+            .collect();
+        let second = separator::histogram(&timings);
+        let counts = second.unwrap_or([0; 256]);
+        for room in [256, 255, 0, 300] {
+            let mut lent: Lent<u32> = Lent::new(room);
+            let ours = library::histogram(&timings, lent.part());
+            let sum: usize = lent.part().iter().take(256).map(|&count| count as usize).sum();
+            // The counts sum to the number of timings, where there is room for all of them.
+            let sum = if room < 256 { 0 } else { sum };
+            let counted = if room < 256 { 0 } else { second.map_or(0, |_| length) };
+            group.same(
+                (ours, lent.into_all(), sum),
+                (second.map(|_| length), Lent::expected(room, &counts[..room.min(256)]), counted),
+                || format!("{length} timings {:?}, room {room}", &timings[..length.min(12)]),
+            );
+        }
+    }
+    group.close(totals);
+}
