@@ -1,4 +1,4 @@
--- 01, "The separator": the call on a whole list of timings, with its refusals 6 to 10. Assumes nothing.
+-- 01, "The separator": the call on a whole list of timings, with its refusals 6 to 10. What it recovers is in Demand3. Assumes nothing.
 use Prim.Native.Nat.{ℕ, zero, suc}
 use mathlib.Core.Bool.{cond}
 use mathlib.Core.List.{List, [], _∷_, _++_}
@@ -45,12 +45,13 @@ unfoldable pub firstOut : List ℕ → ℕ
 firstOut [] = 0
 firstOut (t ∷ ts) = cond (inRange t) (suc (firstOut ts)) 0
 
+-- refusals 6 and 7 of k timings, in that order, and else what `next` answers
+abbrev pub numberJudged : {A : Type 0} → ℕ → Answer A → Answer A
+numberJudged k next = cond (eqb k 0) (refused 6 0) (cond (ltb 65536 k) (refused 7 k) next)
+
 -- refusals 6, 7 and 8 of timings, in that order, and else what `next` answers
 unfoldable pub timingsJudged : {A : Type 0} → List ℕ → Answer A → Answer A
-timingsJudged ts next =
-    cond (eqb (length ts) 0) (refused 6 0)
-    (cond (ltb 65536 (length ts)) (refused 7 (length ts))
-    (cond (ltb (firstOut ts) (length ts)) (refused 8 (firstOut ts)) next))
+timingsJudged ts next = numberJudged (length ts) (cond (ltb (firstOut ts) (length ts)) (refused 8 (firstOut ts)) next)
 
 -- refusals 9 and 10 of n cells in all and a buffer of `room` bytes, and else the number of cells
 unfoldable pub cellsJudged : ℕ → ℕ → Answer ℕ
@@ -61,10 +62,10 @@ abbrev pub separation : List ℕ → ℕ → Answer ℕ
 separation ts room = timingsJudged ts (cellsJudged (length (cellsOf ts)) room)
 
 -- an answer of the call, in 01's numbers
-abbrev pub answerOf : Separated → Answer ℕ
-answerOf (Cells count) = gives count
-answerOf (Refused refusal) = refusedWith refusal
+abbrev pub separatedAnswer : Separated → Answer ℕ
+separatedAnswer (Cells count) = gives count
+separatedAnswer (Refused refusal) = refusedWith refusal
 
 -- the lent buffer afterwards: "Unused bits of the last byte written are 0; bytes after it keep their contents"
-abbrev pub cellsAfter : List ℕ → List ℕ → List ℕ
-cellsAfter ts buffer = bufferAfter (separation ts (length buffer)) (packed (cellsOf ts)) buffer
+abbrev pub separatedCells : List ℕ → List ℕ → List ℕ
+separatedCells ts buffer = bufferAfter (separation ts (length buffer)) (packed (cellsOf ts)) buffer

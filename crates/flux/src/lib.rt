@@ -16,7 +16,7 @@ ghost use Rattle.basis.specs.Lists.{writtenOver};
 ghost use Rattle.refusals.specs.RefusedCalls.Answer.{gives};
 ghost use Rattle.cells.specs.CellsAndBytes.{bytesFor, packed, withOne};
 ghost use Rattle.flux.specs.Rule.{halved, usable, inRange, takenAnswer, stepAnswer, stepResidual};
-ghost use Rattle.flux.specs.Separation.{firstOut, cellsOf, answerOf, separation, cellsAfter};
+ghost use Rattle.flux.specs.Separation.{firstOut, cellsOf, separatedAnswer, separation, separatedCells};
 ghost use Rattle.flux.specs.Demand3.{Demand3};
 
 // The shortest and the longest timing, in nanoseconds, and the most timings of one call.
@@ -76,14 +76,14 @@ impl Separator {
         ensures answer { λ r. ⌜ takenAnswer (r .taken) ≡ stepAnswer (self .residual) timing ⌝ }
         ensures state { λ r. ⌜ r .next .residual ≡ stepResidual (self .residual) timing ⌝ }
     {
-        if !is_timing(timing) {
+        if !timing_in_range(timing) {
             return Stepped {
                 taken: Taken::Refused(Refusal::TimingOutOfRange(0)),
                 next: self,
             };
         }
         let residual = self.residual;
-        let r = in_range(residual);
+        let r = usable_residual(residual);
         let u = (timing as i32) + r;
         let n = (u + HALF_WINDOW) / WINDOW;
         let e = u - WINDOW * n;
@@ -98,9 +98,9 @@ impl Separator {
 
 // The whole list of timings, to cells at the front of a buffer.
 pub fn separate(timings: &[u32], cells: &mut [u8]) -> Separated
-    ensures answer { λ r. ⌜ answerOf r ≡ separation (now (timings .entry)) (length (now (cells .entry))) ⌝ }
-    ensures buffer { λ _. ⌜ now (cells .exit) ≡ cellsAfter (now (timings .entry)) (now (cells .entry)) ⌝ }
-    ensures demand3 { λ r. ⌜ Demand3 (now (timings .entry)) (answerOf r) (now (cells .entry)) (now (cells .exit)) ⌝ }
+    ensures answer { λ r. ⌜ separatedAnswer r ≡ separation (now (timings .entry)) (length (now (cells .entry))) ⌝ }
+    ensures buffer { λ _. ⌜ now (cells .exit) ≡ separatedCells (now (timings .entry)) (now (cells .entry)) ⌝ }
+    ensures demand3 { λ r. ⌜ Demand3 (now (timings .entry)) (separatedAnswer r) (now (cells .entry)) (now (cells .exit)) ⌝ }
 {
     let given = timings.len();
     if given == 0 {
@@ -131,7 +131,7 @@ pub fn first_out(timings: &[u32]) -> usize
 {
     let mut i: usize = 0;
     while i < timings.len() {
-        if !is_timing(timings[i]) {
+        if !timing_in_range(timings[i]) {
             return i;
         }
         i += 1;
@@ -149,14 +149,14 @@ const LEAST_RESIDUAL: i32 = -500;
 const MOST_RESIDUAL: i32 = 499;
 
 // Whether a timing is in its range.
-fn is_timing(timing: u32) -> bool
+fn timing_in_range(timing: u32) -> bool
     ensures { λ r. ⌜ r ≡ inRange timing ⌝ }
 {
     (SHORTEST_TIMING <= timing) & (timing <= LONGEST_TIMING)
 }
 
 // A residual that is outside -500 to 499 counts as 0.
-fn in_range(residual: i32) -> i32
+fn usable_residual(residual: i32) -> i32
     ensures { λ r. ⌜ r ≡ usable residual ⌝ }
 {
     if residual < LEAST_RESIDUAL {
@@ -186,7 +186,7 @@ fn count_cells(timings: &[u32]) -> usize
     while i < timings.len() {
         let stepped = state.step(timings[i]);
         let taken = stepped.taken;
-        count += cells_in(taken);
+        count += cells_given(taken);
         state = stepped.next;
         i += 1;
     }
@@ -205,7 +205,7 @@ fn write_cells(timings: &[u32], needed: usize, cells: &mut [u8])
     while i < timings.len() {
         let stepped = separator.step(timings[i]);
         let taken = stepped.taken;
-        let count = cells_in(taken);
+        let count = cells_given(taken);
         put_cells(cells, at, count);
         at += count;
         separator = stepped.next;
@@ -225,7 +225,7 @@ fn put_cells(cells: &mut [u8], at: usize, count: usize)
 }
 
 // The number of cells that a step gave; 0 where it refused.
-fn cells_in(taken: Taken) -> usize
+fn cells_given(taken: Taken) -> usize
     ensures { λ r. ⌜ ((n : ℕ) → takenAnswer taken ≡ gives n → r ≡ n) ⌝ }
 {
     match taken {

@@ -1,7 +1,8 @@
 // The library for C and Rust: each routine on numbers and slices, which pass as an address and a length.
 //
 // A routine that 01 refuses some calls of returns a number: 0 where the call is accepted, else the refusal's number in
-// 01's table. What the call gives, or what the refusal gives also, is stored at `value`; a refused call writes nothing else.
+// 01's table. What the call gives, or what the refusal gives also, is stored at `value`; beside a refusal nothing else is written,
+// but that a record or a count table is set to zeros, as 01 says.
 //
 // What the boundary asks of a caller in another language: each address is valid for its length, lent memory does not
 // overlap what else is passed, and a bool is 0 or 1. The routines ask nothing of the values.
@@ -19,7 +20,7 @@ ghost use Rattle.cells.specs.CellsAndBytes.{cell, wordAt, leastPlace, cleared, 
 ghost use Rattle.crc.specs.CheckWord.{checkWordFrom, checkWord};
 ghost use Rattle.mfm.specs.Calls.{answerOf, codingAnswer, decodingAnswer, cellsAfter, bytesAfter};
 ghost use Rattle.flux.specs.Rule.{takenAnswer, stepAnswer, stepResidual};
-ghost use Rattle.flux.specs.Separation.{answerOf as separatedAnswer, separation, cellsAfter as separatedCells};
+ghost use Rattle.flux.specs.Separation.{separatedAnswer, separation, separatedCells};
 ghost use Rattle.flux.specs.Demand3.{Demand3};
 ghost use Rattle.flux.specs.Histogram.{countedAnswer, counting};
 ghost use Rattle.thikbromu.specs.Numbers.{numberIn, valueIn, countsLent};

@@ -5,14 +5,9 @@ use mathlib.Core.List.{List, [], _∷_, map}
 use mathlib.Core.Path.{_≡_}
 use lib.IntN.{ℤ, pos, negsuc}
 use Rattle.crc.specs.CheckWord.{checkWord}
-use Rattle.flux.specs.Rule.{residualAfter, halfWindow}
+use Rattle.flux.specs.Rule.{halved}
 use Rattle.flux.specs.Separation.{Window, windowsOf}
 use Rattle.mfm.specs.Coding.{encoded}
-
--- the residual after each timing, from the residual r on
-unfoldable pub residualsFrom : ℤ → List ℕ → List ℤ
-residualsFrom r [] = []
-residualsFrom r (t ∷ ts) = residualAfter halfWindow r t ∷ residualsFrom (residualAfter halfWindow r t) ts
 
 -- an example: a row of the separator's table, with n, e and "r after" of each timing; a byte coded after a bit; a check word
 pub data Example : Type 0 where
@@ -20,10 +15,10 @@ pub data Example : Type 0 where
   codes : ℕ → ℕ → List ℕ → Example
   checks : List ℕ → ℕ → Example
 
--- what an example says
+-- what an example says: n, e and r of each window that the rule gives; the cells; the check word
 abbrev pub Holds : Example → Type 0
 Holds (separates timings n e r) =
-    (map (λ (w : Window). w .cells) (windowsOf timings) ≡ n) × (map (λ (w : Window). w .offset) (windowsOf timings) ≡ e) × (residualsFrom (pos 0) timings ≡ r)
+    (map (λ (w : Window). w .cells) (windowsOf timings) ≡ n) × (map (λ (w : Window). w .offset) (windowsOf timings) ≡ e) × (map (λ (w : Window). halved (w .offset)) (windowsOf timings) ≡ r)
 Holds (codes before byte cells) = encoded before (byte ∷ []) ≡ cells
 Holds (checks bytes word) = checkWord bytes ≡ word
 

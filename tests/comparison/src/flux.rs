@@ -3,12 +3,12 @@
 use crate::library;
 use crate::report::{Group, Lent};
 use second_program::cells;
-use second_program::flux_tracks::{flux_track, Choice};
+use second_program::flux_tracks::{flux_track, flux_track_of, timings_of_cells, Choice, FluxTrack};
 use second_program::random::Random;
 use second_program::refusal::Refusal;
 use second_program::separator::{self, SeparatorState};
 
-/// The list call: answer, buffer and the timings afterwards. Gives the number of cells.
+/// The list call: answer, buffer and the timings afterwards.
 fn list_case(group: &mut Group, timings: &[u32], room: usize) {
     let input = timings.to_vec();
     let mut lent = Lent::new(room);
@@ -30,20 +30,28 @@ fn bytes_needed(timings: &[u32]) -> usize {
     }
 }
 
+/// e = u - 2000n, from the residual before, the timing, and the n that the library gave.
+fn offset_of(residual: i32, timing: u32, count: usize) -> i64 {
+    i64::from(timing) + i64::from(residual) - 2_000 * count as i64
+}
+
 /// The rows and the cells that 01 prints.
 pub fn printed(totals: &mut (usize, usize)) {
     let mut group = Group::new("01's rows of the separator, and its cells");
-    let rows: [(&[u32], &[usize], &[i32]); 6] = [
-        (&[4_900, 4_000], &[2, 2], &[450, 225]),
-        (&[4_999], &[2], &[499]),
-        (&[5_000, 5_000], &[3, 2], &[-500, 250]),
-        (&[5_001], &[3], &[-499]),
-        (&[500, 3_500], &[0, 2], &[250, -125]),
-        (&[10_000_000], &[5_000], &[0]),
+    // Timings, n, e, r after.
+    let rows: [(&[u32], &[usize], &[i64], &[i32]); 6] = [
+        (&[4_900, 4_000], &[2, 2], &[900, 450], &[450, 225]),
+        (&[4_999], &[2], &[999], &[499]),
+        (&[5_000, 5_000], &[3, 2], &[-1_000, 500], &[-500, 250]),
+        (&[5_001], &[3], &[-999], &[-499]),
+        (&[500, 3_500], &[0, 2], &[500, -250], &[250, -125]),
+        (&[10_000_000], &[5_000], &[0], &[0]),
     ];
-    for (timings, counts, residuals) in rows {
+    for (timings, counts, offsets, residuals) in rows {
         let mut residual = 0;
         for (i, &timing) in timings.iter().enumerate() {
+            let offset = offset_of(residual, timing, library::step(residual, timing).0.unwrap_or(0));
+            group.same(offset, offsets[i], || format!("{timings:?}, e of timing {i}"));
             let expected = (Ok(counts[i]), residuals[i]);
             group.same(library::step(residual, timing), expected, || format!("{timings:?}, timing {i}"));
             group.same(library::step_lent(residual, timing), expected, || format!("{timings:?}, timing {i}, lent"));
@@ -96,7 +104,7 @@ pub fn lists(totals: &mut (usize, usize)) {
     let mut group = Group::new("separator lists within demand 3's tolerance");
     let mut random = Random::new(11);
     for i in 0..3_000 {
-        let most = if i % 100 == 0 { 40_000 } else { 200 };
+        let most = if i % 100 == 0 { 70_000 } else { 200 };
         let length = 1 + random.below(most) as usize;
         let choice = [Choice::Any, Choice::Bounds, Choice::LongDrift][i % 3];
         let track = flux_track(&mut random, length, choice);
@@ -105,7 +113,9 @@ pub fn lists(totals: &mut (usize, usize)) {
         let room = packed.len() + random.below(4) as usize;
         let mut lent = Lent::new(room);
         let ours = library::separate(&track.timings, lent.part());
-        let expected = if track.cells.len() > 131_072 {
+        let expected = if length > 65_536 {
+            (Err(Refusal::too_many_timings(length)), Lent::expected(room, &[]))
+        } else if track.cells.len() > 131_072 {
             (Err(Refusal::too_many_cells(track.cells.len())), Lent::expected(room, &[]))
         } else {
             (Ok(track.cells.len()), Lent::expected(room, &packed))
@@ -116,6 +126,18 @@ pub fn lists(totals: &mut (usize, usize)) {
         if !packed.is_empty() {
             list_case(&mut group, &track.timings, packed.len() - 1);
         }
+    }
+    group.close(totals);
+
+    let mut group = Group::new("separator lists without jitter and drift");
+    for _ in 0..1_000 {
+        let length = 1 + random.below(400) as usize;
+        let track = flux_track(&mut random, length, Choice::Any);
+        let timings = timings_of_cells(&track.cells);
+        let packed = cells::pack(&track.cells);
+        let mut buffer = vec![0xFF; packed.len()];
+        let answer = library::separate(&timings, &mut buffer);
+        group.same((answer, &buffer), (Ok(track.cells.len()), &packed), || format!("{length} timings"));
     }
     group.close(totals);
 
@@ -153,6 +175,54 @@ pub fn lists(totals: &mut (usize, usize)) {
         let answer = library::separate(&timings, &mut buffer);
         group.same((answer, &buffer), (Ok(list.len()), &packed), || format!("{timings:?}"));
     }
+    group.close(totals);
+}
+
+/// How far the farthest window centre lies from the true place of its pulse.
+fn farthest_centre(track: &FluxTrack) -> i64 {
+    let mut farthest = 0;
+    let mut residual = 0;
+    for (i, &timing) in track.timings.iter().enumerate() {
+        let (answer, next) = library::step(residual, timing);
+        let centre = track.pulses[i + 1] - offset_of(residual, timing, answer.unwrap_or(0));
+        farthest = farthest.max((centre - track.true_places[i + 1]).abs());
+        residual = next;
+    }
+    farthest
+}
+
+/// Demand 3 at its extremes: tracks of 100,000 cells, of 1,950 and 2,050 ns, with pulses 250 ns off. No cell is lost, and no centre
+/// lies farther off than 651 ns.
+pub fn extremes(totals: &mut (usize, usize)) {
+    let mut group = Group::new("demand 3 at its extremes, 1,000 tracks of 100,000 cells");
+    let mut random = Random::new(13);
+    let mut farthest = 0;
+    for i in 0..1_000 {
+        // Bounds chosen at random; long drifts; and all gaps of four cells drifting one way with all pulses off the other way.
+        let track = match i % 3 {
+            0 => flux_track(&mut random, 33_300, Choice::Bounds),
+            1 => flux_track(&mut random, 33_300, Choice::LongDrift),
+            _ => {
+                let sign = if random.one_in(2) { 1 } else { -1 };
+                let turn = 1 + random.below(60) as usize;
+                let gaps = vec![4; 25_000];
+                let distances: Vec<i64> =
+                    (0..25_000).map(|k| if k / turn % 2 == 0 { 8_000 - sign * 200 } else { 8_000 + sign * 200 }).collect();
+                let shifts: Vec<i64> =
+                    (0..=25_000).map(|k| if k / turn % 2 == 0 { sign * 250 } else { -sign * 250 }).collect();
+                flux_track_of(&gaps, &distances, &shifts)
+            }
+        };
+        let packed = cells::pack(&track.cells);
+        let mut buffer = vec![0xFF; packed.len()];
+        let answer = library::separate(&track.timings, &mut buffer);
+        let distance = farthest_centre(&track);
+        farthest = farthest.max(distance);
+        group.same((answer, &buffer, distance <= 651), (Ok(track.cells.len()), &packed, true), || {
+            format!("track {i}, farthest centre {distance}")
+        });
+    }
+    println!("    the farthest centre lay {farthest} ns off");
     group.close(totals);
 }
 

@@ -23,6 +23,7 @@ fn main() {
     flux::printed(&mut totals);
     flux::steps(&mut totals);
     flux::lists(&mut totals);
+    flux::extremes(&mut totals);
     flux::limits(&mut totals);
     flux::histograms(&mut totals);
     println!("{} passed, {} failed", totals.0, totals.1);

@@ -20,19 +20,19 @@ abbrev μ-loop : tie.MeasureT-loop
 loop-holds : tie.Need-loop-holds Inv-loop μ-loop
 loop-holds c = search needs
 
-mul-is-timing : tie.Need-mul-is-timing Inv-loop μ-loop
-mul-is-timing c = search needs
+mul-timing-in-range : tie.Need-mul-timing-in-range Inv-loop μ-loop
+mul-timing-in-range c = search needs
 
-shared-slice-read-is-timing : tie.Need-shared-slice-read-is-timing Inv-loop μ-loop
-shared-slice-read-is-timing c = search needs
+shared-slice-read-timing-in-range : tie.Need-shared-slice-read-timing-in-range Inv-loop μ-loop
+shared-slice-read-timing-in-range c = search needs
 
-is-timing-requires : tie.Need-is-timing-requires Inv-loop μ-loop
-is-timing-requires c κs = search needs
+timing-in-range-requires : tie.Need-timing-in-range-requires Inv-loop μ-loop
+timing-in-range-requires c κs = search needs
 
 returns : tie.Need-returns Inv-loop μ-loop
 returns c =
     let l = c .before .before .before .before in
-    let o = out-here (l .before .before .args .timings .now) (l .loop .i) (c .before .before .before .loop-test .taken) (sym (c .before .is-timing .ensures) ∙ not-true _ (c .if1 .taken)) in
+    let o = out-here (l .before .before .args .timings .now) (l .loop .i) (c .before .before .before .loop-test .taken) (sym (c .before .timing-in-range .ensures) ∙ not-true _ (c .if1 .taken)) in
     omega (arith, o, l .loop .inv .1)
 
 add-i : tie.Need-add-i Inv-loop μ-loop
@@ -44,7 +44,7 @@ loop-less c = search needs
 loop-again : tie.Need-loop-again Inv-loop μ-loop
 loop-again c =
     let l = c .before .before .before .before in
-    let o = out-later (l .before .before .args .timings .now) (l .loop .i) (c .before .before .before .loop-test .taken) (sym (c .before .is-timing .ensures) ∙ not-false _ (c .if1 .left)) in
+    let o = out-later (l .before .before .args .timings .now) (l .loop .i) (c .before .before .before .loop-test .taken) (sym (c .before .timing-in-range .ensures) ∙ not-false _ (c .if1 .left)) in
     (search needs, omega (arith, o, l .loop .inv .1))
 
 returns-2 : tie.Need-returns-2 Inv-loop μ-loop
@@ -60,9 +60,9 @@ first-out-spec =
     Inv-loop
     μ-loop
     loop-holds
-    mul-is-timing
-    shared-slice-read-is-timing
-    is-timing-requires
+    mul-timing-in-range
+    shared-slice-read-timing-in-range
+    timing-in-range-requires
     returns
     add-i
     loop-less

@@ -42,11 +42,11 @@ shared-slice-read-step c = search needs
 step-requires : tie.Need-step-requires Inv-loop μ-loop
 step-requires c κs = search needs
 
-cells-in-requires : tie.Need-cells-in-requires Inv-loop μ-loop
-cells-in-requires c κs = search needs
+cells-given-requires : tie.Need-cells-given-requires Inv-loop μ-loop
+cells-given-requires c κs = search needs
 
 -- what a turn's step gives
-module _ (c : tie.After-cells-in Inv-loop μ-loop) where
+module _ (c : tie.After-cells-given Inv-loop μ-loop) where
   abbrev L : tie.At-loop Inv-loop μ-loop
   L = c .before .before .before .before
 
@@ -59,13 +59,13 @@ module _ (c : tie.After-cells-in Inv-loop μ-loop) where
   ranged : inRange T₀ ≡ true
   ranged = all-in-range _ (A .pre .0) _ (c .before .before .before .loop-test .taken)
 
-  gives-n : c .cells-in .result ≡ cellsAt halfWindow (L .loop .separator .residual) T₀
-  gives-n = c .cells-in .ensures _ (c .before .step .ensures .0 ∙ step-answers _ _ (L .loop .inv .walked .kept) ranged)
+  gives-n : c .cells-given .result ≡ cellsAt halfWindow (L .loop .separator .residual) T₀
+  gives-n = c .cells-given .ensures _ (c .before .step .ensures .0 ∙ step-answers _ _ (L .loop .inv .walked .kept) ranged)
 
   leaves-r : c .before .step .result .next .residual ≡ residualAfter halfWindow (L .loop .separator .residual) T₀
   leaves-r = c .before .step .ensures .1 ∙ step-leaves _ _ (L .loop .inv .walked .kept) ranged
 
-  within : L .loop .at + c .cells-in .result ≤ 131072
+  within : L .loop .at + c .cells-given .result ≤ 131072
   within =
       omega (arith, A .pre .1, filled-within (L .loop .inv) (c .before .before .before .loop-test .taken) ranged (A .pre .2) gives-n leaves-r)
 
@@ -108,7 +108,7 @@ write-cells-spec =
     mul-step
     shared-slice-read-step
     step-requires
-    cells-in-requires
+    cells-given-requires
     put-cells-requires
     add-at
     add-i

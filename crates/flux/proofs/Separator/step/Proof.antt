@@ -20,27 +20,27 @@ use Rattle.flux.proofs.Stepping.{step-refused, step-taken}
 use Rattle.flux.proofs.Separator.step.Statement.{statement}
 use Rattle.flux.proofs.Separator.step.Tie as tie
 
-is-timing-requires : tie.Need-is-timing-requires
-is-timing-requires c κs = search needs
+timing-in-range-requires : tie.Need-timing-in-range-requires
+timing-in-range-requires c κs = search needs
 
 returns : tie.Need-returns
-returns c = step-refused _ _ (sym (c .before .is-timing .ensures) ∙ not-true _ (c .if1 .taken))
+returns c = step-refused _ _ (sym (c .before .timing-in-range .ensures) ∙ not-true _ (c .if1 .taken))
 
-in-range-requires : tie.Need-in-range-requires
-in-range-requires c κs = search needs
+usable-residual-requires : tie.Need-usable-residual-requires
+usable-residual-requires c κs = search needs
 
 -- the timing is in range, and the residual that is used is one that a step can leave
-abbrev T₀ : tie.After-in-range → ℕ
+abbrev T₀ : tie.After-usable-residual → ℕ
 T₀ c = c .before .before .before .before .args .timing
 
-ranged : (c : tie.After-in-range) → inRange (T₀ c) ≡ true
-ranged c = sym (c .before .before .before .is-timing .ensures) ∙ not-false _ (c .before .before .if1 .left)
+ranged : (c : tie.After-usable-residual) → inRange (T₀ c) ≡ true
+ranged c = sym (c .before .before .before .timing-in-range .ensures) ∙ not-false _ (c .before .before .if1 .left)
 
-short : (c : tie.After-in-range) → T₀ c ≤ 10000000
+short : (c : tie.After-usable-residual) → T₀ c ≤ 10000000
 short c = range-of (T₀ c) (ranged c) .1
 
-kept : (c : tie.After-in-range) → Kept halfWindow (c .in-range .result)
-kept c = subst (Kept halfWindow) (sym (c .in-range .ensures)) (usable-kept _)
+kept : (c : tie.After-usable-residual) → Kept halfWindow (c .usable-residual .result)
+kept c = subst (Kept halfWindow) (sym (c .usable-residual .ensures)) (usable-kept _)
 
 cast-u : tie.Need-cast-u
 cast-u c = t-fits (T₀ c) (short c) _ (kept c)
@@ -72,7 +72,7 @@ returns-2 : tie.Need-returns-2
 returns-2 c =
     let a = c .before in
     let held = toZ-ofZ (record { sfits = a .before .struct-told .given .0 .1 }) in
-    let r = a .in-range .ensures ∙ ap usable held in
+    let r = a .usable-residual .ensures ∙ ap usable held in
     step-taken _ _ (ranged a) r
     (ap natAbs (n-is (T₀ a) (short a) _ (kept a)))
     (toZ-ofZ (record { sfits = c .half .ok }) ∙ c .half .ensures ∙ ap halved (e-is (T₀ a) (short a) _ (kept a)))
@@ -81,9 +81,9 @@ pub step-spec : {M : Type 1} → statement M
 step-spec =
     tie.close
     (tie.spec
-    is-timing-requires
+    timing-in-range-requires
     returns
-    in-range-requires
+    usable-residual-requires
     cast-u
     add-u
     add-n

@@ -1,10 +1,10 @@
--- `flux::in_range` meets its contract. Assumes nothing.
+-- `flux::usable_residual` meets its contract. Assumes nothing.
 use mathlib.Core.Path.{_≡_, _∙_}
 use mir.Facts.{toZ-ofZ}
 use Rattle.flux.proofs.MachineStep.{readBack}
 use Rattle.flux.proofs.Residual.{below-range, above-range, neither}
-use Rattle.flux.proofs.in_range.Statement.{statement}
-use Rattle.flux.proofs.in_range.Tie as tie
+use Rattle.flux.proofs.usable_residual.Statement.{statement}
+use Rattle.flux.proofs.usable_residual.Tie as tie
 
 same : (c : tie.Start) → readBack (c .args .residual) ≡ c .args .residual
 same c = toZ-ofZ (c .fits .residual)
@@ -20,5 +20,5 @@ returns-3 c =
     let s = same (c .before .before) in
     s ∙ neither _ (rw s at (c .before .if1 .left)) (rw s at (c .if2 .left))
 
-pub in-range-spec : {M : Type 1} → statement M
-in-range-spec = tie.close (tie.spec returns returns-2 returns-3)
+pub usable-residual-spec : {M : Type 1} → statement M
+usable-residual-spec = tie.close (tie.spec returns returns-2 returns-3)
