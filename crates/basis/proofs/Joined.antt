@@ -99,14 +99,20 @@ module _ {A : Type 0} (f : ℕ → List A) (test : ℕ → Bool) (x : ℕ → A)
       go (no b) t e before =
           let r = before (lt-of-not-le b) in
           record {
-            place = r .place; below = omega (arith, r .below); passes = r .passes; index = r .index;
-            element = List·getD-append (joined f n) (f n) d i (lt-of-not-le b) ∙ r .element
+            place = r .place;
+            below = omega (arith, r .below);
+            passes = r .passes;
+            index = r .index;
+            element = List·getD-append (joined f n) (f n) d i (lt-of-not-le b) ∙ r .element;
           }
       go (yes b) true e before =
           let l = length-append (joined f n) (f n) in
           let s : i ≡ length (joined f n) = omega (arith, ap length (one-here n e)) in
           record {
-            place = n; below = omega arith; passes = e; index = s;
-            element = rw (one-here n e, s) (getD-at (joined f n) (x n) [] d (length (joined f n)) refl)
+            place = n;
+            below = omega arith;
+            passes = e;
+            index = s;
+            element = rw (one-here n e, s) (getD-at (joined f n) (x n) [] d (length (joined f n)) refl);
           }
       go (yes b) false e before = absurd (omega (arith, length-append (joined f n) (f n), ap length (none-here n e)))

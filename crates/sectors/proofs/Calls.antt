@@ -7,11 +7,11 @@ use native.Mathlib.Omega.{arith}
 use borrow.Author.Tests.{lt-ltb, le-ltb, le-leb, lt-leb, eq-eqb, ne-eqb, ltb-false}
 use lib.Dec.{ltb, leb}
 use lib.ListN.{length}
-use Rattle.cells.specs.CellsAndBytes.{bytesFor}
-use Rattle.refusals.specs.RefusedCalls.{Answer}
+use Rattle.cells.specs.CellsAndBytes.{cell, bytesFor}
+use Rattle.refusals.specs.RefusedCalls.{Answer, bufferAfter}
 use Rattle.refusals.specs.RefusedCalls.Answer.{gives, refused}
-use Rattle.sectors.specs.Sectors.{noSector, sectorsOf, kept}
-use Rattle.sectors.specs.Calls.{trackJudged, countJudged, indexJudged, sectorsAnswer, sectorsBeside, indexAnswer, recordBeside, sectorOf, DataRead, dataJudged, readAnswer}
+use Rattle.sectors.specs.Sectors.{noSector, sectorsOf, kept, dataBytes}
+use Rattle.sectors.specs.Calls.{trackJudged, countJudged, indexJudged, sectorsAnswer, sectorsBeside, indexAnswer, recordBeside, sectorOf, DataRead, dataJudged, readAnswer, dataAfter}
 use Rattle.sectors.specs.declared.Sector.{Sector}
 use Rattle.sectors.specs.declared.Sectors.{Sectors}
 
@@ -153,3 +153,32 @@ module _ (x a : Answer ℕ) where
     pub record-given : (s sector : Sector) → s ≡ sector → (x ≡ a) × (s ≡ recordBeside a sector)
     unfolding recordBeside
     record-given s sector h = (e ∙ g, rw (← g) h)
+
+-- a sector by index, after a list that was accepted
+module _ (bytes : List ℕ) (N T H m : ℕ) (g : gives m ≡ sectorsAnswer bytes N T H) where
+  pub listed-sectors : (s : Sectors) → s ≡ sectorsBeside (sectorsAnswer bytes N T H) (sectorsOf bytes N) → s ≡ kept (sectorsOf bytes N)
+  unfolding sectorsBeside
+  listed-sectors s e = rw (← g) at e
+
+  pub index-refused : (index : ℕ) → m ≤ index → refused 11 m ≡ indexAnswer bytes N T H index
+  index-refused index h =
+      let e = list-accepted bytes N T H m (sym g) .0 in
+      let l : length (sectorsOf bytes N) ≤ index = omega arith in
+      rw (index-follows bytes N T H index .accepted m (sym g), e) (refuses-11 (length (sectorsOf bytes N)) (gives (length (sectorsOf bytes N))) index l)
+
+  pub index-given : (index : ℕ) → index < m → gives m ≡ indexAnswer bytes N T H index
+  index-given index h =
+      let e = list-accepted bytes N T H m (sym g) .0 in
+      let l : index < length (sectorsOf bytes N) = omega arith in
+      rw (index-follows bytes N T H index .accepted m (sym g), e) (index-accepted (length (sectorsOf bytes N)) (gives (length (sectorsOf bytes N))) index l)
+
+-- reading out, after a sector by index that was accepted
+pub read-given : (bytes : List ℕ) (N T H index m : ℕ) (buffer after : List ℕ) (s : Sector) (x : Answer DataRead) → gives m ≡ indexAnswer bytes N T H index
+    → s ≡ recordBeside (indexAnswer bytes N T H index) (sectorOf bytes N index) → x ≡ dataJudged s (length buffer)
+    → after ≡ bufferAfter (dataJudged s (length buffer)) (dataBytes (cell bytes N) s) buffer
+    → (x ≡ readAnswer bytes N T H index (length buffer)) × (after ≡ dataAfter bytes N T H index buffer)
+unfolding recordBeside
+read-given bytes N T H index m buffer after s x g e j h =
+    let t : s ≡ sectorOf bytes N index = rw (← g) at e in
+    let a = read-follows bytes N T H index (length buffer) .accepted m (sym g) in
+    rw (a, ← t) (j, h)

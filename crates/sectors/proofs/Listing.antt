@@ -34,5 +34,5 @@ module _ (f : ℕ → ℕ) where
       record {
         inside = omega (arith, least-high (idMarkAt f) (n - p) p);
         on = λ l. rw e (least-found (idMarkAt f) (n - p) p (omega arith));
-        are = s ∙ ap kept (sym (joined-to (sectorsAt f) p r low (λ q a b. none-here (sectorsAt f) (idMarkAt f) (sectorAt f) (sectors-one f) q (least-before (idMarkAt f) (n - p) p q a (rw e at b)))))
+        are = s ∙ ap kept (sym (joined-to (sectorsAt f) p r low (λ q a b. none-here (sectorsAt f) (idMarkAt f) (sectorAt f) (sectors-one f) q (least-before (idMarkAt f) (n - p) p q a (rw e at b)))));
       }

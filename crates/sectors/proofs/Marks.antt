@@ -29,7 +29,7 @@ mark-by-word : (f : ℕ → ℕ) → ((i : ℕ) → f i < 2) → (p : ℕ) → e
 unfolding markAt
 mark-by-word f bit p =
     let e : word f 48 p ≡ word f 16 p * 4294967296 + (word f 16 (p + 16) * 65536 + word f 16 (p + 16 + 16)) =
-        word-split f bit 16 32 p ∙ ap (λ (x : ℕ). word f 16 p * 4294967296 + x) (word-split f bit 16 16 (p + 16)) in
+    word-split f bit 16 32 p ∙ ap (λ (x : ℕ). word f 16 p * 4294967296 + x) (word-split f bit 16 16 (p + 16)) in
     let g : p + 16 + 16 ≡ p + 32 = omega arith in
     rw (e, g) (three-words (word f 16 p) (word f 16 (p + 16)) (word f 16 (p + 32)) (word-lt f bit 16 (p + 16)) (word-lt f bit 16 (p + 32)))
 
@@ -59,5 +59,5 @@ module _ (f : ℕ → ℕ) (low high : ℕ) where
       record {
         inside = omega (arith, least-high (markAt f) (to - p) p);
         on = λ l. rw e (least-found (markAt f) (to - p) p (omega arith));
-        same = rw e (least-skip (markAt f) (markOf f low high) no-mark (to - p) p to t ∙ s)
+        same = rw e (least-skip (markAt f) (markOf f low high) no-mark (to - p) p to t ∙ s);
       }

@@ -49,7 +49,7 @@ module _ (test : ℕ → Bool) (after until p : ℕ) where
         from = l;
         to = h;
         passes = least-found test (until + 1 - after) (p + after) (omega arith);
-        before = λ r a b. least-before test (until + 1 - after) (p + after) r a b
+        before = λ r a b. least-before test (until + 1 - after) (p + after) r a b;
       }
 
   pub within-before : (r : ℕ) → p + after ≤ r → r < leastWithin test after until p → test r ≡ false
@@ -128,7 +128,7 @@ module _ (f : ℕ → ℕ) (n : ℕ) where
             below = rw e (from .below);
             marked = rw e (from .passes);
             made = rw e (from .element);
-            index = rw e (sym (from .index))
+            index = rw e (sym (from .index));
           }
 
   -- each ID mark has its record

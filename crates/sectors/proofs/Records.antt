@@ -12,9 +12,18 @@ pub record-is : (f : ℕ → ℕ) (p mark track side number code : ℕ) (id-good
     → q ≡ leastData f p → place ≡ cond (leb q (p + reach)) q 0 → data-mark ≡ cond (leb q (p + reach)) (markByte f q) 0
     → long ≡ cond (leb q (p + reach)) (lengthOf code) 0 → good ≡ (ltb 0 long && checkGood f q long)
     → record {
-        place = p; mark = mark; track = track; side = side; number = number; «size_code» = code; «id_check_good» = id-good; «data_place» = place;
-        «data_mark» = data-mark; «data_length» = long; «data_check_good» = good
-      } ≡ sectorAt f p
+      place = p;
+      mark = mark;
+      track = track;
+      side = side;
+      number = number;
+      «size_code» = code;
+      «id_check_good» = id-good;
+      «data_place» = place;
+      «data_mark» = data-mark;
+      «data_length» = long;
+      «data_check_good» = good;
+    } ≡ sectorAt f p
 unfolding sectorAt dataLength
 record-is f p mark track side number code id-good q place data-mark long good e₁ e₂ e₃ e₄ e₅ e₆ e₇ e₈ e₉ e₁₀ e₁₁ =
     rw (e₁₁, e₁₀, e₉, e₈, e₇, e₆, e₅, e₄, e₃, e₂, e₁)

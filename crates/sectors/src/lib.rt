@@ -95,7 +95,10 @@ pub fn sectors_of(bytes: &[u8], n: usize, track: u32, side: u32) -> TrackSectors
     if MOST_SECTORS < count {
         return no_list(Refusal::TooManySectors(count));
     }
-    TrackSectors { sectors, answer: Listed::Count(count) }
+    TrackSectors {
+        sectors,
+        answer: Listed::Count(count),
+    }
 }
 
 // Sector `index` of a track, from 0, with the number of its sectors.
@@ -112,13 +115,23 @@ pub fn sector_by_index(bytes: &[u8], n: usize, track: u32, side: u32, index: usi
             if count <= index {
                 return no_record(Refusal::NoSuchSector(count));
             }
-            Indexed { sector: sectors.all[index], answer: Listed::Count(count) }
+            Indexed {
+                sector: sectors.all[index],
+                answer: Listed::Count(count),
+            }
         }
     }
 }
 
 // Reads out sector `index` of a track: its data bytes go to the front of the buffer.
-pub fn read_out(bytes: &[u8], n: usize, track: u32, side: u32, index: usize, buffer: &mut [u8]) -> ReadOut
+pub fn read_out(
+    bytes: &[u8],
+    n: usize,
+    track: u32,
+    side: u32,
+    index: usize,
+    buffer: &mut [u8],
+) -> ReadOut
     ensures answer { λ r. ⌜ readOutAnswer r ≡ readAnswer (now (bytes .entry)) n track side index (length (now (buffer .entry))) ⌝ }
     ensures buffer { λ _. ⌜ now (buffer .exit) ≡ dataAfter (now (bytes .entry)) n track side index (now (buffer .entry)) ⌝ }
 {
@@ -162,14 +175,20 @@ fn no_list(refusal: Refusal) -> TrackSectors
     ensures { λ r. ⌜ (listedAnswer (r .answer) ≡ refusedWith refusal) × (r .sectors ≡ kept []) ⌝ }
 {
     let sectors = no_sectors();
-    TrackSectors { sectors, answer: Listed::Refused(refusal) }
+    TrackSectors {
+        sectors,
+        answer: Listed::Refused(refusal),
+    }
 }
 
 // No sector, beside a refusal.
 fn no_record(refusal: Refusal) -> Indexed
     ensures { λ r. ⌜ (listedAnswer (r .answer) ≡ refusedWith refusal) × (r .sector ≡ noSector) ⌝ }
 {
-    Indexed { sector: no_sector(), answer: Listed::Refused(refusal) }
+    Indexed {
+        sector: no_sector(),
+        answer: Listed::Refused(refusal),
+    }
 }
 
 // Reads out a sector of the track.
@@ -302,7 +321,14 @@ fn find_data(bytes: &[u8], n: usize, p: usize) -> usize
     requires { ⌜ p < 131072 ⌝ }
     ensures { λ r. ⌜ (r ≡ leastData (cell (now (bytes .entry)) n) p) × (r ≤ p + 785) ⌝ }
 {
-    find_mark(bytes, n, FIRST_DATA_MARK, LAST_DATA_MARK, p + ID, p + REACH + 1)
+    find_mark(
+        bytes,
+        n,
+        FIRST_DATA_MARK,
+        LAST_DATA_MARK,
+        p + ID,
+        p + REACH + 1,
+    )
 }
 
 // The place of a data mark, 0 where there is none.
@@ -318,7 +344,11 @@ fn mark_if(found: bool, bytes: &[u8], n: usize, q: usize) -> u8
     requires { ⌜ q < 200000 ⌝ }
     ensures { λ r. ⌜ r ≡ cond found (markByte (cell (now (bytes .entry)) n) q) 0 ⌝ }
 {
-    if found { mfm::byte_on(bytes, n, q + SYNC_CELLS) } else { 0 }
+    if found {
+        mfm::byte_on(bytes, n, q + SYNC_CELLS)
+    } else {
+        0
+    }
 }
 
 // The data length where there is a data mark, else 0.

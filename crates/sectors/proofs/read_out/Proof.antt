@@ -1,38 +1,45 @@
+-- `sectors::read_out` meets its contract. Assumes nothing.
+use mathlib.Core.Path.{refl, sym, ap, _∙_}
+use lib.ListN.{length}
+use Rattle.refusals.specs.RefusedCalls.{bufferAfter}
+use Rattle.mfm.proofs.Calls.{answer-and-buffer}
+use Rattle.sectors.specs.Calls.{listedAnswer}
+use Rattle.sectors.proofs.Calls.{read-follows, read-given}
 use borrow.Author.Needs.{needs}
 use Rattle.sectors.proofs.read_out.Statement.{statement}
 use Rattle.sectors.proofs.read_out.Tie as tie
-use Rattle.sectors.proofs.read_out.Reads as reads
-use Rattle.sectors.proofs.read_out.Lts as lts
-use Rattle.sectors.proofs.read_sector.Reads as read-sector-reads
-use Rattle.sectors.proofs.sector_by_index.Reads as sector-by-index-reads
 
--- src/lib.rt:125:9
 sector-by-index-requires : tie.Need-sector-by-index-requires
 sector-by-index-requires c κs = search needs
 
--- src/lib.rt:129:25
 enum-known-answer : tie.Need-enum-known-answer
 enum-known-answer c = search needs
 
--- src/lib.rt:130:59
 enum-told : tie.Need-enum-told
 enum-told c = search needs
 
--- src/lib.rt:130:29
 read-sector-requires : tie.Need-read-sector-requires
 read-sector-requires c κs = search needs
 
--- src/lib.rt:121:1
 returns : tie.Need-returns
-returns c = ?
+unfolding bufferAfter
+returns c =
+    let l = c .before .before .before .before in
+    let a = l .before .before .before .args in
+    let v = c .before .answer .given in
+    let g = sym (ap listedAnswer (v .1)) ∙ l .sector-by-index .ensures .0 in
+    answer-and-buffer _ _ (sym (read-follows (a .bytes .now) (a .n) (a .track) (a .side) (a .index) (length (a .buffer .now)) .refusals _ _ (sym g))) refl
 
--- src/lib.rt:121:1
 same-length : tie.Need-same-length
 same-length c = search needs
 
--- src/lib.rt:121:1
 returns-2 : tie.Need-returns-2
-returns-2 c = ?
+returns-2 c =
+    let t = c .before .before .before .before in
+    let l = t .before .before .before in
+    let a = l .before .before .before .args in
+    let g = sym (ap listedAnswer (t .enum-told .given .1)) ∙ l .sector-by-index .ensures .0 in
+    read-given (a .bytes .now) (a .n) (a .track) (a .side) (a .index) _ (a .buffer .now) _ _ _ g (l .sector-by-index .ensures .1) (c .before .before .read-sector .ensures .0) (c .before .before .read-sector .ensures .1)
 
 pub read-out-spec : {M : Type 1} → statement M
 read-out-spec =

@@ -1,41 +1,39 @@
+-- `sectors::read_sector` meets its contract. Assumes nothing.
+use mathlib.Core.Path.{refl}
+use Rattle.refusals.specs.RefusedCalls.{bufferAfter}
+use Rattle.mfm.proofs.Calls.{answer-and-buffer}
+use Rattle.sectors.specs.Sectors.{dataBytes}
+use Rattle.sectors.proofs.Calls.{refuses-12, refuses-13, data-accepted}
 use borrow.Author.Needs.{needs}
 use Rattle.sectors.proofs.read_sector.Statement.{statement}
 use Rattle.sectors.proofs.read_sector.Tie as tie
-use Rattle.sectors.proofs.read_sector.Reads as reads
-use Rattle.sectors.proofs.read_sector.Lts as lts
-use Rattle.sectors.proofs.write_data.Reads as write-data-reads
 
--- src/lib.rt:180:16
 cast-size : tie.Need-cast-size
 cast-size c = search needs
 
--- src/lib.rt:182:9
 returns : tie.Need-returns
-returns c = ?
+unfolding bufferAfter
+returns c = answer-and-buffer _ _ (refuses-12 _ _ (c .if1 .taken)) refl
 
--- src/lib.rt:185:9
 returns-2 : tie.Need-returns-2
-returns-2 c = ?
+unfolding bufferAfter
+returns-2 c = answer-and-buffer _ _ (refuses-13 _ _ (c .before .if1 .left) (c .if2 .taken)) refl
 
--- src/lib.rt:187:26
 cast-write-data : tie.Need-cast-write-data
 cast-write-data c = search needs
 
--- src/lib.rt:187:26
 add-write-data : tie.Need-add-write-data
 add-write-data c = search needs
 
--- src/lib.rt:187:5
 write-data-requires : tie.Need-write-data-requires
 write-data-requires c κs = search needs
 
--- src/lib.rt:176:1
 same-length : tie.Need-same-length
 same-length c = search needs
 
--- src/lib.rt:176:1
 returns-3 : tie.Need-returns-3
-returns-3 c = ?
+unfolding bufferAfter dataBytes
+returns-3 c = answer-and-buffer _ _ (data-accepted _ _ (c .before .before .before .before .before .before .if1 .left) (c .before .before .before .before .before .if2 .left)) (c .before .before .write-data .ensures)
 
 pub read-sector-spec : {M : Type 1} → statement M
 read-sector-spec =
