@@ -5,3 +5,4 @@ pub mod Packing
 pub mod Ones
 pub mod Zeros
 pub mod Appending
+pub mod InBytes

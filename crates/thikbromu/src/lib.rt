@@ -11,6 +11,9 @@ use flux::Separated;
 use flux::Separator;
 use flux::Taken;
 use mfm::Written;
+use sectors::Listed;
+use sectors::ReadOut;
+use sectors::Sector;
 ghost use mathlib.Core.Path.{_≡_};
 ghost use mathlib.Core.Bool.{cond};
 ghost use Prim.Native.Nat.{_≤_, min};
@@ -23,7 +26,8 @@ ghost use Rattle.flux.specs.Rule.{takenAnswer, stepAnswer, stepResidual};
 ghost use Rattle.flux.specs.Separation.{separatedAnswer, separation, separatedCells};
 ghost use Rattle.flux.specs.Demand3.{Demand3};
 ghost use Rattle.flux.specs.Histogram.{countedAnswer, counting};
-ghost use Rattle.thikbromu.specs.Numbers.{numberIn, valueIn, countsLent};
+ghost use Rattle.sectors.specs.Calls.{listedAnswer, indexAnswer, readOutAnswer, readAnswer, dataAfter};
+ghost use Rattle.thikbromu.specs.Numbers.{numberIn, valueIn, countsLent, sectorNumbers, recordLent, numberRead, valueRead, checkRead};
 
 // Cell p of a track of n cells, counted on past n.
 #[no_mangle]
@@ -259,6 +263,85 @@ fn told_counted(counted: Counted, value: &mut usize) -> u32
         }
         Counted::Refused(refusal) => {
             *value = refusal.value();
+            refusal.number()
+        }
+    }
+}
+
+// Sector `index` of a track, from 0: its record as eleven numbers at the front of `record` (place, mark, track, side,
+// number, size code, ID check, data place, data mark, data length, data check; a check is 1 where it is good), all zeros
+// beside a refusal; `value` is the number of sectors. `track` and `side` are the drive's.
+#[no_mangle]
+pub extern "C" fn thikbromu_sector(bytes: &[u8], n: usize, track: u32, side: u32, index: usize, record: &mut [u32], value: &mut usize) -> u32
+    ensures number { λ r. ⌜ r ≡ numberIn (indexAnswer (now (bytes .entry)) n track side index) ⌝ }
+    ensures value { λ _. ⌜ now (value .exit) ≡ valueIn (indexAnswer (now (bytes .entry)) n track side index) ⌝ }
+    ensures record { λ _. ⌜ now (record .exit) ≡ recordLent (now (bytes .entry)) n track side index (now (record .entry)) ⌝ }
+{
+    let found = sectors::sector_by_index(bytes, n, track, side, index);
+    let sector = found.sector;
+    let numbers = sector_numbers(sector);
+    copy_numbers(&numbers, record);
+    let answer = found.answer;
+    told_listed(answer, value)
+}
+
+fn sector_numbers(sector: Sector) -> [u32; 11]
+    ensures { λ r. ⌜ r ≡ sectorNumbers sector ⌝ }
+{
+    [
+        sector.place,
+        sector.mark as u32,
+        sector.track as u32,
+        sector.side as u32,
+        sector.number as u32,
+        sector.size_code as u32,
+        sector.id_check_good as u32,
+        sector.data_place,
+        sector.data_mark as u32,
+        sector.data_length,
+        sector.data_check_good as u32,
+    ]
+}
+
+fn told_listed(listed: Listed, value: &mut usize) -> u32
+    ensures { λ r. ⌜ (r ≡ numberIn (listedAnswer listed)) × (now (value .exit) ≡ valueIn (listedAnswer listed)) ⌝ }
+{
+    match listed {
+        Listed::Count(count) => {
+            *value = count;
+            0
+        }
+        Listed::Refused(refusal) => {
+            *value = refusal.value();
+            refusal.number()
+        }
+    }
+}
+
+// Reads out sector `index` of a track to the front of `buffer`; `value` is the number of bytes, and `good` is 1 where their
+// check is good and else 0.
+#[no_mangle]
+pub extern "C" fn thikbromu_read_out(bytes: &[u8], n: usize, track: u32, side: u32, index: usize, buffer: &mut [u8], good: &mut u32, value: &mut usize) -> u32
+    ensures number { λ r. ⌜ r ≡ numberRead (readAnswer (now (bytes .entry)) n track side index (length (now (buffer .entry)))) ⌝ }
+    ensures value { λ _. ⌜ now (value .exit) ≡ valueRead (readAnswer (now (bytes .entry)) n track side index (length (now (buffer .entry)))) ⌝ }
+    ensures good { λ _. ⌜ now (good .exit) ≡ checkRead (readAnswer (now (bytes .entry)) n track side index (length (now (buffer .entry)))) ⌝ }
+    ensures buffer { λ _. ⌜ now (buffer .exit) ≡ dataAfter (now (bytes .entry)) n track side index (now (buffer .entry)) ⌝ }
+{
+    told_read(sectors::read_out(bytes, n, track, side, index, buffer), good, value)
+}
+
+fn told_read(read: ReadOut, good: &mut u32, value: &mut usize) -> u32
+    ensures { λ r. ⌜ (r ≡ numberRead (readOutAnswer read)) × (now (value .exit) ≡ valueRead (readOutAnswer read)) × (now (good .exit) ≡ checkRead (readOutAnswer read)) ⌝ }
+{
+    match read {
+        ReadOut::Data(size, check_good) => {
+            *value = size;
+            *good = check_good as u32;
+            0
+        }
+        ReadOut::Refused(refusal) => {
+            *value = refusal.value();
+            *good = 0;
             refusal.number()
         }
     }
