@@ -7,8 +7,8 @@ use native.Mathlib.Omega.{arith}
 use borrow.Author.Tests.{eq-eqb, ne-eqb, eqb-true, eqb-false}
 use lib.Dec.{eqb, leb}
 use Rattle.basis.specs.Search.{least}
-use Rattle.basis.proofs.Search.{least-found, least-low, least-high, least-skip, least-step}
-use Rattle.cells.specs.CellsAndBytes.{cell, word, wordAt, stands}
+use Rattle.basis.proofs.Search.{least-found, least-high, least-skip, least-same}
+use Rattle.cells.specs.CellsAndBytes.{cell, word, wordAt, stands, leastPlace}
 use Rattle.cells.proofs.Places.{cell-lt}
 use Rattle.cells.proofs.Words.{word-lt, word-split}
 use Rattle.sectors.specs.Marks.{markAt, markByte, markOf}
@@ -36,6 +36,10 @@ mark-by-word f bit p =
 pub mark-stands : (bytes : List ℕ) (n p : ℕ) → stands bytes n 48 0x448944894489 p ≡ markAt (cell bytes n) p
 unfolding stands wordAt
 mark-stands bytes n p = mark-by-word (cell bytes n) (cell-lt bytes n) p
+
+-- so a search for the word finds the next mark
+pub next-is : (bytes : List ℕ) (n from to r : ℕ) → r ≡ leastPlace bytes n 48 0x448944894489 from to → r ≡ least (markAt (cell bytes n)) (to - from) from
+next-is bytes n from to r e = e ∙ least-same (stands bytes n 48 0x448944894489) (markAt (cell bytes n)) (mark-stands bytes n) (to - from) from
 
 module _ (f : ℕ → ℕ) (low high : ℕ) where
   pub no-mark : (p : ℕ) → markAt f p ≡ false → markOf f low high p ≡ false

@@ -8,7 +8,6 @@ use native.Mathlib.Decide.{decLe}
 use native.Mathlib.Nat.{lt-of-not-le}
 use native.Mathlib.Omega.{arith}
 use borrow.Author.Tests.{leb-true}
-use lib.Dec.{leb}
 use lib.ListN.{length, getD, List·getD-eq-default}
 use Rattle.basis.specs.Lists.{joined}
 use Rattle.basis.specs.Search.{least}
@@ -17,7 +16,7 @@ use Rattle.basis.proofs.Search.{least-before, least-found, least-low, least-hig
 use Rattle.cells.specs.CellsAndBytes.{cell}
 use Rattle.sectors.specs.Marks.{idMarkAt}
 use Rattle.sectors.specs.declared.Sector.{Sector}
-use Rattle.sectors.specs.Sectors.{reach, leastWithin, leastData, dataFound, lengthOf, idByte, dataLength, dataEnd, sectorAt, noSector, sectorsAt, sectorsOf}
+use Rattle.sectors.specs.Sectors.{markLength, reach, leastWithin, leastData, dataFound, lengthOf, idByte, dataLength, dataEnd, sectorAt, noSector, sectorsAt, sectorsOf}
 
 -- q is the least place from p + after to p + until that passes the test
 pub record LeastWithin (test : ℕ → Bool) (after until p q : ℕ) : Type 0 where
@@ -28,17 +27,19 @@ pub record LeastWithin (test : ℕ → Bool) (after until p q : ℕ) : Type 0 wh
 
 module _ (test : ℕ → Bool) (after until p : ℕ) where
   -- as a search from p + after that ends before p + until + 1
-  pub within-is : least test (p + until + 1 - (p + after)) (p + after) ≡ leastWithin test after until p
+  within-is : least test (p + until + 1 - (p + after)) (p + after) ≡ leastWithin test after until p
   unfolding leastWithin
   within-is = let e : p + until + 1 - (p + after) ≡ until + 1 - after = omega arith in rw e
+
+  pub within-search : (q : ℕ) → after ≤ until + 1 → q ≡ least test (p + until + 1 - (p + after)) (p + after)
+      → (q ≡ leastWithin test after until p) × (q ≤ p + until + 1)
+  within-search q h e =
+      let l = least-high test (p + until + 1 - (p + after)) (p + after) in
+      (e ∙ within-is, omega arith)
 
   pub within-low : p + after ≤ leastWithin test after until p
   unfolding leastWithin
   within-low = least-low test (until + 1 - after) (p + after)
-
-  pub within-high : after ≤ until + 1 → leastWithin test after until p ≤ p + until + 1
-  unfolding leastWithin
-  within-high h = omega (arith, least-high test (until + 1 - after) (p + after))
 
   -- what is found, and that there is none where nothing is
   pub within-found : leastWithin test after until p ≤ p + until → LeastWithin test after until p (leastWithin test after until p)
@@ -97,7 +98,7 @@ unfolding sectorAt dataLength
 data-end-below f n p h l = go (dataFound f p) refl
   where
     go : (b : Bool) → dataFound f p ≡ b → dataEnd (cond b (leastData f p) 0) (cond b (lengthOf (idByte f p 3)) 0) < 2 * n
-    go true e = end-in-two-turns 64 reach 1024 n p (leastData f p) (lengthOf (idByte f p 3)) (omega arith) l (leb-true (leastData f p) (p + reach) e) (length-most (idByte f p 3))
+    go true e = end-in-two-turns markLength reach 1024 n p (leastData f p) (lengthOf (idByte f p 3)) (omega arith) l (leb-true (leastData f p) (p + reach) e) (length-most (idByte f p 3))
     go false e = omega arith
 
 -- the sectors at a place, as the laws of joined lists take them

@@ -5,7 +5,6 @@ use mathlib.Core.Bool.{Bool, cond, _&&_}
 use lib.Dec.{leb, ltb}
 use Rattle.sectors.specs.Marks.{markByte}
 use Rattle.sectors.specs.Sectors.{reach, checkGood, leastData, lengthOf, idByte, dataLength, sectorAt}
-use Rattle.sectors.specs.declared.Sector.{Sector}
 
 pub record-is : (f : ℕ → ℕ) (p mark track side number code : ℕ) (id-good : Bool) (q place data-mark long : ℕ) (good : Bool)
     → mark ≡ markByte f p → track ≡ idByte f p 0 → side ≡ idByte f p 1 → number ≡ idByte f p 2 → code ≡ idByte f p 3 → id-good ≡ checkGood f p 4

@@ -170,6 +170,9 @@ const FIRST_DATA_MARK: u8 = 0xF8;
 
 const LAST_DATA_MARK: u8 = 0xFB;
 
+// The functions below take places below 200,000 and check at most 1,024 bytes: no sum of theirs can overflow. A track has at
+// most 131,072 places, and a data mark stands at most the reach past them.
+
 // No sectors, beside a refusal.
 fn no_list(refusal: Refusal) -> TrackSectors
     ensures { λ r. ⌜ (listedAnswer (r .answer) ≡ refusedWith refusal) × (r .sectors ≡ kept []) ⌝ }
@@ -207,7 +210,7 @@ fn read_sector(bytes: &[u8], n: usize, sector: Sector, buffer: &mut [u8]) -> Rea
     ReadOut::Data(size, sector.data_check_good)
 }
 
-// Decodes `size` bytes from cell p on into the front of the buffer.
+// Decodes `size` bytes from cell p on into the front of the buffer. Both come from numbers of 32 bits.
 fn write_data(bytes: &[u8], n: usize, p: usize, size: usize, buffer: &mut [u8])
     requires { ⌜ (p ≤ 0x1_0000_0040) × (size ≤ 0x1_0000_0000) × (size ≤ length (now buffer)) ⌝ }
     ensures { λ _. ⌜ now (buffer .exit) ≡ writtenOver (bytesFrom (cell (now (bytes .entry)) n) p size) (now (buffer .entry)) ⌝ }

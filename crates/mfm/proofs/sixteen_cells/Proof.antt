@@ -2,7 +2,7 @@
 use Prim.Native.Nat.{_+_, _≤_}
 use mathlib.Core.Path.{_∙_}
 use native.Mathlib.Omega.{arith}
-use Rattle.cells.specs.CellsAndBytes.{cell, word}
+use Rattle.cells.specs.CellsAndBytes.{cell}
 use Rattle.cells.proofs.InBytes.{word-in-three}
 use Rattle.cells.proofs.Places.{cell-lt}
 use Rattle.cells.proofs.Standing.{word-is}

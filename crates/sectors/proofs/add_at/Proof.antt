@@ -1,12 +1,9 @@
 -- `sectors::add_at` meets its contract: the sector is kept where fewer than 64 stand before it. Assumes nothing.
-use Prim.Native.Nat.{_<_, _≤_, _+_}
-use mathlib.Core.Path.{_≡_, sym, ap, _∙_}
-use mathlib.Core.List.{List, _∷_, [], _++_}
+use mathlib.Core.Path.{_≡_, ap}
 use native.Mathlib.Omega.{arith}
 use Rattle.basis.specs.Lists.{joined}
 use Rattle.cells.specs.CellsAndBytes.{cell}
 use Rattle.sectors.specs.Sectors.{sectorAt, sectorsAt, kept}
-use Rattle.sectors.specs.declared.Sector.{Sector}
 use Rattle.sectors.specs.declared.Sectors.{Sectors}
 use Rattle.sectors.proofs.Kept.{kept-count, kept-more, kept-full}
 use Rattle.sectors.proofs.Listing.{sectors-few, sectors-here}

@@ -5,9 +5,9 @@ use native.Mathlib.Omega.{arith}
 use denote.Ref.{now}
 use lib.ListN.{getD}
 use Rattle.refusals.specs.RefusedCalls.{numberOf, valueOf}
-use Rattle.refusals.specs.RefusedCalls.Answer.{gives, refused}
-use Rattle.sectors.specs.Sectors.{noSector, sectorsOf, kept}
-use Rattle.sectors.specs.Calls.{listedAnswer, sectorsAnswer, sectorOf}
+use Rattle.refusals.specs.RefusedCalls.Answer.{gives}
+use Rattle.sectors.specs.Sectors.{noSector, sectorsOf}
+use Rattle.sectors.specs.Calls.{listedAnswer, sectorsAnswer}
 use Rattle.sectors.specs.declared.Sectors.{Sectors}
 use Rattle.sectors.proofs.Calls.{list-accepted, listed-sectors, index-follows, index-refused, index-given, record-refused, record-given}
 use Rattle.sectors.proofs.Kept.{kept-at}

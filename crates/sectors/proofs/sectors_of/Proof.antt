@@ -2,9 +2,9 @@
 use native.Mathlib.Omega.{arith}
 use mathlib.Core.Path.{_≡_, refl, ap, _∙_}
 use lib.ListN.{length}
-use Rattle.sectors.specs.Sectors.{sectorsOf, kept}
-use Rattle.sectors.specs.Calls.{countJudged, sectorsAnswer}
-use Rattle.refusals.specs.RefusedCalls.Answer.{gives, refused}
+use Rattle.sectors.specs.Sectors.{sectorsOf}
+use Rattle.sectors.specs.Calls.{sectorsAnswer}
+use Rattle.refusals.specs.RefusedCalls.Answer.{gives}
 use Rattle.sectors.specs.declared.Sectors.{Sectors}
 use Rattle.sectors.proofs.Calls.{most-cells, refuses-1, refuses-2, refuses-3, track-accepted, refuses-4, count-accepted, list-refused, list-given}
 use Rattle.sectors.proofs.Kept.{kept-count}
