@@ -268,19 +268,27 @@ fn told_counted(counted: Counted, value: &mut usize) -> u32
     }
 }
 
-// Sector `index` of a track, from 0: its record as eleven numbers at the front of `record` (place, mark, track, side,
+// Sector `index` of a track, from 0: its record as eleven numbers at the front of `numbers` (place, mark, track, side,
 // number, size code, ID check, data place, data mark, data length, data check; a check is 1 where it is good), all zeros
 // beside a refusal; `value` is the number of sectors. `track` and `side` are the drive's.
 #[no_mangle]
-pub extern "C" fn thikbromu_sector(bytes: &[u8], n: usize, track: u32, side: u32, index: usize, record: &mut [u32], value: &mut usize) -> u32
+pub extern "C" fn thikbromu_sector(
+    bytes: &[u8],
+    n: usize,
+    track: u32,
+    side: u32,
+    index: usize,
+    numbers: &mut [u32],
+    value: &mut usize,
+) -> u32
     ensures number { λ r. ⌜ r ≡ numberIn (indexAnswer (now (bytes .entry)) n track side index) ⌝ }
     ensures value { λ _. ⌜ now (value .exit) ≡ valueIn (indexAnswer (now (bytes .entry)) n track side index) ⌝ }
-    ensures record { λ _. ⌜ now (record .exit) ≡ recordLent (now (bytes .entry)) n track side index (now (record .entry)) ⌝ }
+    ensures numbers { λ _. ⌜ now (numbers .exit) ≡ recordLent (now (bytes .entry)) n track side index (now (numbers .entry)) ⌝ }
 {
     let found = sectors::sector_by_index(bytes, n, track, side, index);
     let sector = found.sector;
-    let numbers = sector_numbers(sector);
-    copy_numbers(&numbers, record);
+    let made = sector_numbers(sector);
+    copy_numbers(&made, numbers);
     let answer = found.answer;
     told_listed(answer, value)
 }
@@ -321,13 +329,33 @@ fn told_listed(listed: Listed, value: &mut usize) -> u32
 // Reads out sector `index` of a track to the front of `buffer`; `value` is the number of bytes, and `good` is 1 where their
 // check is good and else 0.
 #[no_mangle]
-pub extern "C" fn thikbromu_read_out(bytes: &[u8], n: usize, track: u32, side: u32, index: usize, buffer: &mut [u8], good: &mut u32, value: &mut usize) -> u32
+pub extern "C" fn thikbromu_read_out(
+    bytes: &[u8],
+    n: usize,
+    track: u32,
+    side: u32,
+    index: usize,
+    buffer: &mut [u8],
+    good: &mut u32,
+    value: &mut usize,
+) -> u32
     ensures number { λ r. ⌜ r ≡ numberRead (readAnswer (now (bytes .entry)) n track side index (length (now (buffer .entry)))) ⌝ }
     ensures value { λ _. ⌜ now (value .exit) ≡ valueRead (readAnswer (now (bytes .entry)) n track side index (length (now (buffer .entry)))) ⌝ }
     ensures good { λ _. ⌜ now (good .exit) ≡ checkRead (readAnswer (now (bytes .entry)) n track side index (length (now (buffer .entry)))) ⌝ }
     ensures buffer { λ _. ⌜ now (buffer .exit) ≡ dataAfter (now (bytes .entry)) n track side index (now (buffer .entry)) ⌝ }
 {
-    told_read(sectors::read_out(bytes, n, track, side, index, buffer), good, value)
+    told_read(
+        sectors::read_out(bytes, n, track, side, index, buffer),
+        good,
+        value,
+    )
+}
+
+// 1 for yes and 0 for no.
+fn one_if(yes: bool) -> u32
+    ensures { λ r. ⌜ r ≡ cond yes 1 0 ⌝ }
+{
+    if yes { 1 } else { 0 }
 }
 
 fn told_read(read: ReadOut, good: &mut u32, value: &mut usize) -> u32
@@ -336,7 +364,7 @@ fn told_read(read: ReadOut, good: &mut u32, value: &mut usize) -> u32
     match read {
         ReadOut::Data(size, check_good) => {
             *value = size;
-            *good = check_good as u32;
+            *good = one_if(check_good);
             0
         }
         ReadOut::Refused(refusal) => {

@@ -1,0 +1,25 @@
+-- `thikbromu::thikbromu_read_out` meets its contract. Assumes nothing.
+use mathlib.Core.Path.{ap, _∙_}
+use Rattle.thikbromu.specs.Numbers.{numberRead, valueRead, checkRead}
+use borrow.Author.Needs.{needs}
+use Rattle.thikbromu.proofs.thikbromu_read_out.Statement.{statement}
+use Rattle.thikbromu.proofs.thikbromu_read_out.Tie as tie
+
+read-out-requires : tie.Need-read-out-requires
+read-out-requires c κs = search needs
+
+told-read-requires : tie.Need-told-read-requires
+told-read-requires c κs = search needs
+
+same-length : tie.Need-same-length
+same-length c = search needs
+
+returns : tie.Need-returns
+returns c =
+    let s = c .before .before .before .before .before .read-out .ensures in
+    let t = c .told-read .ensures in
+    (t .0 ∙ ap numberRead (s .0), (t .1 ∙ ap valueRead (s .0), (t .2 ∙ ap checkRead (s .0), s .1)))
+
+pub thikbromu-read-out-spec : {M : Type 1} → statement M
+thikbromu-read-out-spec =
+    tie.close (tie.spec read-out-requires told-read-requires same-length returns)
