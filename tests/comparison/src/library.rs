@@ -47,6 +47,29 @@ extern "C" {
         room: usize,
         value: *mut usize,
     ) -> u32;
+    fn thikbromu_sector(
+        bytes: *const u8,
+        length: usize,
+        n: usize,
+        track: u32,
+        side: u32,
+        index: usize,
+        numbers: *mut u32,
+        room: usize,
+        value: *mut usize,
+    ) -> u32;
+    fn thikbromu_read_out(
+        bytes: *const u8,
+        length: usize,
+        n: usize,
+        track: u32,
+        side: u32,
+        index: usize,
+        buffer: *mut u8,
+        room: usize,
+        good: *mut u32,
+        value: *mut usize,
+    ) -> u32;
     fn thikbromu_histogram(
         timings: *const u32,
         length: usize,
@@ -143,4 +166,52 @@ pub fn histogram(timings: &[u32], counts: &mut [u32]) -> Result<usize, Refusal> 
         thikbromu_histogram(timings.as_ptr(), timings.len(), counts.as_mut_ptr(), counts.len(), &mut value)
     };
     answer(number, value)
+}
+
+/// A sector by index: the number of sectors, or the refusal, and the record's numbers.
+pub fn sector(bytes: &[u8], n: usize, track: u32, side: u32, index: usize) -> (Result<usize, Refusal>, [u32; 11]) {
+    let mut numbers = [u32::MAX; 11];
+    let mut value = usize::MAX;
+    let number = unsafe {
+        thikbromu_sector(
+            bytes.as_ptr(),
+            bytes.len(),
+            n,
+            track,
+            side,
+            index,
+            numbers.as_mut_ptr(),
+            numbers.len(),
+            &mut value,
+        )
+    };
+    (answer(number, value), numbers)
+}
+
+/// Reading out: the number of bytes and whether their check is good, or the refusal.
+pub fn read_out(
+    bytes: &[u8],
+    n: usize,
+    track: u32,
+    side: u32,
+    index: usize,
+    buffer: &mut [u8],
+) -> Result<(usize, bool), Refusal> {
+    let mut good = u32::MAX;
+    let mut value = usize::MAX;
+    let number = unsafe {
+        thikbromu_read_out(
+            bytes.as_ptr(),
+            bytes.len(),
+            n,
+            track,
+            side,
+            index,
+            buffer.as_mut_ptr(),
+            buffer.len(),
+            &mut good,
+            &mut value,
+        )
+    };
+    answer(number, value).map(|length| (length, good == 1))
 }

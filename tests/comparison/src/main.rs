@@ -7,6 +7,7 @@ mod coding;
 mod flux;
 mod library;
 mod report;
+mod sectors;
 mod track_cells;
 
 fn main() {
@@ -26,6 +27,9 @@ fn main() {
     flux::extremes(&mut totals);
     flux::limits(&mut totals);
     flux::histograms(&mut totals);
+    sectors::standard(&mut totals);
+    sectors::shapes(&mut totals);
+    sectors::any_tracks(&mut totals);
     println!("{} passed, {} failed", totals.0, totals.1);
     if totals.1 > 0 {
         std::process::exit(1);

@@ -3,7 +3,7 @@
 //! It is written from the text of 01 (docs/01-scope.md), for comparison with the
 //! library; what 01 leaves open is read as docs/DECISIONS.md says.
 //! Each module is one section of 01 and names the rules that it follows;
-//! `random` and `flux_tracks` make the inputs of the comparison.
+//! `random`, `flux_tracks` and `track_builder` make the inputs of the comparison.
 
 pub mod cells;
 pub mod check_word;
@@ -11,4 +11,6 @@ pub mod flux_tracks;
 pub mod mfm;
 pub mod random;
 pub mod refusal;
+pub mod sectors;
 pub mod separator;
+pub mod track_builder;

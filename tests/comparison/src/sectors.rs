@@ -1,0 +1,236 @@
+//! 01, "Sectors": records, the sector by index, and reading out.
+
+use crate::library;
+use crate::report::{Group, Lent};
+use second_program::cells;
+use second_program::random::Random;
+use second_program::sectors::{self, SectorRecord};
+use second_program::track_builder::{odd_track, standard_track, turn, SectorPlan, TrackBuilder};
+
+/// A packed track: its bytes and its number of cells.
+struct Track {
+    bytes: Vec<u8>,
+    n: usize,
+}
+
+fn packed(track_cells: &[u8]) -> Track {
+    Track { bytes: cells::pack(track_cells), n: track_cells.len() }
+}
+
+/// A record as the library's numbers.
+fn numbers(record: &SectorRecord) -> [u32; 11] {
+    [
+        record.place as u32,
+        u32::from(record.mark),
+        u32::from(record.track),
+        u32::from(record.side),
+        u32::from(record.number),
+        u32::from(record.size_code),
+        u32::from(record.id_check_good),
+        record.data_place as u32,
+        u32::from(record.data_mark),
+        record.length as u32,
+        u32::from(record.data_check_good),
+    ]
+}
+
+/// Sector by index: the answer, the record (all zeros beside a refusal) and the bytes afterwards.
+fn index_case(group: &mut Group, track: &Track, drive: (u32, u32), index: usize) {
+    let input = track.bytes.clone();
+    let ours = library::sector(&input, track.n, drive.0, drive.1, index);
+    let second = sectors::sector_by_index(drive.0, drive.1, &track.bytes, track.n, index);
+    let expected = match &second {
+        Ok((record, count)) => (Ok(*count), numbers(record)),
+        Err(refusal) => (Err(*refusal), [0; 11]),
+    };
+    group.same((ours, &input), (expected, &track.bytes), || {
+        format!("n {}, T {}, H {}, index {index}", track.n, drive.0, drive.1)
+    });
+}
+
+/// Reading out: the answer, the buffer and the bytes afterwards.
+fn read_case(group: &mut Group, track: &Track, drive: (u32, u32), index: usize, room: usize) {
+    let input = track.bytes.clone();
+    let mut lent = Lent::new(room);
+    let ours = library::read_out(&input, track.n, drive.0, drive.1, index, lent.part());
+    let second = sectors::read_out(drive.0, drive.1, &track.bytes, track.n, index, room);
+    let expected = match &second {
+        Ok(read) => (Ok((read.length, read.check_good)), Lent::expected(room, &read.bytes)),
+        Err(refusal) => (Err(*refusal), Lent::expected(room, &[])),
+    };
+    group.same(((ours, lent.into_all()), &input), (expected, &track.bytes), || {
+        format!("n {}, T {}, H {}, index {index}, room {room}", track.n, drive.0, drive.1)
+    });
+}
+
+/// All sectors of a track, one index past them, and reading out of some of them with rooms around what is needed.
+fn whole_track(group: &mut Group, random: &mut Random, track: &Track, drive: (u32, u32)) {
+    let list = sectors::list(&track.bytes, track.n);
+    let shown = if list.len() > 12 { vec![0, 1, list.len() / 2, list.len() - 1] } else { (0..list.len()).collect() };
+    for &index in &shown {
+        index_case(group, track, drive, index);
+    }
+    for index in [list.len(), usize::MAX] {
+        index_case(group, track, drive, index);
+    }
+    for _ in 0..2 {
+        let index = random.below(list.len() as u64 + 1) as usize;
+        let length = list.get(index).map_or(0, |record| record.length);
+        for room in [length, length.saturating_sub(1), length + 5] {
+            read_case(group, track, drive, index, room);
+        }
+    }
+}
+
+/// The standard track, as 01 gives it, and turned so that the index falls on every cell of a record.
+pub fn standard(totals: &mut (usize, usize)) {
+    let mut group = Group::new("the standard track, by 01's numbers");
+    let mut random = Random::new(20);
+    let standard_cells = standard_track(3, 1, 0xE5);
+    let track = packed(&standard_cells);
+    for i in 0..9 {
+        let place = 1152 + 9824 * i as u32;
+        let record = [place, 0xFE, 3, 1, i as u32 + 1, 2, 1, place + 704, 0xFB, 512, 1];
+        group.same(library::sector(&track.bytes, 100_000, 3, 1, i), (Ok(9), record), || format!("sector {i}"));
+        let mut data = [0; 512];
+        let answer = library::read_out(&track.bytes, 100_000, 3, 1, i, &mut data);
+        group.same((answer, data), (Ok((512, true)), [0xE5; 512]), || format!("data of sector {i}"));
+    }
+    whole_track(&mut group, &mut random, &track, (3, 1));
+    group.close(totals);
+
+    let mut group = Group::new("the standard track, turned under the index cell by cell");
+    for by in 0..9_824 {
+        let track = packed(&turn(&standard_cells, 100_000 - 1_152 + by));
+        for index in [0, 8] {
+            index_case(&mut group, &track, (3, 1), index);
+        }
+        if by % 7 == 0 {
+            read_case(&mut group, &track, (3, 1), 8, 512);
+            read_case(&mut group, &track, (3, 1), 0, 512);
+        }
+    }
+    group.close(totals);
+}
+
+/// A track of one sector or several, filled up with 4E to so many cells.
+fn filled(builder: &TrackBuilder, n: usize) -> Vec<u8> {
+    let mut track_cells = builder.cells().to_vec();
+    let mut filling = TrackBuilder::new();
+    filling.write_repeated(0x4E, (n / 16) + 1);
+    while track_cells.len() < n {
+        track_cells.push(filling.cells()[track_cells.len() % 16]);
+    }
+    track_cells.truncate(n);
+    track_cells
+}
+
+pub fn shapes(totals: &mut (usize, usize)) {
+    let mut random = Random::new(21);
+    let mut group = Group::new("data marks at every distance from 150 to 800");
+    for distance in 150..=800 {
+        for phase in [0, 5] {
+            let mut builder = TrackBuilder::new();
+            builder.write_repeated_cell(0, phase);
+            let plan = SectorPlan::standard(0, 0, 1, 0x6C);
+            builder.write_id(0xFE, [0, 0, 1, 2], 0);
+            if distance < 160 {
+                builder.remove_last(160 - distance);
+            } else {
+                builder.write_gap_cells(distance - 160);
+            }
+            builder.write_data(0xFB, &plan.data, 0);
+            let mut track_cells = filled(&builder, 20_000 + phase);
+            if phase == 5 {
+                // The data goes over the index.
+                track_cells = turn(&track_cells, 20_000 - distance);
+            }
+            let track = packed(&track_cells);
+            index_case(&mut group, &track, (0, 0), 0);
+            read_case(&mut group, &track, (0, 0), 0, 512);
+        }
+    }
+    group.close(totals);
+
+    let mut group = Group::new("size codes 0 to 255, and marks F6 to FF");
+    for code in 0..=255u8 {
+        let mut builder = TrackBuilder::new();
+        let mut plan = SectorPlan::standard(0, 0, 1, code);
+        plan.size_code = code;
+        plan.data = (0..128usize << (code % 4)).map(|_| random.byte()).collect();
+        plan.id_mark = 0xF6 + code % 10;
+        plan.data_mark = Some(0xF6 + (code / 4) % 10);
+        plan.data_check_error = u16::from(code % 3 == 0);
+        builder.write_sector(&plan);
+        let track = packed(&filled(&builder, 20_001));
+        whole_track(&mut group, &mut random, &track, (0, 1));
+    }
+    group.close(totals);
+
+    let mut group = Group::new("many ID marks, and tracks of syncs");
+    for count in [0, 1, 62, 63, 64, 65, 66, 200] {
+        let mut builder = TrackBuilder::new();
+        for i in 0..count {
+            builder.write_id(0xFE, [0, 0, i as u8, 2], 0);
+            builder.write_repeated(0x4E, 10);
+        }
+        for n in [100_000, 131_072] {
+            let track = packed(&filled(&builder, n));
+            whole_track(&mut group, &mut random, &track, (0, 0));
+        }
+    }
+    for phase in 0..16 {
+        // Nothing but syncs, and syncs with a mark byte after every third.
+        for mark in [0xA1, 0xFE, 0xFB] {
+            let mut builder = TrackBuilder::new();
+            builder.write_repeated_cell(0, phase);
+            while builder.cells().len() < 30_000 {
+                builder.write_three_syncs();
+                builder.write_byte(mark);
+            }
+            let track = packed(builder.cells());
+            whole_track(&mut group, &mut random, &track, (0, 0));
+        }
+    }
+    group.close(totals);
+}
+
+pub fn any_tracks(totals: &mut (usize, usize)) {
+    let mut random = Random::new(22);
+    let mut group = Group::new("odd tracks");
+    for _ in 0..2_500 {
+        let drive = (random.below(86) as u32, random.below(2) as u32);
+        let track = packed(&odd_track(&mut random, drive.0 as u8));
+        whole_track(&mut group, &mut random, &track, drive);
+    }
+    group.close(totals);
+
+    let mut group = Group::new("random cells, and the limits of refusals 1, 2 and 3");
+    for i in 0..300 {
+        let n = [19_999, 20_000, 20_001, 50_007, 100_000, 131_071, 131_072, 131_073, 0, usize::MAX][i % 10];
+        let needed = cells::bytes_needed(n.min(131_073));
+        let spare = [0, 0, 1, 7][random.below(4) as usize];
+        let length = if i % 3 == 0 { needed.saturating_sub(1) } else { needed + spare };
+        let dense = random.one_in(2);
+        let mut bytes: Vec<u8> =
+            (0..length).map(|_| if dense { random.byte() } else { random.byte() & random.byte() & random.byte() }).collect();
+        // Marks at random places, so that there is something to find.
+        for _ in 0..random.below(12) {
+            let at = random.below(length.max(20) as u64 - 19) as usize;
+            if at + 8 <= length {
+                bytes[at..at + 6].copy_from_slice(&[0x44, 0x89, 0x44, 0x89, 0x44, 0x89]);
+                let coded = if random.one_in(2) { [0x55, 0x54] } else { [0x55, 0x4A] };
+                bytes[at + 6..at + 8].copy_from_slice(&coded);
+            }
+        }
+        let track = Track { bytes, n };
+        let drive = ([0, 79, 80, 83, 84, u32::MAX][random.below(6) as usize], [0, 1, 2, u32::MAX][random.below(4) as usize]);
+        for drive in [drive, (83, 1)] {
+            for index in [0, 1, 64] {
+                index_case(&mut group, &track, drive, index);
+                read_case(&mut group, &track, drive, index, 512);
+            }
+        }
+    }
+    group.close(totals);
+}
