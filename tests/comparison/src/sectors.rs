@@ -4,6 +4,7 @@ use crate::library;
 use crate::report::{Group, Lent};
 use second_program::cells;
 use second_program::random::Random;
+use second_program::refusal::Refusal;
 use second_program::sectors::{self, SectorRecord};
 use second_program::track_builder::{odd_track, standard_track, turn, SectorPlan, TrackBuilder};
 
@@ -34,11 +35,17 @@ fn numbers(record: &SectorRecord) -> [u32; 11] {
     ]
 }
 
-/// Sector by index: the answer, the record (all zeros beside a refusal) and the bytes afterwards.
-fn index_case(group: &mut Group, track: &Track, drive: (u32, u32), index: usize) {
+/// Sector by index: the answer, the record (all zeros beside a refusal) and the bytes afterwards. `second` is what the second
+/// program answers.
+fn index_answer(
+    group: &mut Group,
+    track: &Track,
+    drive: (u32, u32),
+    index: usize,
+    second: Result<(SectorRecord, usize), Refusal>,
+) {
     let input = track.bytes.clone();
     let ours = library::sector(&input, track.n, drive.0, drive.1, index);
-    let second = sectors::sector_by_index(drive.0, drive.1, &track.bytes, track.n, index);
     let expected = match &second {
         Ok((record, count)) => (Ok(*count), numbers(record)),
         Err(refusal) => (Err(*refusal), [0; 11]),
@@ -46,6 +53,11 @@ fn index_case(group: &mut Group, track: &Track, drive: (u32, u32), index: usize)
     group.same((ours, &input), (expected, &track.bytes), || {
         format!("n {}, T {}, H {}, index {index}", track.n, drive.0, drive.1)
     });
+}
+
+fn index_case(group: &mut Group, track: &Track, drive: (u32, u32), index: usize) {
+    let second = sectors::sector_by_index(drive.0, drive.1, &track.bytes, track.n, index);
+    index_answer(group, track, drive, index, second);
 }
 
 /// Reading out: the answer, the buffer and the bytes afterwards.
@@ -65,21 +77,22 @@ fn read_case(group: &mut Group, track: &Track, drive: (u32, u32), index: usize, 
 
 /// All sectors of a track, one index past them, and reading out of some of them with rooms around what is needed.
 fn whole_track(group: &mut Group, random: &mut Random, track: &Track, drive: (u32, u32)) {
-    let list = sectors::list(&track.bytes, track.n);
-    let shown = if list.len() > 12 { vec![0, 1, list.len() / 2, list.len() - 1] } else { (0..list.len()).collect() };
-    for &index in &shown {
-        index_case(group, track, drive, index);
+    // The second program's list is made once; a sector by index is read off it.
+    let accepted = sectors::accepted_list(drive.0, drive.1, &track.bytes, track.n);
+    let list = accepted.clone().unwrap_or_default();
+    let mut shown = if list.len() > 12 { vec![0, 1, list.len() / 2, list.len() - 1] } else { (0..list.len()).collect() };
+    shown.extend([list.len(), usize::MAX]);
+    for index in shown {
+        let second = match &accepted {
+            Err(refusal) => Err(*refusal),
+            Ok(_) => list.get(index).map(|record| (record.clone(), list.len())).ok_or(Refusal::no_such_sector(list.len())),
+        };
+        index_answer(group, track, drive, index, second);
     }
-    for index in [list.len(), usize::MAX] {
-        index_case(group, track, drive, index);
-    }
-    for _ in 0..2 {
-        let index = random.below(list.len() as u64 + 1) as usize;
-        let length = list.get(index).map_or(0, |record| record.length);
-        for room in [length, length.saturating_sub(1), length + 5] {
-            read_case(group, track, drive, index, room);
-        }
-    }
+    let index = random.below(list.len() as u64 + 1) as usize;
+    let length = list.get(index).map_or(0, |record| record.length);
+    let room = [length, length.saturating_sub(1), length + 5][random.below(3) as usize];
+    read_case(group, track, drive, index, room);
 }
 
 /// The standard track, as 01 gives it, and turned so that the index falls on every cell of a record.
@@ -100,14 +113,13 @@ pub fn standard(totals: &mut (usize, usize)) {
     group.close(totals);
 
     let mut group = Group::new("the standard track, turned under the index cell by cell");
-    for by in 0..9_824 {
-        let track = packed(&turn(&standard_cells, 100_000 - 1_152 + by));
-        for index in [0, 8] {
-            index_case(&mut group, &track, (3, 1), index);
-        }
-        if by % 7 == 0 {
+    for before in 0..9_824 {
+        // The first sector's ID mark stands so many cells before the index: it becomes the last sector.
+        let track = packed(&turn(&standard_cells, 100_000 - 1_152 - before));
+        index_case(&mut group, &track, (3, 1), 8);
+        if before % 16 == 0 {
+            index_case(&mut group, &track, (3, 1), 0);
             read_case(&mut group, &track, (3, 1), 8, 512);
-            read_case(&mut group, &track, (3, 1), 0, 512);
         }
     }
     group.close(totals);

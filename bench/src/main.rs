@@ -1,0 +1,84 @@
+//! Times the library beside plain Rust of the second program: the same inputs, in the same run, both optimised.
+//!
+//! A line for each measurement: what was done, the median time of one call of each, and the ratio of the library to plain Rust
+//! (below 1: the library is quicker). Run it with bench/run.
+
+#[path = "../../tests/comparison/src/library.rs"]
+#[allow(dead_code)]
+mod library;
+
+use second_program::cells;
+use second_program::random::Random;
+use second_program::sectors;
+use second_program::track_builder::standard_track;
+use std::hint::black_box;
+use std::time::Instant;
+
+/// The median of the times of one call, in microseconds, over some rounds of some calls each.
+fn median(rounds: usize, calls: usize, mut work: impl FnMut()) -> f64 {
+    let mut times: Vec<f64> = (0..rounds)
+        .map(|_| {
+            let start = Instant::now();
+            for _ in 0..calls {
+                work();
+            }
+            start.elapsed().as_secs_f64() * 1e6 / calls as f64
+        })
+        .collect();
+    times.sort_by(f64::total_cmp);
+    times[rounds / 2]
+}
+
+fn line(what: &str, ours: f64, plain: f64) {
+    println!("{what:<58} {ours:>10.1} us {plain:>10.1} us {:>8.2}", ours / plain);
+}
+
+/// The search with all cells of a word fetched anew at every place.
+fn naive_search(bytes: &[u8], n: usize, word: u64, k: usize) -> usize {
+    for p in 0..n {
+        if cells::word(bytes, n, p, k) == word {
+            return p;
+        }
+    }
+    n
+}
+
+fn main() {
+    const SYNCS: u64 = 0x4489_4489_4489;
+    println!("{:<58} {:>13} {:>13} {:>8}", "", "library", "plain Rust", "ratio");
+    let mut random = Random::new(1);
+    let standard = cells::pack(&standard_track(0, 0, 0xE5));
+    let any: Vec<u8> = (0..12_500).map(|_| random.byte()).collect();
+    let n = 100_000;
+
+    for (name, bytes) in [("random cells", &any), ("the standard track", &standard)] {
+        // A word that stands nowhere: the whole track is searched.
+        let word = SYNCS ^ 1;
+        let ours = median(21, 20, || {
+            black_box(library::find_word(black_box(bytes), n, word, 48, 0, n));
+        });
+        let plain = median(21, 20, || {
+            black_box(cells::find_word(black_box(bytes), n, word, 48, 0, n));
+        });
+        line(&format!("mark search, {name}"), ours, plain);
+        let naive = median(3, 1, || {
+            black_box(naive_search(black_box(bytes), n, word, 48));
+        });
+        line("    against the naive search of 48 cells", ours, naive);
+    }
+
+    let ours = median(21, 20, || {
+        black_box(library::sector(black_box(&standard), n, 0, 0, 8));
+    });
+    let plain = median(21, 20, || {
+        black_box(sectors::list(black_box(&standard), n));
+    });
+    line("all sectors of the standard track", ours, plain);
+    let ours = median(21, 20, || {
+        let _ = black_box(library::sector(black_box(&any), n, 0, 0, 0));
+    });
+    let plain = median(21, 20, || {
+        black_box(sectors::list(black_box(&any), n));
+    });
+    line("all sectors of random cells", ours, plain);
+}
