@@ -324,14 +324,9 @@ fn find_data(bytes: &[u8], n: usize, p: usize) -> usize
     requires { ⌜ p < 131072 ⌝ }
     ensures { λ r. ⌜ (r ≡ leastData (cell (now (bytes .entry)) n) p) × (r ≤ p + 785) ⌝ }
 {
-    find_mark(
-        bytes,
-        n,
-        FIRST_DATA_MARK,
-        LAST_DATA_MARK,
-        p + ID,
-        p + REACH + 1,
-    )
+    let from = p + ID;
+    let to = p + REACH + 1;
+    find_mark(bytes, n, FIRST_DATA_MARK, LAST_DATA_MARK, from, to)
 }
 
 // The place of a data mark, 0 where there is none.

@@ -6,14 +6,14 @@ use borrow.Author.Needs.{needs}
 use Rattle.sectors.proofs.find_data.Statement.{statement}
 use Rattle.sectors.proofs.find_data.Tie as tie
 
-add-find-mark : tie.Need-add-find-mark
-add-find-mark c = search needs
+add-from : tie.Need-add-from
+add-from c = search needs
 
-add-find-mark-2 : tie.Need-add-find-mark-2
-add-find-mark-2 c = search needs
+add-to : tie.Need-add-to
+add-to c = search needs
 
-add-find-mark-3 : tie.Need-add-find-mark-3
-add-find-mark-3 c = search needs
+add-to-2 : tie.Need-add-to-2
+add-to-2 c = search needs
 
 find-mark-requires : tie.Need-find-mark-requires
 find-mark-requires c κs = search needs
@@ -25,4 +25,4 @@ returns c =
 
 pub find-data-spec : {M : Type 1} → statement M
 find-data-spec =
-    tie.close (tie.spec add-find-mark add-find-mark-2 add-find-mark-3 find-mark-requires returns)
+    tie.close (tie.spec add-from add-to add-to-2 find-mark-requires returns)
