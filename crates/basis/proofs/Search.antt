@@ -87,3 +87,34 @@ pub least-same : (test other : ℕ → Bool) → ((q : ℕ) → test q ≡ other
 unfolding least
 least-same test other h zero p = refl
 least-same test other h (suc k) p = rw (h p, least-same test other h k (p + 1))
+
+-- the least lies in the range, or at its end
+pub least-low : (test : ℕ → Bool) (k p : ℕ) → p ≤ least test k p
+unfolding least
+least-low test zero p = omega arith
+least-low test (suc k) p = go (test p) (least-low test k (p + 1))
+  where
+    go : (b : Bool) → p + 1 ≤ least test k (p + 1) → p ≤ cond b p (least test k (p + 1))
+    go true h = omega arith
+    go false h = omega arith
+
+pub least-high : (test : ℕ → Bool) (k p : ℕ) → least test k p ≤ p + k
+unfolding least
+least-high test zero p = omega arith
+least-high test (suc k) p = go (test p) (least-high test k (p + 1))
+  where
+    go : (b : Bool) → least test k (p + 1) ≤ p + 1 + k → cond b p (least test k (p + 1)) ≤ p + suc k
+    go true h = omega arith
+    go false h = omega arith
+
+-- a search can go on from the least place that passes a wider test
+pub least-skip : (wider test : ℕ → Bool) → ((q : ℕ) → wider q ≡ false → test q ≡ false)
+    → (k p to : ℕ) → p + k ≡ to → least test (to - least wider k p) (least wider k p) ≡ least test (to - p) p
+unfolding least
+least-skip wider test narrower zero p to e = refl
+least-skip wider test narrower (suc k) p to e = go (wider p) refl (least-skip wider test narrower k (p + 1) to (omega arith))
+  where
+    go : (b : Bool) → wider p ≡ b → least test (to - least wider k (p + 1)) (least wider k (p + 1)) ≡ least test (to - (p + 1)) (p + 1)
+        → least test (to - cond b p (least wider k (p + 1))) (cond b p (least wider k (p + 1))) ≡ least test (to - p) p
+    go true w more = refl
+    go false w more = more ∙ sym (least-step test p to (omega arith) (narrower p w))
