@@ -1,2 +1,3 @@
-pub mod Rows
+pub mod Numbers
 pub mod Others
+pub mod Rows
