@@ -1,4 +1,6 @@
 // The copy-protection findings of a track.
+mod cell_rules;
+
 use refusals::Refusal;
 
 // A finding: its kind from 1 to 21, the kind's level, its place in cells, and its detail.
