@@ -16,10 +16,10 @@ use Rattle.findings.specs.Cells.{isOne, nextOne, violation, zerosFrom, l
 
 -- a is the least of m places from p + 1, b that of one place more
 after-zero : (a b p m : ℕ) → p + 1 ≤ a → a ≤ p + 1 + m → b ≤ p + 1 + suc m → a ≤ b → (a < p + 1 + m → b ≡ a)
-    → a - p ≡ cond (ltb (b - (p + 1)) (suc m)) (b - (p + 1) + 1) (suc m)
+    → a - p ≡ b - (p + 1) + cond (ltb (b - (p + 1)) (suc m)) 1 0
 after-zero a b p m low high high′ up same = go (ltb (b - (p + 1)) (suc m)) refl (eq-or-lt-of-le {n = a} {m = p + 1 + m} high)
   where
-    go : (x : Bool) → ltb (b - (p + 1)) (suc m) ≡ x → (a ≡ p + 1 + m) ⊎ (a < p + 1 + m) → a - p ≡ cond x (b - (p + 1) + 1) (suc m)
+    go : (x : Bool) → ltb (b - (p + 1)) (suc m) ≡ x → (a ≡ p + 1 + m) ⊎ (a < p + 1 + m) → a - p ≡ b - (p + 1) + cond x 1 0
     go true e (inl h) = omega (arith, ltb-true (b - (p + 1)) (suc m) e)
     go true e (inr h) = omega (arith, ltb-true (b - (p + 1)) (suc m) e, same h)
     go false e (inl h) = omega (arith, ltb-false (b - (p + 1)) (suc m) e)
@@ -27,6 +27,10 @@ after-zero a b p m low high high′ up same = go (ltb (b - (p + 1)) (suc m)) ref
 
 -- the zeros from p on, by those from p + 1 on
 module _ (f : ℕ → ℕ) where
+  pub zeros-few : (n p : ℕ) → zerosFrom f n p ≤ n
+  unfolding zerosFrom
+  zeros-few n p = omega (arith, least-high (isOne f) n p)
+
   zeros-at-one : (n p : ℕ) → 0 < n → isOne f p ≡ true → zerosFrom f n p ≡ 0
   unfolding zerosFrom least
   zeros-at-one zero p h e = absurd (omega arith)
@@ -36,7 +40,7 @@ module _ (f : ℕ → ℕ) where
   unfolding least
   passed m p e = rw e
 
-  zeros-at-zero : (n p : ℕ) → 0 < n → isOne f p ≡ false → zerosFrom f n p ≡ cond (ltb (zerosFrom f n (p + 1)) n) (zerosFrom f n (p + 1) + 1) n
+  zeros-at-zero : (n p : ℕ) → 0 < n → isOne f p ≡ false → zerosFrom f n p ≡ zerosFrom f n (p + 1) + cond (ltb (zerosFrom f n (p + 1)) n) 1 0
   unfolding zerosFrom
   zeros-at-zero zero p h e = absurd (omega arith)
   zeros-at-zero (suc m) p h e =
@@ -50,10 +54,10 @@ module _ (f : ℕ → ℕ) where
       (λ l. least-longer t m (suc m) (p + 1) (omega arith) l))
 
   zeros-back : (n p zeros : ℕ) (one : Bool) → 0 < n → one ≡ isOne f p → zeros ≡ zerosFrom f n (p + 1)
-      → cond one 0 (cond (ltb zeros n) (zeros + 1) n) ≡ zerosFrom f n p
+      → cond one 0 (zeros + cond (ltb zeros n) 1 0) ≡ zerosFrom f n p
   zeros-back n p zeros one h e g = rw (e, g) (go (isOne f p) refl)
     where
-      go : (x : Bool) → isOne f p ≡ x → cond x 0 (cond (ltb (zerosFrom f n (p + 1)) n) (zerosFrom f n (p + 1) + 1) n) ≡ zerosFrom f n p
+      go : (x : Bool) → isOne f p ≡ x → cond x 0 (zerosFrom f n (p + 1) + cond (ltb (zerosFrom f n (p + 1)) n) 1 0) ≡ zerosFrom f n p
       go true y = sym (zeros-at-one n p h y)
       go false y = sym (zeros-at-zero n p h y)
 
@@ -93,6 +97,13 @@ pub one-or-none : (b : Bool) → cond b 1 0 ≤ 1
 one-or-none true = omega arith
 one-or-none false = omega arith
 
+pub one-more-fits : (z n : ℕ) → z ≤ n → z + cond (ltb z n) 1 0 ≤ n
+one-more-fits z n h = go (ltb z n) refl
+  where
+    go : (x : Bool) → ltb z n ≡ x → z + cond x 1 0 ≤ n
+    go true e = omega (arith, ltb-true z n e)
+    go false e = omega arith
+
 -- what the pass knows at p, of the cells from p to the track's end
 pub record Seen (f : ℕ → ℕ) (n p zeros violations first longest start : ℕ) : Type 0 where
   pub inside : p ≤ n
@@ -130,7 +141,7 @@ module _ (f : ℕ → ℕ) (n : ℕ) where
   -- one cell nearer the front
   seen-more : (p p′ zeros violations first longest start : ℕ) (one bad : Bool) (zeros′ : ℕ) → p′ ≡ p + 1
       → Seen f n p′ zeros violations first longest start → one ≡ isOne f p
-      → bad ≡ (one && (ltb zeros 1 || ltb 3 zeros)) → zeros′ ≡ cond one 0 (cond (ltb zeros n) (zeros + 1) n)
+      → bad ≡ (one && (ltb zeros 1 || ltb 3 zeros)) → zeros′ ≡ cond one 0 (zeros + cond (ltb zeros n) 1 0)
       → Seen f n p zeros′ (violations + cond bad 1 0) (cond bad p first) (cond (leb longest zeros′) zeros′ longest) (cond (leb longest zeros′) p start)
   unfolding count least most
   seen-more p p′ zeros violations first longest start one bad zeros′ s r o b g =
@@ -149,14 +160,14 @@ module _ (f : ℕ → ℕ) (n : ℕ) where
       }
 
   -- the same, of what the calls of a turn gave
-  pub seen-turn : (p p′ zeros violations first longest start : ℕ) (one bad : Bool) (zeros′ more first′ longest′ start′ : ℕ) → p′ ≡ p + 1
+  pub seen-turn : (p p′ zeros violations first longest start : ℕ) (one bad : Bool) (more first′ longer zeros′ longest′ start′ : ℕ) → p′ ≡ p + 1
       → Seen f n p′ zeros violations first longest start → one ≡ isOne f p
       → bad ≡ (one && (ltb zeros 1 || ltb 3 zeros)) → more ≡ cond bad 1 0 → first′ ≡ cond bad p first
-      → zeros′ ≡ cond one 0 (cond (ltb zeros n) (zeros + 1) n)
+      → longer ≡ cond (ltb zeros n) 1 0 → zeros′ ≡ cond one 0 (zeros + longer)
       → longest′ ≡ cond (leb longest zeros′) zeros′ longest → start′ ≡ cond (leb longest zeros′) p start
       → Seen f n p zeros′ (violations + more) first′ longest′ start′
-  seen-turn p p′ zeros violations first longest start one bad zeros′ more first′ longest′ start′ s r o b e₁ e₂ e₃ e₄ e₅ =
-      rw (e₁, e₂, e₄, e₅) (seen-more p p′ zeros violations first longest start one bad zeros′ s r o b e₃)
+  seen-turn p p′ zeros violations first longest start one bad more first′ longer zeros′ longest′ start′ s r o b e₁ e₂ e₃ e₄ e₅ e₆ =
+      rw (e₁, e₂, e₅, e₆) (seen-more p p′ zeros violations first longest start one bad zeros′ s r o b (rw e₃ at e₄))
 
   -- at the first cell all is known
   pub seen-all : (p zeros violations first longest start : ℕ) → p ≡ 0 → Seen f n p zeros violations first longest start

@@ -2,8 +2,6 @@
 use sectors::Sector;
 ghost use mathlib.Core.Path.{_≡_};
 ghost use mathlib.Core.Bool.{cond};
-ghost use lib.Dec.{ltb};
-ghost use Prim.Native.Nat.{_+_};
 ghost use Rattle.basis.specs.Search.{least, count};
 ghost use Rattle.cells.specs.CellsAndBytes.{cell};
 ghost use Rattle.findings.specs.Cells.{isOne, violation, longestRun, longestStart, syncsBetween, syncsInside};
@@ -38,7 +36,8 @@ pub fn find_gaps(bytes: &[u8], n: usize) -> Gaps
         let violation = one & ((zeros < FEWEST_ZEROS) | (MOST_ZEROS < zeros));
         violations += chosen(violation, 1, 0);
         first = chosen(violation, p, first);
-        zeros = zeros_before(one, zeros, n);
+        let more = zeros + chosen(zeros < n, 1, 0);
+        zeros = chosen(one, 0, more);
         let longer = longest <= zeros;
         longest = chosen(longer, zeros, longest);
         start = chosen(longer, p, start);
@@ -101,19 +100,6 @@ fn zeros_at_start(bytes: &[u8], n: usize) -> usize
             return p;
         }
         p += 1;
-    }
-    n
-}
-
-// How many zeros stand from a cell on, by how many stand after it.
-fn zeros_before(one: bool, zeros: usize, n: usize) -> usize
-    ensures { λ r. ⌜ r ≡ cond one 0 (cond (ltb zeros n) (zeros + 1) n) ⌝ }
-{
-    if one {
-        return 0;
-    }
-    if zeros < n {
-        return zeros + 1;
     }
     n
 }
