@@ -1,3 +1,5 @@
 pub mod Numbers
 pub mod Others
 pub mod Rows
+pub mod Runs
+pub mod Syncs
