@@ -59,6 +59,14 @@ module _ {before : List ℕ} {at : ℕ} where
     pub room-then : (ys zs : List Finding) → length (xs ++ ys) ≤ length zs → Room before at zs → Room between mid ys
     room-then ys zs h room = record { long = first .long; fits = omega (arith, first .count, room .fits, length-append xs ys) }
 
+-- the same of lists and numbers that are equal
+module _ {before other : List ℕ} {at mid : ℕ} {xs ys : List Finding} (e : before ≡ other) (f : at ≡ mid) (g : xs ≡ ys) where
+  pub added-same : {after : List ℕ} {next : ℕ} → Added before at xs after next → Added other mid ys after next
+  added-same added = rw (← e, ← f, ← g) added
+
+  pub room-same : Room before at xs → Room other mid ys
+  room-same room = rw (← e, ← f, ← g) room
+
 -- findings of one kind, joined place by place
 module _ {A : Type 0} (g : A → Finding) (f : ℕ → List A) where
   map-more : (i : ℕ) → map g (joined f (i + 1)) ≡ map g (joined f i) ++ map g (f i)
