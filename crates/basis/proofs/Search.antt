@@ -1,12 +1,14 @@
--- What `least` means, and a turn of a loop that looks for it. Assumes nothing.
+-- What `least`, `count` and `most` mean, and a turn of a loop that looks for them. Assumes nothing.
 use Prim.Native.Nat.{ℕ, zero, suc, _+_, _-_, _*_, _/_, _%_, _≤_, _<_}
 use mathlib.Core.Path.{_≡_, refl, sym, ap, _∙_}
 use mathlib.Core.Bool.{Bool, true, false, cond}
 use mathlib.Core.Logic.{⊎-elim}
-use native.Mathlib.Nat.{eq-or-lt-of-le, add-zero, add-mul, mod-lt, div-add-mod'}
+use native.Mathlib.Nat.{eq-or-lt-of-le, zero-add, add-zero, add-mul, mod-lt, div-add-mod', le-trans, le-max-left, le-max-right}
 use native.Mathlib.Numerals.{add-one}
 use native.Mathlib.Omega.{arith}
-use Rattle.basis.specs.Search.{least}
+use borrow.Author.Tests.{lt-ltb, le-ltb}
+use lib.Dec.{ltb}
+use Rattle.basis.specs.Search.{least, count, most}
 
 -- nothing before the least passes the test
 pub least-before : (test : ℕ → Bool) (k p q : ℕ) → p ≤ q → q < least test k p → test q ≡ false
@@ -118,3 +120,68 @@ least-skip wider test narrower (suc k) p to e = go (wider p) refl (least-skip wi
         → least test (to - cond b p (least wider k (p + 1))) (cond b p (least wider k (p + 1))) ≡ least test (to - p) p
     go true w more = refl
     go false w more = more ∙ sym (least-step test p to (omega arith) (narrower p w))
+
+-- in a longer range the least is not less
+pub least-grows : (test : ℕ → Bool) (k p : ℕ) → least test k p ≤ least test (suc k) p
+unfolding least
+least-grows test zero p = least-low test 1 p
+least-grows test (suc k) p = go (test p) (least-grows test k (p + 1))
+  where
+    go : (b : Bool) → least test k (p + 1) ≤ least test (suc k) (p + 1) → cond b p (least test k (p + 1)) ≤ cond b p (least test (suc k) (p + 1))
+    go true more = omega arith
+    go false more = more
+
+-- of a test that comes again after n places, the least one turn on
+pub least-round : (test : ℕ → Bool) (n : ℕ) → ((p : ℕ) → test (p + n) ≡ test p) → (k p : ℕ) → least test k (p + n) ≡ least test k p + n
+unfolding least
+least-round test n again zero p = refl
+least-round test n again (suc k) p =
+    let e : p + n + 1 ≡ p + 1 + n = omega arith in
+    rw (again p, e, least-round test n again k (p + 1)) (go (test p))
+  where
+    go : (b : Bool) → cond b (p + n) (least test k (p + 1) + n) ≡ cond b p (least test k (p + 1)) + n
+    go true = refl
+    go false = refl
+
+-- no more places pass than there are
+pub count-few : (test : ℕ → Bool) (k p : ℕ) → count test k p ≤ k
+unfolding count
+count-few test zero p = omega arith
+count-few test (suc k) p = go (test p) (count-few test k (p + 1))
+  where
+    go : (b : Bool) → count test k (p + 1) ≤ k → cond b 1 0 + count test k (p + 1) ≤ suc k
+    go true more = omega arith
+    go false more = omega arith
+
+-- a loop from p up to q that counts from one place that passes to the next: a turn, and the end
+module _ (test : ℕ → Bool) (q : ℕ) where
+  pub count-end : (p : ℕ) → q ≤ p → count test (q - p) p ≡ 0
+  unfolding count
+  count-end p h = let s : q - p ≡ 0 = omega arith in rw s
+
+  count-passed : (k p : ℕ) → p + k ≡ q
+      → count test k p ≡ cond (ltb (least test k p) q) 1 0 + count test (q - (least test k p + 1)) (least test k p + 1)
+  unfolding count least
+  count-passed zero p e =
+      let s : q - (p + 1) ≡ 0 = omega arith in
+      rw (le-ltb p q (omega arith), s)
+  count-passed (suc k) p e = go (test p) (count-passed k (p + 1) (omega arith))
+    where
+      go : (b : Bool) → count test k (p + 1) ≡ cond (ltb (least test k (p + 1)) q) 1 0 + count test (q - (least test k (p + 1) + 1)) (least test k (p + 1) + 1)
+          → cond b 1 0 + count test k (p + 1)
+          ≡ cond (ltb (cond b p (least test k (p + 1))) q) 1 0 + count test (q - (cond b p (least test k (p + 1)) + 1)) (cond b p (least test k (p + 1)) + 1)
+      go true more = let s : q - (p + 1) ≡ k = omega arith in rw (lt-ltb p q (omega arith), s)
+      go false more = rw zero-add more
+
+  pub count-next : (p at : ℕ) → p ≤ q → at ≡ least test (q - p) p → count test (q - p) p ≡ cond (ltb at q) 1 0 + count test (q - (at + 1)) (at + 1)
+  count-next p at h e = rw e (count-passed (q - p) p (omega arith))
+
+-- none is larger than the largest
+pub most-above : (g : ℕ → ℕ) (k p q : ℕ) → p ≤ q → q < p + k → g q ≤ most g k p
+unfolding most
+most-above g zero p q h l = absurd (omega arith)
+most-above g (suc k) p q h l =
+    ⊎-elim
+    (λ e. rw (← e) (le-max-left (g p) (most g k (p + 1))))
+    (λ e. le-trans (most-above g k (p + 1) q (omega arith) (omega arith)) (le-max-right (g p) (most g k (p + 1))))
+    (eq-or-lt-of-le h)

@@ -88,13 +88,13 @@ pub follows-self : {A : Type 0} (x : Answer A) → Follows x x x
 follows-self x = record { refusals = λ number value e. e; accepted = λ given e. refl }
 
 module _ {A B : Type 0} (x : Answer A) (y next : Answer B) (f : Follows x y next) where
-  follows-track : (bytes : List ℕ) (N T H : ℕ) → Follows (trackJudged bytes N T H x) (trackJudged bytes N T H y) next
+  pub follows-track : (bytes : List ℕ) (N T H : ℕ) → Follows (trackJudged bytes N T H x) (trackJudged bytes N T H y) next
   unfolding trackJudged
   follows-track bytes N T H =
       follows-cond _ _ next (ltb 83 T || ltb 1 H) 1 0
       (follows-cond _ _ next (ltb N 20000 || ltb 131072 N) 2 N (follows-cond x y next (ltb (length bytes) (bytesFor N)) 3 (bytesFor N) f))
 
-  follows-count : (count : ℕ) → Follows (countJudged count x) (countJudged count y) next
+  pub follows-count : (count : ℕ) → Follows (countJudged count x) (countJudged count y) next
   unfolding countJudged
   follows-count count = follows-cond x y next (ltb 64 count) 4 count f
 

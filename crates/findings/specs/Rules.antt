@@ -1,0 +1,129 @@
+-- 01, "Findings": the rules, one definition for each row of its table, in its order. Each gives the places and details that it finds.
+-- N is the number of cells, T the drive's track; s is a sector's record, p its place, q that of its data mark. Assumes nothing.
+use Prim.Native.Nat.{ℕ, _+_, _-_}
+use mathlib.Core.Bool.{Bool, false, cond, not, _&&_, _||_}
+use mathlib.Core.List.{List, [], _∷_}
+use lib.Dec.{eqb, ltb, leb}
+use lib.ListN.{length}
+use Rattle.basis.specs.Search.{count, least}
+use Rattle.findings.specs.Cells.{violation, longestRun, longestStart, syncsInside}
+use Rattle.sectors.specs.Sectors.{dataEnd}
+use Rattle.sectors.specs.declared.Sector.{Sector}
+
+-- a place and a detail that a rule finds
+pub record Hit : Type 0 where
+  pub place : ℕ
+  pub detail : ℕ
+
+-- a rule that finds a place and a detail where a test passes, and else nothing
+abbrev pub when : Bool → ℕ → ℕ → List Hit
+when test place detail = cond test (record { place = place; detail = detail } ∷ []) []
+
+-- some sector of a list passes the test
+unfoldable pub someSector : (Sector → Bool) → List Sector → Bool
+someSector test [] = false
+someSector test (s ∷ ss) = test s || someSector test ss
+
+-- a data mark was found; data is read
+abbrev pub marked : Sector → Bool
+marked s = not (eqb (s .«data_mark») 0)
+
+abbrev pub isRead : Sector → Bool
+isRead s = ltb 0 (s .«data_length»)
+
+-- the end of its data
+abbrev pub endOf : Sector → ℕ
+endOf s = dataEnd (s .«data_place») (s .«data_length»)
+
+-- 1 LGT: N above 103,000
+abbrev pub lgt : ℕ → List Hit
+lgt N = when (ltb 103000 N) 0 N
+
+-- 2 SHT: N below 97,000
+abbrev pub sht : ℕ → List Hit
+sht N = when (ltb N 97000) 0 N
+
+-- 3 NOS: sectors below 9 or above 10
+abbrev pub nos : ℕ → List Hit
+nos sectors = when (ltb sectors 9 || ltb 10 sectors) 0 sectors
+
+-- 4 TNF: no sector, T at most 79
+abbrev pub tnf : ℕ → ℕ → List Hit
+tnf sectors T = when (eqb sectors 0 && leb T 79) 0 0
+
+-- 5 EXT: a sector, T at least 80
+abbrev pub ext : ℕ → ℕ → List Hit
+ext sectors T = when (ltb 0 sectors && leb 80 T) 0 sectors
+
+-- 6 DSN: an earlier sector has this number
+unfoldable pub sameNumber : Sector → Sector → Bool
+sameNumber s e = eqb (e .number) (s .number)
+
+abbrev pub dsn : List Sector → Sector → List Hit
+dsn earlier s = when (someSector (sameNumber s) earlier) (s .place) (s .number)
+
+-- 7 ISN: number 245 to 247
+abbrev pub isn : Sector → List Hit
+isn s = when (leb 245 (s .number) && leb (s .number) 247) (s .place) (s .number)
+
+-- 8 ITN: ID track is not T
+abbrev pub itn : ℕ → Sector → List Hit
+itn T s = when (not (eqb (s .track) T)) (s .place) (s .track)
+
+-- 9 IIF: ID track above 83, side above 1 or size code above 3
+abbrev pub iif : Sector → List Hit
+iif s = when (ltb 83 (s .track) || (ltb 1 (s .side) || ltb 3 (s .«size_code»))) (s .place) (s .side)
+
+-- 10 SSZ: size code neither 2 nor 3
+abbrev pub ssz : Sector → List Hit
+ssz s = when (not (eqb (s .«size_code») 2) && not (eqb (s .«size_code») 3)) (s .place) (s .«size_code»)
+
+-- 11 NSI: ID mark not FE
+abbrev pub nsi : Sector → List Hit
+nsi s = when (not (eqb (s .mark) 0xFE)) (s .place) (s .mark)
+
+-- 12 NSD: a data mark found, neither F8 nor FB
+abbrev pub nsd : Sector → List Hit
+nsd s = when (marked s && (not (eqb (s .«data_mark») 0xF8) && not (eqb (s .«data_mark») 0xFB))) (s .place) (s .«data_mark»)
+
+-- 13 SBI: ID check bad
+abbrev pub sbi : Sector → List Hit
+sbi s = when (not (s .«id_check_good»)) (s .place) (s .number)
+
+-- 14 SND: ID check good, no data mark
+abbrev pub snd : Sector → List Hit
+snd s = when (s .«id_check_good» && not (marked s)) (s .place) (s .number)
+
+-- 15 SBD: data read, check bad
+abbrev pub sbd : Sector → List Hit
+sbd s = when (isRead s && not (s .«data_check_good»)) (s .place) (s .number)
+
+-- 16 DOI: data read, q below N, end above N; end - N
+abbrev pub doi : ℕ → Sector → List Hit
+doi N s = when (isRead s && (ltb (s .«data_place») N && ltb N (endOf s))) (s .place) (endOf s - N)
+
+-- 17 DBI: data mark with q at least N; q - N
+abbrev pub dbi : ℕ → Sector → List Hit
+dbi N s = when (marked s && leb N (s .«data_place»)) (s .place) (s .«data_place» - N)
+
+-- 18 SWS: this p, or p + N, lies at or after q and before the end of another sector's data
+abbrev pub lies : ℕ → Sector → Bool
+lies x e = leb (e .«data_place») x && ltb x (endOf e)
+
+unfoldable pub inData : ℕ → Sector → Sector → Bool
+inData N s e = (not (eqb (e .place) (s .place)) && isRead e) && (lies (s .place) e || lies (s .place + N) e)
+
+abbrev pub sws : ℕ → List Sector → Sector → List Hit
+sws N sectors s = when (someSector (inData N s) sectors) (s .place) (s .number)
+
+-- 19 SID: a sync inside the ID or the data
+abbrev pub sid : (ℕ → ℕ) → Sector → List Hit
+sid f s = when (ltb 0 (syncsInside f s)) (s .place) (syncsInside f s)
+
+-- 20 MTV: first such; how many
+abbrev pub mtv : (ℕ → ℕ) → ℕ → List Hit
+mtv f N = when (ltb 0 (count (violation f N) N 0)) (least (violation f N) N 0) (count (violation f N) N 0)
+
+-- 21 NFA: the longest run of zeros is at least 1,000; its start; length
+abbrev pub nfa : (ℕ → ℕ) → ℕ → List Hit
+nfa f N = when (leb 1000 (longestRun f N)) (longestStart f N) (longestRun f N)

@@ -1,0 +1,124 @@
+// The rules on the cells of a track: what MTV and NFA find, and the sync words that SID counts.
+use sectors::Sector;
+ghost use mathlib.Core.Path.{_≡_};
+ghost use mathlib.Core.Bool.{cond};
+ghost use Rattle.basis.specs.Search.{least, count};
+ghost use Rattle.cells.specs.CellsAndBytes.{cell};
+ghost use Rattle.findings.specs.Cells.{isOne, violation, longestRun, longestStart, syncsBetween, syncsInside};
+
+// What MTV and NFA look at: the first one whose next one is too near or too far, n where there is none, and how many there
+// are; the start of the longest run of zeros, of equal ones the least, and its length.
+pub struct Gaps {
+    pub first: usize,
+    pub violations: usize,
+    pub start: usize,
+    pub longest: usize,
+}
+
+// MTV and NFA in one pass from the last cell to the first: the zeros after a cell are then known when it is reached.
+pub fn find_gaps(bytes: &[u8], n: usize) -> Gaps
+    ensures { λ r. ⌜
+        (r .first ≡ least (violation (cell (now (bytes .entry)) n) n) n 0)
+        × (r .violations ≡ count (violation (cell (now (bytes .entry)) n) n) n 0)
+        × (r .start ≡ longestStart (cell (now (bytes .entry)) n) n)
+        × (r .longest ≡ longestRun (cell (now (bytes .entry)) n) n)
+        ⌝ }
+{
+    let mut zeros = zeros_at_start(bytes, n);
+    let mut violations: usize = 0;
+    let mut first = n;
+    let mut longest: usize = 0;
+    let mut start = n;
+    let mut p = n;
+    while 0 < p {
+        p -= 1;
+        let one = cells::cell_at(bytes, p) == 1;
+        let violation = one & ((zeros < FEWEST_ZEROS) | (MOST_ZEROS < zeros));
+        violations += chosen(violation, 1, 0);
+        first = chosen(violation, p, first);
+        let more = zeros + chosen(zeros < n, 1, 0);
+        zeros = chosen(one, 0, more);
+        let longer = longest <= zeros;
+        longest = chosen(longer, zeros, longest);
+        start = chosen(longer, p, start);
+    }
+    Gaps {
+        first,
+        violations,
+        start,
+        longest,
+    }
+}
+
+// SID: how many sync words stand within a sector's ID and its data.
+pub fn syncs_inside(bytes: &[u8], n: usize, s: Sector) -> usize
+    ensures { λ r. ⌜ r ≡ syncsInside (cell (now (bytes .entry)) n) s ⌝ }
+{
+    let p = s.place as usize;
+    let length = s.data_length as usize;
+    let id = syncs_between(bytes, n, p + MARK_LENGTH, p + ID_LENGTH);
+    if length == 0 {
+        return id;
+    }
+    let data = s.data_place as usize + MARK_LENGTH;
+    id + syncs_between(bytes, n, data, data + BYTE_LENGTH * length + CHECK_LENGTH)
+}
+
+// A next one 2, 3 or 4 cells on leaves 1 to 3 zeros between the two.
+const FEWEST_ZEROS: usize = 1;
+
+const MOST_ZEROS: usize = 3;
+
+// The sync A1, and its cells.
+const SYNC: u64 = 0x4489;
+
+const SYNC_LENGTH: usize = 16;
+
+// The cells of a byte, of two check bytes, of a mark with its byte, and of an ID with its mark and check bytes.
+const BYTE_LENGTH: usize = 16;
+
+const CHECK_LENGTH: usize = 32;
+
+const MARK_LENGTH: usize = 64;
+
+const ID_LENGTH: usize = 160;
+
+// One of two numbers, without a branch in the loop that asks.
+fn chosen(first: bool, a: usize, b: usize) -> usize
+    ensures { λ r. ⌜ r ≡ cond first a b ⌝ }
+{
+    if first { a } else { b }
+}
+
+// How many zeros stand before the first one of a track, which follow its last cell too; n where there is no one.
+fn zeros_at_start(bytes: &[u8], n: usize) -> usize
+    ensures { λ r. ⌜ r ≡ least (isOne (cell (now (bytes .entry)) n)) n 0 ⌝ }
+{
+    let mut p: usize = 0;
+    while p < n {
+        if cells::cell_at(bytes, p) == 1 {
+            return p;
+        }
+        p += 1;
+    }
+    n
+}
+
+// How often the sync stands wholly between two places, in any phase.
+fn syncs_between(bytes: &[u8], n: usize, from: usize, to: usize) -> usize
+    ensures { λ r. ⌜ r ≡ syncsBetween (cell (now (bytes .entry)) n) from to ⌝ }
+{
+    if to < SYNC_LENGTH {
+        return 0;
+    }
+    // after the last place at which it can start
+    let end = to - (SYNC_LENGTH - 1);
+    let mut syncs: usize = 0;
+    let mut p = from;
+    while p < end {
+        let at = cells::find_word(bytes, n, SYNC, SYNC_LENGTH, p, end);
+        syncs += chosen(at < end, 1, 0);
+        p = at + 1;
+    }
+    syncs
+}
