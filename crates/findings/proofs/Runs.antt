@@ -93,7 +93,7 @@ larger-is a b = go (leb a b) refl
     go true e = sym (max-eq-left (leb-true a b e))
     go false e = let h = leb-false a b e in sym (max-eq-right {n = b} {m = a} (omega arith))
 
-pub one-or-none : (b : Bool) → cond b 1 0 ≤ 1
+one-or-none : (b : Bool) → cond b 1 0 ≤ 1
 one-or-none true = omega arith
 one-or-none false = omega arith
 

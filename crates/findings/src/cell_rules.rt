@@ -2,6 +2,7 @@
 use sectors::Sector;
 ghost use mathlib.Core.Path.{_≡_};
 ghost use mathlib.Core.Bool.{cond};
+ghost use Prim.Native.Nat.{_≤_};
 ghost use Rattle.basis.specs.Search.{least, count};
 ghost use Rattle.cells.specs.CellsAndBytes.{cell};
 ghost use Rattle.findings.specs.Cells.{isOne, violation, longestRun, longestStart, syncsBetween, syncsInside};
@@ -34,9 +35,9 @@ pub fn find_gaps(bytes: &[u8], n: usize) -> Gaps
         p -= 1;
         let one = cells::cell_at(bytes, p) == 1;
         let violation = one & ((zeros < FEWEST_ZEROS) | (MOST_ZEROS < zeros));
-        violations += chosen(violation, 1, 0);
+        violations += one_if(violation);
         first = chosen(violation, p, first);
-        let more = zeros + chosen(zeros < n, 1, 0);
+        let more = zeros + one_if(zeros < n);
         zeros = chosen(one, 0, more);
         let longer = longest <= zeros;
         longest = chosen(longer, zeros, longest);
@@ -90,6 +91,13 @@ fn chosen(first: bool, a: usize, b: usize) -> usize
     if first { a } else { b }
 }
 
+// 1 where a test passes, and else 0.
+fn one_if(passes: bool) -> usize
+    ensures { λ r. ⌜ (r ≡ cond passes 1 0) × (r ≤ 1) ⌝ }
+{
+    if passes { 1 } else { 0 }
+}
+
 // How many zeros stand before the first one of a track, which follow its last cell too; n where there is no one.
 fn zeros_at_start(bytes: &[u8], n: usize) -> usize
     ensures { λ r. ⌜ r ≡ least (isOne (cell (now (bytes .entry)) n)) n 0 ⌝ }
@@ -117,7 +125,7 @@ fn syncs_between(bytes: &[u8], n: usize, from: usize, to: usize) -> usize
     let mut p = from;
     while p < end {
         let at = cells::find_word(bytes, n, SYNC, SYNC_LENGTH, p, end);
-        syncs += chosen(at < end, 1, 0);
+        syncs += one_if(at < end);
         p = at + 1;
     }
     syncs

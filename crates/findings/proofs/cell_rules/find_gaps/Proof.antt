@@ -1,12 +1,10 @@
 -- `findings::cell_rules::find_gaps` meets its contract: at p it has what the cells from p to the track's end show. Assumes nothing.
 use Prim.Native.Nat.{_+_, _-_, _<_, _≤_}
 use mathlib.Core.Path.{_≡_, refl}
-use mathlib.Core.Bool.{_&&_, _||_}
 use native.Mathlib.Omega.{arith}
 use borrow.Author.Needs.{needs}
-use lib.Dec.{eqb, ltb}
 use Rattle.cells.specs.CellsAndBytes.{cell}
-use Rattle.findings.proofs.Runs.{Seen, seen-none, seen-turn, seen-all, zeros-few, one-more-fits, zeros-after-last, one-is, one-or-none}
+use Rattle.findings.proofs.Runs.{Seen, seen-none, seen-turn, seen-all, zeros-few, one-more-fits, zeros-after-last, one-is}
 use Rattle.findings.proofs.cell_rules.find_gaps.Statement.{statement}
 use Rattle.findings.proofs.cell_rules.find_gaps.Tie as tie
 
@@ -30,19 +28,17 @@ sub-p c = search needs
 cell-at-requires : tie.Need-cell-at-requires Inv-loop μ-loop
 cell-at-requires c κs = search needs
 
+one-if-requires : tie.Need-one-if-requires Inv-loop μ-loop
+one-if-requires c κs = search needs
+
+add-violations : tie.Need-add-violations Inv-loop μ-loop
+add-violations c = omega (arith, c .one-if .ensures .1, c .before .before .before .loop .inv .few)
+
 chosen-requires : tie.Need-chosen-requires Inv-loop μ-loop
 chosen-requires c κs = search needs
 
-add-violations : tie.Need-add-violations Inv-loop μ-loop
-add-violations c =
-    let l = c .before .before .before .loop in
-    omega (arith, c .chosen .ensures, one-or-none (eqb (c .before .cell-at .result) 1 && (ltb (l .zeros) 1 || ltb 3 (l .zeros))), l .inv .few)
-
-chosen-requires-2 : tie.Need-chosen-requires-2 Inv-loop μ-loop
-chosen-requires-2 c κs = search needs
-
-chosen-requires-3 : tie.Need-chosen-requires-3 Inv-loop μ-loop
-chosen-requires-3 c κs = search needs
+one-if-requires-2 : tie.Need-one-if-requires-2 Inv-loop μ-loop
+one-if-requires-2 c κs = search needs
 
 add-more : tie.Need-add-more Inv-loop μ-loop
 add-more c =
@@ -50,16 +46,16 @@ add-more c =
     let a = l .before .before .before .args in
     let z = zeros-few (cell (a .bytes .now) (a .n)) (a .n) (l .loop .p) in
     let h : l .loop .zeros ≤ a .n = omega (arith, l .loop .inv .zeros-are) in
-    omega (arith, one-more-fits (l .loop .zeros) (a .n) h, c .chosen3 .ensures)
+    omega (arith, one-more-fits (l .loop .zeros) (a .n) h, c .one-if2 .ensures .0)
+
+chosen-requires-2 : tie.Need-chosen-requires-2 Inv-loop μ-loop
+chosen-requires-2 c κs = search needs
+
+chosen-requires-3 : tie.Need-chosen-requires-3 Inv-loop μ-loop
+chosen-requires-3 c κs = search needs
 
 chosen-requires-4 : tie.Need-chosen-requires-4 Inv-loop μ-loop
 chosen-requires-4 c κs = search needs
-
-chosen-requires-5 : tie.Need-chosen-requires-5 Inv-loop μ-loop
-chosen-requires-5 c κs = search needs
-
-chosen-requires-6 : tie.Need-chosen-requires-6 Inv-loop μ-loop
-chosen-requires-6 c κs = search needs
 
 loop-less : tie.Need-loop-less Inv-loop μ-loop
 loop-less c = search needs
@@ -72,12 +68,12 @@ loop-again c =
     let h : l .loop .p - 1 < a .n = omega (arith, l .loop .inv .inside) in
     let o = one-is (a .bytes .now) (a .n) (l .loop .p - 1) _ h (c .before .before .before .before .before .before .cell-at .ensures) in
     seen-turn (cell (a .bytes .now) (a .n)) (a .n) (l .loop .p - 1) (l .loop .p) _ _ _ _ _ _ _ _ _ _ _ _ _ e (l .loop .inv) o refl
-    (c .before .before .before .before .before .chosen .ensures)
-    (c .before .before .before .before .chosen2 .ensures)
-    (c .before .before .before .chosen3 .ensures)
-    (c .before .before .chosen4 .ensures)
-    (c .before .chosen5 .ensures)
-    (c .chosen6 .ensures)
+    (c .before .before .before .before .before .one-if .ensures .0)
+    (c .before .before .before .before .chosen .ensures)
+    (c .before .before .before .one-if2 .ensures .0)
+    (c .before .before .chosen2 .ensures)
+    (c .before .chosen3 .ensures)
+    (c .chosen4 .ensures)
 
 returns : tie.Need-returns Inv-loop μ-loop
 returns c =
@@ -95,14 +91,14 @@ find-gaps-spec =
     loop-holds
     sub-p
     cell-at-requires
-    chosen-requires
+    one-if-requires
     add-violations
+    chosen-requires
+    one-if-requires-2
+    add-more
     chosen-requires-2
     chosen-requires-3
-    add-more
     chosen-requires-4
-    chosen-requires-5
-    chosen-requires-6
     loop-less
     loop-again
     returns)

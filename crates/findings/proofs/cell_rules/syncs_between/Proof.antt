@@ -3,11 +3,9 @@ use Prim.Native.Nat.{_+_, _-_, _≤_}
 use mathlib.Core.Path.{_≡_}
 use native.Mathlib.Omega.{arith}
 use borrow.Author.Needs.{needs}
-use lib.Dec.{ltb}
 use Rattle.basis.specs.Search.{count}
 use Rattle.cells.specs.CellsAndBytes.{cell}
 use Rattle.findings.specs.Cells.{syncsBetween}
-use Rattle.findings.proofs.Runs.{one-or-none}
 use Rattle.findings.proofs.Syncs.{sync-found, found-within, syncs-short, syncs-none, syncs-more, syncs-all}
 use Rattle.sectors.specs.Marks.{syncAt}
 use Rattle.findings.proofs.cell_rules.syncs_between.Statement.{statement}
@@ -35,13 +33,11 @@ loop-holds c = (search needs, syncs-none _ _ _)
 find-word-requires : tie.Need-find-word-requires Inv-loop μ-loop
 find-word-requires c κs = search needs
 
-chosen-requires : tie.Need-chosen-requires Inv-loop μ-loop
-chosen-requires c κs = search needs
+one-if-requires : tie.Need-one-if-requires Inv-loop μ-loop
+one-if-requires c κs = search needs
 
 add-syncs : tie.Need-add-syncs Inv-loop μ-loop
-add-syncs c =
-    let a = c .before .before .before .before .before .before .args in
-    omega (arith, c .chosen .ensures, one-or-none (ltb (c .before .find-word .result) (a .to - 15)))
+add-syncs c = omega (arith, c .one-if .ensures .1)
 
 add-p : tie.Need-add-p Inv-loop μ-loop
 add-p c =
@@ -62,8 +58,8 @@ loop-again c =
     let h = c .before .before .loop-test .taken in
     let e = c .before .find-word .ensures in
     let w = found-within (a .bytes .now) (a .n) (l .loop .p) (a .to - 15) (c .before .find-word .result) (omega arith) e in (
-      omega (arith, w .0, c .chosen .ensures, one-or-none (ltb (c .before .find-word .result) (a .to - 15))),
-      syncs-more (cell (a .bytes .now) (a .n)) (a .from) (a .to) _ _ _ _ _ _ h (sync-found (a .bytes .now) (a .n) _ _ _ e) (c .chosen .ensures) (l .loop .inv .1),
+      omega (arith, w .0, c .one-if .ensures .1),
+      syncs-more (cell (a .bytes .now) (a .n)) (a .from) (a .to) _ _ _ _ _ _ h (sync-found (a .bytes .now) (a .n) _ _ _ e) (c .one-if .ensures .0) (l .loop .inv .1),
     )
 
 returns-2 : tie.Need-returns-2 Inv-loop μ-loop
@@ -82,7 +78,7 @@ syncs-between-spec =
     sub-end-2
     loop-holds
     find-word-requires
-    chosen-requires
+    one-if-requires
     add-syncs
     add-p
     loop-less
