@@ -6,6 +6,7 @@
 //
 // What the boundary asks of a caller in another language: each address is valid for its length, lent memory does not
 // overlap what else is passed, and a bool is 0 or 1. The routines ask nothing of the values.
+use findings::Found;
 use flux::Counted;
 use flux::Separated;
 use flux::Separator;
@@ -16,7 +17,7 @@ use sectors::ReadOut;
 use sectors::Sector;
 ghost use mathlib.Core.Path.{_≡_};
 ghost use mathlib.Core.Bool.{cond};
-ghost use Prim.Native.Nat.{_≤_, min};
+ghost use Prim.Native.Nat.{_/_, _≤_, min};
 ghost use lib.ListN.{length, take};
 ghost use Rattle.basis.specs.Lists.{writtenOver};
 ghost use Rattle.cells.specs.CellsAndBytes.{cell, wordAt, leastPlace, cleared, withOne};
@@ -27,6 +28,7 @@ ghost use Rattle.flux.specs.Separation.{separatedAnswer, separation, separatedC
 ghost use Rattle.flux.specs.Demand3.{Demand3};
 ghost use Rattle.flux.specs.Histogram.{countedAnswer, counting};
 ghost use Rattle.sectors.specs.Calls.{listedAnswer, indexAnswer, readOutAnswer, readAnswer, dataAfter};
+ghost use Rattle.findings.specs.Calls.{foundAnswer, findingsAnswer, numbersAfter};
 ghost use Rattle.thikbromu.specs.Numbers.{numberIn, valueIn, countsLent, sectorNumbers, recordLent, numberRead, valueRead, checkRead};
 
 // Cell p of a track of n cells, counted on past n.
@@ -370,6 +372,42 @@ fn told_read(read: ReadOut, good: &mut u32, value: &mut usize) -> u32
         ReadOut::Refused(refusal) => {
             *value = refusal.value();
             *good = 0;
+            refusal.number()
+        }
+    }
+}
+
+// The findings of a track, at the front of the list: four numbers for each, its kind, level, place and detail; `value` is the number of
+// findings. A list has room for a quarter as many findings as it has numbers.
+#[no_mangle]
+pub extern "C" fn thikbromu_findings(
+    bytes: &[u8],
+    n: usize,
+    track: u32,
+    side: u32,
+    list: &mut [u32],
+    value: &mut usize,
+) -> u32
+    ensures number { λ r. ⌜ r ≡ numberIn (findingsAnswer (now (bytes .entry)) n track side (length (now (list .entry)) / 4)) ⌝ }
+    ensures value { λ _. ⌜ now (value .exit) ≡ valueIn (findingsAnswer (now (bytes .entry)) n track side (length (now (list .entry)) / 4)) ⌝ }
+    ensures list { λ _. ⌜ now (list .exit) ≡ numbersAfter (now (bytes .entry)) n track side (now (list .entry)) ⌝ }
+{
+    told_found(
+        findings::findings_as_numbers(bytes, n, track, side, list),
+        value,
+    )
+}
+
+fn told_found(found: Found, value: &mut usize) -> u32
+    ensures { λ r. ⌜ (r ≡ numberIn (foundAnswer found)) × (now (value .exit) ≡ valueIn (foundAnswer found)) ⌝ }
+{
+    match found {
+        Found::Count(count) => {
+            *value = count;
+            0
+        }
+        Found::Refused(refusal) => {
+            *value = refusal.value();
             refusal.number()
         }
     }

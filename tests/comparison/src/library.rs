@@ -70,6 +70,16 @@ extern "C" {
         good: *mut u32,
         value: *mut usize,
     ) -> u32;
+    fn thikbromu_findings(
+        bytes: *const u8,
+        length: usize,
+        n: usize,
+        track: u32,
+        side: u32,
+        list: *mut u32,
+        room: usize,
+        value: *mut usize,
+    ) -> u32;
     fn thikbromu_histogram(
         timings: *const u32,
         length: usize,
@@ -214,4 +224,13 @@ pub fn read_out(
         )
     };
     answer(number, value).map(|length| (length, good == 1))
+}
+
+/// The findings, four numbers for each: their number, or the refusal.
+pub fn findings(bytes: &[u8], n: usize, track: u32, side: u32, list: &mut [u32]) -> Result<usize, Refusal> {
+    let mut value = usize::MAX;
+    let number = unsafe {
+        thikbromu_findings(bytes.as_ptr(), bytes.len(), n, track, side, list.as_mut_ptr(), list.len(), &mut value)
+    };
+    answer(number, value)
 }

@@ -4,6 +4,7 @@
 //! The last line is 'N passed, M failed'; the exit status is 1 where something failed.
 
 mod coding;
+mod findings;
 mod flux;
 mod library;
 mod report;
@@ -30,6 +31,8 @@ fn main() {
     sectors::standard(&mut totals);
     sectors::shapes(&mut totals);
     sectors::any_tracks(&mut totals);
+    findings::edges(&mut totals);
+    findings::any_tracks(&mut totals);
     println!("{} passed, {} failed", totals.0, totals.1);
     if totals.1 > 0 {
         std::process::exit(1);

@@ -7,6 +7,7 @@
 
 pub mod cells;
 pub mod check_word;
+pub mod findings;
 pub mod flux_tracks;
 pub mod mfm;
 pub mod random;

@@ -1,0 +1,188 @@
+//! 01, "Findings": the list of a track's findings.
+
+use crate::library;
+use crate::report::{Group, Lent};
+use second_program::cells;
+use second_program::findings::{self, Finding};
+use second_program::random::Random;
+use second_program::track_builder::{odd_track, standard_track, turn, SectorPlan, TrackBuilder};
+
+/// Findings as the library's numbers, four for each.
+fn numbers(list: &[Finding]) -> Vec<u32> {
+    list.iter().flat_map(|f| [f.kind, f.level, f.place as u32, f.detail as u32]).collect()
+}
+
+/// One call: the answer, the list and the bytes afterwards. `room` counts numbers.
+fn case(group: &mut Group, bytes: &[u8], n: usize, drive: (u32, u32), room: usize) {
+    let input = bytes.to_vec();
+    let mut lent: Lent<u32> = Lent::new(room);
+    let ours = library::findings(&input, n, drive.0, drive.1, lent.part());
+    let second = findings::findings(drive.0, drive.1, bytes, n, room / 4);
+    let written = second.as_ref().map(|list| numbers(list)).unwrap_or_default();
+    group.same(
+        ((ours, lent.into_all()), input.as_slice()),
+        ((second.map(|list| list.len()), Lent::expected(room, &written)), bytes),
+        || format!("n {n}, T {}, H {}, room {room}", drive.0, drive.1),
+    );
+}
+
+/// A track with a list that is too short by one number, just long enough, and longer.
+fn whole_track(group: &mut Group, seen: &mut [usize; 22], track_cells: &[u8], drive: (u32, u32)) {
+    let bytes = cells::pack(track_cells);
+    let n = track_cells.len();
+    let needed = match findings::findings(drive.0, drive.1, &bytes, n, usize::MAX) {
+        Ok(list) => {
+            for finding in &list {
+                seen[finding.kind as usize] += 1;
+            }
+            4 * list.len()
+        }
+        Err(_) => 0,
+    };
+    for room in [needed, needed.saturating_sub(1), needed + 7] {
+        case(group, &bytes, n, drive, room);
+    }
+}
+
+/// Some number of standard sectors on a track of n cells.
+fn sectors_on(count: usize, n: usize, drive_track: u8) -> Vec<u8> {
+    let mut builder = TrackBuilder::new();
+    for number in 1..=count {
+        builder.write_repeated(0x00, 12);
+        builder.write_sector(&SectorPlan::standard(drive_track, 0, number as u8, 0xE5));
+        builder.write_repeated(0x4E, 4);
+    }
+    let mut track_cells = builder.cells().to_vec();
+    let mut filling = TrackBuilder::new();
+    filling.write_repeated(0x4E, n / 16 + 1);
+    while track_cells.len() < n {
+        track_cells.push(filling.cells()[track_cells.len() % 16]);
+    }
+    track_cells.truncate(n);
+    track_cells
+}
+
+/// Each kind just inside and just outside its rule.
+pub fn edges(totals: &mut (usize, usize)) {
+    let mut group = Group::new("each kind just inside and just outside its rule");
+    let mut seen = [0; 22];
+    for n in [96_999, 97_000, 100_000, 103_000, 103_001, 20_000, 131_072] {
+        for t in [0, 79, 80, 83] {
+            whole_track(&mut group, &mut seen, &sectors_on(9, n, t as u8), (t, 0));
+        }
+    }
+    for count in [0, 1, 8, 9, 10, 11] {
+        for t in [0, 79, 80] {
+            whole_track(&mut group, &mut seen, &sectors_on(count, 110_000, t as u8), (t, 1));
+        }
+    }
+    // One odd thing in one of nine sectors.
+    let odd: Vec<(&str, fn(&mut SectorPlan, u32))> = vec![
+        ("number", |plan, value| plan.number = value as u8),
+        ("track", |plan, value| plan.track = value as u8),
+        ("side", |plan, value| plan.side = value as u8),
+        ("size code", |plan, value| plan.size_code = value as u8),
+        ("ID mark", |plan, value| plan.id_mark = 0xFC + (value % 4) as u8),
+        ("data mark", |plan, value| plan.data_mark = Some(0xF7 + (value % 6) as u8)),
+        ("no data", |plan, value| plan.data_mark = if value % 2 == 0 { None } else { Some(0xF8) }),
+        ("ID check", |plan, value| plan.id_check_error = (value % 2) as u16),
+        ("data check", |plan, value| plan.data_check_error = (value % 2) as u16),
+        ("gap", |plan, value| plan.gap_cells = 600 + (value % 40) as usize),
+    ];
+    for (_, change) in &odd {
+        for value in (0..12).chain([83, 84, 127, 128]).chain(243..=249).chain([255]) {
+            let mut builder = TrackBuilder::new();
+            builder.write_repeated(0x4E, 60);
+            for number in 1..=9 {
+                builder.write_repeated(0x00, 12);
+                let mut plan = SectorPlan::standard(5, 0, number, 0x11);
+                if number == 4 {
+                    change(&mut plan, value);
+                }
+                builder.write_sector(&plan);
+                builder.write_repeated(0x4E, 40);
+            }
+            builder.write_repeated(0x4E, 664);
+            whole_track(&mut group, &mut seen, builder.cells(), (5, 0));
+        }
+    }
+    // DOI and DBI: the data end exactly at the index, one before and one after it; q at the index.
+    let standard_cells = standard_track(0, 0, 0xE5);
+    let data_end = 1_152 + 704 + 8_288;
+    for place in [data_end, 1_152 + 704, 1_152 + 704 + 64, 1_152, 1_152 + 160] {
+        for off in 0..=4 {
+            let by = 100_000 - place + off - 2;
+            whole_track(&mut group, &mut seen, &turn(&standard_cells, by), (0, 0));
+        }
+    }
+    // SID: a stray sync at each place around the ends of an ID and of data; SWS: an ID inside data, at its first and last cells.
+    for around in [1_152 + 64, 1_152 + 160, 1_856 + 64, 1_856 + 8_288] {
+        for off in 0..40 {
+            let mut track_cells = standard_cells.clone();
+            for i in 0..16 {
+                track_cells[around + off + i - 28] = (0x4489u16 >> (15 - i) & 1) as u8;
+            }
+            whole_track(&mut group, &mut seen, &track_cells, (0, 0));
+        }
+    }
+    for around in [1_856, 1_856 + 64, 1_856 + 8_288] {
+        for off in 0..8 {
+            let mut track_cells = standard_cells.clone();
+            let mut id = TrackBuilder::new();
+            id.write_id(0xFE, [0, 0, 20, 2], 0);
+            let at = around + off - 4;
+            track_cells[at..at + 160].copy_from_slice(id.cells());
+            whole_track(&mut group, &mut seen, &track_cells, (0, 0));
+            // The same with the data over the index.
+            whole_track(&mut group, &mut seen, &turn(&track_cells, 100_000 - around - 2), (0, 0));
+        }
+    }
+    // MTV and NFA: distances 1 to 6, and runs of 998 to 1,002 zeros, also over the index, and of equal length.
+    for distance in 1..=6 {
+        let mut track_cells: Vec<u8> = (0..100_000).map(|i| u8::from(i % 4 == 0)).collect();
+        for cell in &mut track_cells[50_001..50_000 + distance] {
+            *cell = 0;
+        }
+        track_cells[50_000 + distance] = 1;
+        whole_track(&mut group, &mut seen, &track_cells, (0, 0));
+    }
+    for run in 998..=1_002 {
+        for start in [10_001, 99_501] {
+            let mut track_cells: Vec<u8> = (0..100_000).map(|i| u8::from(i % 4 == 0)).collect();
+            for i in 0..run {
+                track_cells[(start + i) % 100_000] = 0;
+                track_cells[(start + 40_000 + i) % 100_000] = 0;
+            }
+            track_cells[(start + run) % 100_000] = 1;
+            track_cells[(start + 40_000 + run) % 100_000] = 1;
+            whole_track(&mut group, &mut seen, &track_cells, (0, 0));
+        }
+    }
+    // No ones, one one, two ones, all ones.
+    for places in [vec![], vec![0], vec![77_777], vec![5, 6], vec![5, 9], vec![5, 10], vec![0, 99_999]] {
+        let mut track_cells = vec![0; 100_000];
+        for place in places {
+            track_cells[place] = 1;
+        }
+        whole_track(&mut group, &mut seen, &track_cells, (80, 0));
+    }
+    whole_track(&mut group, &mut seen, &vec![1; 100_000], (80, 0));
+    for kind in 1..=21 {
+        group.same(seen[kind] > 0, true, || format!("kind {kind} was reached"));
+    }
+    group.close(totals);
+}
+
+pub fn any_tracks(totals: &mut (usize, usize)) {
+    let mut group = Group::new("findings of odd tracks");
+    let mut random = Random::new(30);
+    let mut seen = [0; 22];
+    for _ in 0..5_000 {
+        let drive = (random.below(85) as u32, random.below(2) as u32);
+        whole_track(&mut group, &mut seen, &odd_track(&mut random, drive.0 as u8), drive);
+    }
+    for kind in 1..=21 {
+        group.same(seen[kind] > 0, true, || format!("kind {kind} was reached"));
+    }
+    group.close(totals);
+}
