@@ -37,7 +37,7 @@ pub(crate) fn survey(numbers: &mut [u32; 3604], bytes: &[u8], n: usize, track: u
     requires { ⌜ On n ss ⌝ }
     ensures { λ r. ⌜ Added [] 0 (joined (ofKind (found (cell (now (bytes .entry)) n) n track (sectorsIn ss))) kinds) (now (numbers .exit)) r ⌝ }
 {
-    *numbers = [0; 3604];
+    clear(numbers);
     let gaps = cell_rules::find_gaps(bytes, n);
     let mut at: usize = 0;
     let mut k: usize = 0;
@@ -142,6 +142,13 @@ fn put(numbers: &mut [u32; 3604], at: usize, k: usize, seen: Seen) -> usize
     } else {
         at
     }
+}
+
+// The list before the first finding: what it held is not read.
+fn clear(numbers: &mut [u32; 3604])
+    ensures { λ _. ⌜ length (now (numbers .exit)) ≡ 4 * most ⌝ }
+{
+    *numbers = [0; 3604];
 }
 
 // The level of a kind.
