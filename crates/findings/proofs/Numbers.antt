@@ -2,9 +2,11 @@
 use Prim.Native.Nat.{ℕ, suc, _+_, _-_, _*_, _≤_, _<_}
 use mathlib.Core.Path.{_≡_, refl, sym, ap, _∙_}
 use mathlib.Core.List.{List, [], _∷_, _++_, map, map-append, append-assoc, append-nil}
+use native.Mathlib.Nat.{zero-add}
+use native.Mathlib.Numerals.{add-one}
 use native.Mathlib.Omega.{arith}
-use lib.ListN.{length, take, drop, set, length-append, length-map}
-use lib.Seq.{sets, length-sets, sets-eq, take-at, length-take-le}
+use lib.ListN.{length, getD, take, drop, set, length-append, length-map}
+use lib.Seq.{sets, length-sets, sets-eq, take-at, length-take-le, paste-suc}
 use Rattle.basis.specs.Lists.{joined}
 use Rattle.basis.proofs.Joined.{joined-none, joined-more, joined-grows}
 use Rattle.findings.specs.Calls.{numbersOf}
@@ -43,7 +45,7 @@ module _ {before : List ℕ} {at : ℕ} where
         long = length-sets before (4 * at) four ∙ room .long;
         count = refl;
         front = rw (end, sets-eq four before (4 * at) inside)
-            (take-at (take (4 * at) before ++ four) (drop (4 * at + 4) before) (4 * at + 4) long)
+            (take-at (take (4 * at) before ++ four) (drop (4 * at + 4) before) (4 * at + 4) long);
       }
 
   -- some findings, and then more
@@ -53,7 +55,7 @@ module _ {before : List ℕ} {at : ℕ} where
         record {
           long = second .long;
           count = omega (arith, first .count, second .count, length-append xs ys);
-          front = second .front ∙ rw (first .front, numbers-append xs ys) (append-assoc (take (4 * at) before) (numbersOf xs) (numbersOf ys))
+          front = second .front ∙ rw (first .front, numbers-append xs ys) (append-assoc (take (4 * at) before) (numbersOf xs) (numbersOf ys));
         }
 
     pub room-then : (ys zs : List Finding) → length (xs ++ ys) ≤ length zs → Room before at zs → Room between mid ys
@@ -87,3 +89,25 @@ module _ {A : Type 0} (g : A → Finding) (f : ℕ → List A) where
         let l : length (map g (joined f i) ++ map g (f i)) ≡ length (joined f (i + 1)) = rw (← map-more) (length-map (joined f (i + 1)) g) in
         let r : length (map g (joined f n)) ≡ length (joined f n) = length-map (joined f n) g in
         room-then first (map g (f i)) (map g (joined f n)) (omega (arith, rw e at (joined-grows f (i + 1) (n - (i + 1))))) room
+
+-- the findings of all kinds, from an empty list on
+module _ (f : ℕ → List Finding) where
+  pub kinds-start : {numbers : List ℕ} → length numbers ≡ 4 * most → Added [] 0 (joined f 0) numbers 0
+  unfolding numbersOf
+  kinds-start long = rw joined-none record { long = long; count = refl; front = refl }
+
+  pub kinds-next : (k : ℕ) {numbers after : List ℕ} {at next : ℕ} → Added [] 0 (joined f k) numbers at → Added numbers at (f k) after next
+      → Added [] 0 (joined f (k + 1)) after next
+  kinds-next k first second = rw joined-more (added-then first second)
+
+  pub kinds-room : (n k : ℕ) {numbers : List ℕ} {at : ℕ} → k < n → length (joined f n) ≤ most → Added [] 0 (joined f k) numbers at → Room numbers at (f k)
+  kinds-room n k h few first =
+      let e : k + 1 + (n - (k + 1)) ≡ n = omega arith in
+      let l = rw e at (joined-grows f (k + 1) (n - (k + 1))) in
+      let m : length (joined f (k + 1)) ≡ length (joined f k) + length (f k) = rw joined-more (length-append (joined f k) (f k)) in
+      record { long = first .long; fits = omega (arith, first .count) }
+
+-- a turn of the loop that copies numbers to the front of what was the list b
+pub copied-more : (numbers b l : List ℕ) (i : ℕ) → i < length numbers → i < length b → l ≡ take i numbers ++ drop i b
+    → set l i (getD numbers i 0) ≡ take (i + 1) numbers ++ drop (i + 1) b
+copied-more numbers b l i h k e = rw (e, add-one i) (rw (zero-add i, zero-add (suc i)) at (paste-suc b 0 numbers i 0 (omega arith) h))

@@ -1,6 +1,6 @@
 -- What only the contracts of private functions need: the rules in groups, as the code takes them, and findings added to a list of
 -- numbers. Assumes nothing.
-use Prim.Native.Nat.{ℕ, _+_, _-_, _*_, _<_, _≤_}
+use Prim.Native.Nat.{ℕ, _+_, _-_, _*_, _%_, _<_, _≤_}
 use mathlib.Core.Path.{_≡_}
 use mathlib.Core.Bool.{cond}
 use mathlib.Core.List.{List, [], _∷_, _++_}
@@ -86,3 +86,13 @@ pub record Added (before : List ℕ) (at : ℕ) (xs : List Finding) (after : Lis
   pub long : length after ≡ 4 * most
   pub count : next ≡ at + length xs
   pub front : take (4 * next) after ≡ take (4 * at) before ++ numbersOf xs
+
+-- finding i of those that stand in a list of numbers
+unfoldable pub findingAt : List ℕ → ℕ → Finding
+findingAt numbers i =
+    record {
+      kind = getD numbers (4 * i) 0 % 256;
+      level = getD numbers (4 * i + 1) 0 % 256;
+      place = getD numbers (4 * i + 2) 0;
+      detail = getD numbers (4 * i + 3) 0;
+    }
