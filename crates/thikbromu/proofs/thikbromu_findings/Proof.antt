@@ -16,7 +16,7 @@ same-length c = search needs
 
 returns : tie.Need-returns
 returns c =
-    let s = c .before .before .before .before .before .findings-as-numbers .ensures in
+    let s = c .before .before .before .before .findings-as-numbers .ensures in
     let t = c .told-found .ensures in
     (t .0 ∙ ap numberIn (s .0), (t .1 ∙ ap valueIn (s .0), s .1))
 
