@@ -7,16 +7,16 @@ use mathlib.Core.List.{List, [], _∷_}
 use native.Mathlib.Decide.{decLe}
 use native.Mathlib.Nat.{lt-of-not-le}
 use native.Mathlib.Omega.{arith}
-use borrow.Author.Tests.{leb-true}
+use borrow.Author.Tests.{leb-true, leb-false}
 use lib.ListN.{length, getD, List·getD-eq-default}
 use Rattle.basis.specs.Lists.{joined}
 use Rattle.basis.specs.Search.{least}
 use Rattle.basis.proofs.Joined.{From, joined-grows, index-below, element-of, element-from}
 use Rattle.basis.proofs.Search.{least-before, least-found, least-low, least-high}
 use Rattle.cells.specs.CellsAndBytes.{cell}
-use Rattle.sectors.specs.Marks.{idMarkAt}
+use Rattle.sectors.specs.Marks.{idMarkAt, dataMarkAt}
 use Rattle.sectors.specs.declared.Sector.{Sector}
-use Rattle.sectors.specs.Sectors.{markLength, reach, leastWithin, leastData, dataFound, lengthOf, idByte, dataLength, dataEnd, sectorAt, noSector, sectorsAt, sectorsOf}
+use Rattle.sectors.specs.Sectors.{markLength, idLength, reach, leastWithin, leastData, dataFound, lengthOf, idByte, dataLength, dataEnd, sectorAt, noSector, sectorsAt, sectorsOf}
 
 -- q is the least place from p + after to p + until that passes the test
 pub record LeastWithin (test : ℕ → Bool) (after until p q : ℕ) : Type 0 where
@@ -73,6 +73,14 @@ module _ (test : ℕ → Bool) (after until p : ℕ) where
           let f = within-found (omega (arith, w .to)) in
           absurd (clash (leastWithin test after until p) (w .before (leastWithin test after until p) within-low (lt-of-not-le b)) (f .passes))
       go (no a) b = absurd (clash q (within-before q (w .from) (lt-of-not-le a)) (w .passes))
+
+-- where a sector has a data mark, it is the least within reach; where it has none, there is none
+pub data-least : (f : ℕ → ℕ) (p : ℕ) → dataFound f p ≡ true → LeastWithin (dataMarkAt f) idLength reach p (sectorAt f p .«data_place»)
+unfolding sectorAt
+data-least f p e = rw e (within-found (dataMarkAt f) idLength reach p (leb-true (leastData f p) (p + reach) e))
+
+pub data-none : (f : ℕ → ℕ) (p : ℕ) → dataFound f p ≡ false → (r : ℕ) → p + idLength ≤ r → r ≤ p + reach → dataMarkAt f r ≡ false
+data-none f p e r h l = within-none (dataMarkAt f) idLength reach p (leb-false (leastData f p) (p + reach) e) r h l
 
 -- data that starts within the reach of a place on the track ends before the track's second turn does, where the reach, the mark and the
 -- most bytes together fit the track
@@ -172,3 +180,10 @@ module _ (bytes : List ℕ) (n : ℕ) where
   pub sectors-ordered : (i j : ℕ) → i < j → j < length (sectorsOf bytes n) → getD (sectorsOf bytes n) i noSector .place < getD (sectorsOf bytes n) j noSector .place
   unfolding sectorsOf
   sectors-ordered i j h l = places-rise (cell bytes n) n i j h l
+
+  pub sectors-end-below : (i : ℕ) → 20000 ≤ n → i < length (sectorsOf bytes n)
+      → dataEnd (getD (sectorsOf bytes n) i noSector .«data_place») (getD (sectorsOf bytes n) i noSector .«data_length») < 2 * n
+  sectors-end-below i h l = go (getD (sectorsOf bytes n) i noSector) (sector-of-mark i l)
+    where
+      go : (s : Sector) → SectorOf (cell bytes n) n i s → dataEnd (s .«data_place») (s .«data_length») < 2 * n
+      go s m = rw (m .made) (data-end-below (cell bytes n) n (s .place) h (m .below))

@@ -170,9 +170,6 @@ const FIRST_DATA_MARK: u8 = 0xF8;
 
 const LAST_DATA_MARK: u8 = 0xFB;
 
-// The functions below take places below 200,000 and check at most 1,024 bytes: no sum of theirs can overflow. A track has at
-// most 131,072 places, and a data mark stands at most the reach past them.
-
 // No sectors, beside a refusal.
 fn no_list(refusal: Refusal) -> TrackSectors
     ensures { λ r. ⌜ (listedAnswer (r .answer) ≡ refusedWith refusal) × (r .sectors ≡ kept []) ⌝ }
@@ -236,16 +233,16 @@ fn list(bytes: &[u8], n: usize) -> Sectors
     sectors
 }
 
-// The sectors before p, and the one at p; the first 64 are kept.
+// The sectors before p, and the one at p. Past the first 64 it is only counted, and no record is made of it.
 fn add_at(sectors: Sectors, bytes: &[u8], n: usize, p: usize) -> Sectors
     requires { ⌜ (p < 131072) × (sectors ≡ kept (joined (sectorsAt (cell (now bytes) n)) p)) × (idMarkAt (cell (now bytes) n) p ≡ true) ⌝ }
     ensures { λ r. ⌜ r ≡ kept (joined (sectorsAt (cell (now (bytes .entry)) n)) (p + 1)) ⌝ }
 {
-    let sector = sector_at(bytes, n, p);
     let at = sectors.count;
     let mut next = sectors;
     next.count = at + 1;
     if at < MOST_SECTORS {
+        let sector = sector_at(bytes, n, p);
         next.all[at] = sector;
         next
     } else {
@@ -278,6 +275,9 @@ fn no_sector() -> Sector
         data_check_good: false,
     }
 }
+
+// The functions below take places below 200,000 and check at most 1,024 bytes: no sum of theirs can overflow. A track has at
+// most 131,072 places, and a data mark stands at most the reach past them.
 
 // The record of the ID mark at p.
 fn sector_at(bytes: &[u8], n: usize, p: usize) -> Sector

@@ -11,16 +11,16 @@ use borrow.Author.Needs.{needs}
 use Rattle.sectors.proofs.add_at.Statement.{statement}
 use Rattle.sectors.proofs.add_at.Tie as tie
 
-sector-at-requires : tie.Need-sector-at-requires
-sector-at-requires c κs = search needs
-
 add-next : tie.Need-add-next
 add-next c =
-    let s = c .before .before in
+    let s = c .before in
     let a = s .args in
     let f = cell (a .bytes .now) (a .n) in
     let e : a .sectors .count ≡ kept (joined (sectorsAt f) (a .p)) .count = ap (λ (x : Sectors). x .count) (s .pre .1) in
     omega (arith, e, kept-count (joined (sectorsAt f) (a .p)), sectors-few f (a .p), s .pre .0)
+
+sector-at-requires : tie.Need-sector-at-requires
+sector-at-requires c κs = search needs
 
 mul-sector : tie.Need-mul-sector
 mul-sector c = search needs
@@ -33,11 +33,11 @@ returns c =
     let s = c .before .before .before in
     let a = s .args in
     let f = cell (a .bytes .now) (a .n) in
-    rw (sectors-here f (a .p) (s .pre .2), c .before .sector-at .ensures) (kept-more (joined (sectorsAt f) (a .p)) (sectorAt f (a .p)) (a .sectors) (s .pre .1) (c .if1 .taken))
+    rw (sectors-here f (a .p) (s .pre .2), c .sector-at .ensures) (kept-more (joined (sectorsAt f) (a .p)) (sectorAt f (a .p)) (a .sectors) (s .pre .1) (c .before .if1 .taken))
 
 returns-2 : tie.Need-returns-2
 returns-2 c =
-    let s = c .before .before .before in
+    let s = c .before .before in
     let a = s .args in
     let f = cell (a .bytes .now) (a .n) in
     rw (sectors-here f (a .p) (s .pre .2)) (kept-full (joined (sectorsAt f) (a .p)) (sectorAt f (a .p)) (a .sectors) (s .pre .1) (c .if1 .left))
@@ -45,4 +45,4 @@ returns-2 c =
 pub add-at-spec : {M : Type 1} → statement M
 add-at-spec =
     tie.close
-    (tie.spec sector-at-requires add-next mul-sector element-set-from-sector returns returns-2)
+    (tie.spec add-next sector-at-requires mul-sector element-set-from-sector returns returns-2)
