@@ -1,5 +1,7 @@
 pub mod Bounds
 pub mod Few
+pub mod Laws
+pub mod Members
 pub mod Numbers
 pub mod Others
 pub mod Outcome
