@@ -5,6 +5,7 @@ pub mod Members
 pub mod Numbers
 pub mod Others
 pub mod Outcome
+pub mod Records
 pub mod Rows
 pub mod Runs
 pub mod Syncs

@@ -13,6 +13,7 @@ use Rattle.basis.specs.Lists.{joined}
 use Rattle.basis.specs.Search.{count, least}
 use Rattle.findings.specs.Cells.{violation, longestRun, longestStart, syncsInside}
 use Rattle.findings.specs.Findings.{nth, atSector, atLater, found}
+use Rattle.findings.specs.Inner.{kinds}
 use Rattle.findings.specs.Rules.{Hit, when, someSector, sameNumber, inData, marked, isRead, endOf}
 use Rattle.sectors.specs.declared.Sector.{Sector}
 
@@ -122,7 +123,7 @@ module _ (f : ℕ → ℕ) (N T : ℕ) (ss : List Sector) where
 
   -- what holds of the hits of every kind on the track and of every kind on sectors holds of every row
   pub every-row : (P : List Hit → Type 0) → ((kind : TrackKind) → P (trackHits kind)) → ((kind : SectorKind) → P (sectorHits ss kind))
-      → (k : ℕ) → k < 21 → P (getD (found f N T ss) k [])
+      → (k : ℕ) → k < kinds → P (getD (found f N T ss) k [])
   every-row P track sector k h = go (decLe 5 k) (decLe 19 k)
     where
       go : Dec (5 ≤ k) → Dec (19 ≤ k) → P (getD (found f N T ss) k [])
