@@ -1,6 +1,6 @@
 -- What is found fits its numbers: the bounds of a sector's record, of the gaps and of the syncs inside a sector. Assumes nothing.
 use Prim.Native.Nat.{ℕ, zero, suc, _+_, _<_, _≤_, max}
-use mathlib.Core.Path.{_≡_, refl, sym, ap, _∙_}
+use mathlib.Core.Path.{_≡_, refl, ap}
 use mathlib.Core.Bool.{Bool, true, false, cond}
 use mathlib.Core.List.{List, _++_}
 use native.Mathlib.Nat.{max-le}
@@ -13,15 +13,15 @@ use Rattle.basis.specs.Search.{most}
 use Rattle.basis.proofs.Search.{least-high, count-few}
 use Rattle.cells.specs.CellsAndBytes.{cell}
 use Rattle.findings.specs.Cells.{violation, zerosFrom, runFrom, longestRun, longestStart, syncsBetween, syncsInside}
-use Rattle.findings.specs.Inner.{Near, Few, On, sectorsIn, GapsOn}
+use Rattle.findings.specs.Inner.{Near, On, sectorsIn, GapsOn}
 use Rattle.findings.specs.declared.cell_rules.Gaps.{Gaps}
 use Rattle.findings.proofs.Runs.{zeros-few}
 use Rattle.findings.proofs.Syncs.{syncs-few}
-use Rattle.sectors.specs.Sectors.{reach, markLength, idLength, dataEnd, leastData, dataFound, lengthOf, idByte, dataLength, sectorAt, noSector, sectorsOf, kept}
+use Rattle.sectors.specs.Sectors.{reach, markLength, idLength, dataEnd, leastData, dataFound, idByte, dataLength, sectorAt, noSector, sectorsOf, kept}
 use Rattle.sectors.specs.declared.Sector.{Sector}
 use Rattle.sectors.specs.declared.Sectors.{Sectors}
 use Rattle.sectors.proofs.Kept.{kept-at}
-use Rattle.sectors.proofs.Places.{SectorOf, length-most, sector-of-mark}
+use Rattle.sectors.proofs.Places.{length-most, sector-of-mark}
 
 -- a record's place and length of data
 near-record : (f : ℕ → ℕ) (p : ℕ) → p ≤ 131072 → Near (sectorAt f p)

@@ -89,4 +89,4 @@ module _ (f : ℕ → ℕ) (N T : ℕ) (ss : List Sector) where
   unfolding hits
   few-findings h =
       rw (length-kinds (found f N T ss) kinds)
-      (omega (arith, first-few, sum-few hits (length ss) 5 14 sector-few, last-few 0 (omega arith), last-few 1 (omega arith)))
+      (omega (arith, first-few, sum-few hits (length ss) 5 14 sector-few, sum-few hits 1 19 2 last-few))

@@ -1,8 +1,11 @@
 pub mod Bounds
 pub mod Few
+pub mod Laws
+pub mod Members
 pub mod Numbers
 pub mod Others
 pub mod Outcome
+pub mod Records
 pub mod Rows
 pub mod Runs
 pub mod Syncs

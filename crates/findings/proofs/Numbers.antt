@@ -6,7 +6,7 @@ use native.Mathlib.Nat.{zero-add}
 use native.Mathlib.Numerals.{add-one}
 use native.Mathlib.Omega.{arith}
 use lib.ListN.{length, getD, take, drop, set, length-append, length-map}
-use lib.Seq.{sets, length-sets, sets-eq, take-at, length-take-le, paste-suc}
+use lib.Seq.{length-sets, sets-eq, take-at, length-take-le, paste-suc}
 use Rattle.basis.specs.Lists.{joined}
 use Rattle.basis.proofs.Joined.{joined-none, joined-more, joined-grows}
 use Rattle.findings.specs.Calls.{numbersOf}

@@ -1,5 +1,5 @@
 -- From the sectors of a track to the answer of the call and what goes to the list. Assumes nothing.
-use Prim.Native.Nat.{ℕ, _+_, _*_, _<_, _≤_}
+use Prim.Native.Nat.{ℕ, _*_, _<_, _≤_}
 use mathlib.Core.Path.{_≡_, refl, sym, ap, _∙_}
 use mathlib.Core.Bool.{Bool, true, false, cond, _||_}
 use mathlib.Core.List.{List, [], _++_}
@@ -12,7 +12,7 @@ use Rattle.basis.specs.Lists.{joined}
 use Rattle.cells.specs.CellsAndBytes.{cell, bytesFor}
 use Rattle.findings.specs.Calls.{findingsAnswer, written, numbersOf}
 use Rattle.findings.specs.Findings.{levels, found, ofKind, findingsOf}
-use Rattle.findings.specs.Inner.{kinds, most, sectorsIn, Added}
+use Rattle.findings.specs.Inner.{kinds, sectorsIn, Added}
 use Rattle.findings.specs.declared.Finding.{Finding}
 use Rattle.findings.proofs.Bounds.{sectors-kept}
 use Rattle.findings.proofs.Few.{few-findings}
@@ -121,6 +121,24 @@ module _ (fs : List Finding) (numbers list : List ℕ) where
       let n : 4 * count ≡ length (numbersOf fs) = omega (arith, length-numbers fs) in
       rw (front, take-all count fs (omega arith), n)
   after answer (refuses number value) count e front = rw e
+
+few : (fs : List Finding) (answer : Answer ℕ) → Judged (length fs) answer → written answer ≤ length fs
+few fs answer accepts = omega arith
+few fs answer (refuses number value) = omega arith
+
+pub written-few : (bytes : List ℕ) (N T H room : ℕ) → written (findingsAnswer bytes N T H room) ≤ length (findingsOf bytes N T)
+written-few bytes N T H room = few (findingsOf bytes N T) (findingsAnswer bytes N T H room) (judged bytes N T H room)
+
+-- the same of the findings themselves
+front : (fs list : List Finding) (answer : Answer ℕ) → Judged (length fs) answer → take (written answer) fs ++ drop (written answer) list ≡ bufferAfter answer fs list
+unfolding bufferAfter
+front fs list answer accepts = rw (take-all (length fs) fs (omega arith))
+front fs list answer (refuses number value) = refl
+
+pub findings-written : (bytes : List ℕ) (N T H room : ℕ) (list : List Finding)
+    → take (written (findingsAnswer bytes N T H room)) (findingsOf bytes N T) ++ drop (written (findingsAnswer bytes N T H room)) list
+    ≡ bufferAfter (findingsAnswer bytes N T H room) (findingsOf bytes N T) list
+findings-written bytes N T H room list = front (findingsOf bytes N T) list (findingsAnswer bytes N T H room) (judged bytes N T H room)
 
 module _ (bytes : List ℕ) (N T H room count : ℕ) (numbers : List ℕ) (e : count ≡ written (findingsAnswer bytes N T H room))
     (front : take (4 * count) numbers ≡ numbersOf (take count (findingsOf bytes N T))) where

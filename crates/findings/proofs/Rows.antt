@@ -1,16 +1,15 @@
 -- The rows of the list of hits, group by group, as the code takes them. Assumes nothing.
-use Prim.Native.Nat.{ℕ, suc, _+_, _-_, _<_, _≤_}
+use Prim.Native.Nat.{ℕ, _+_, _-_, _<_, _≤_}
 use mathlib.Core.Path.{_≡_, refl, sym, ap, _∙_}
 use mathlib.Core.List.{List, [], _∷_, _++_, map}
 use native.Mathlib.Omega.{arith}
-use lib.ListN.{length, getD, length-append, List·getD-eq-default, List·getD-append}
+use lib.ListN.{length, getD, List·getD-eq-default, List·getD-append}
 use lib.Seq.{getD-append-add}
 use Rattle.basis.specs.Lists.{listed, joined}
 use Rattle.basis.proofs.Lists.{length-listed, getD-listed}
 use Rattle.findings.specs.Findings.{atSector, atLater, each, found, findingOf, ofKind}
 use Rattle.findings.specs.Inner.{trackRules, idRules, dataRules, sectorRule, gapRules, GapsOn}
 use Rattle.findings.specs.Rules.{Hit, mtv, nfa}
-use Rattle.findings.specs.declared.Finding.{Finding}
 use Rattle.findings.specs.declared.cell_rules.Gaps.{Gaps}
 use Rattle.sectors.specs.declared.Sector.{Sector}
 

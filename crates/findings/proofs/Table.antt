@@ -1,8 +1,10 @@
 -- 01's table of findings as tests and details: each row of the list of hits has this form. Assumes nothing.
-use Prim.Native.Nat.{ℕ, zero, suc, _+_, _-_, _<_}
-use mathlib.Core.Path.{_≡_, refl, _∙_}
+use Prim.Native.Nat.{ℕ, zero, suc, _+_, _-_, _<_, _≤_}
+use mathlib.Core.Path.{_≡_, refl, sym, subst, _∙_}
 use mathlib.Core.Bool.{Bool, false, not, _&&_, _||_}
 use mathlib.Core.List.{List, [], _∷_, _++_, map}
+use native.Mathlib.Decide.{decLe}
+use native.Mathlib.Nat.{lt-of-not-le}
 use native.Mathlib.Omega.{arith}
 use lib.Dec.{eqb, ltb, leb}
 use lib.ListN.{length, getD, take, List·getD-append}
@@ -11,6 +13,7 @@ use Rattle.basis.specs.Lists.{joined}
 use Rattle.basis.specs.Search.{count, least}
 use Rattle.findings.specs.Cells.{violation, longestRun, longestStart, syncsInside}
 use Rattle.findings.specs.Findings.{nth, atSector, atLater, found}
+use Rattle.findings.specs.Inner.{kinds}
 use Rattle.findings.specs.Rules.{Hit, when, someSector, sameNumber, inData, marked, isRead, endOf}
 use Rattle.sectors.specs.declared.Sector.{Sector}
 
@@ -49,7 +52,7 @@ getD-mapped g (x ∷ l) (suc k) e d h = getD-mapped g l k e d (omega arith)
 
 module _ (f : ℕ → ℕ) (N T : ℕ) (ss : List Sector) where
   -- kinds 1 to 5
-  pub firstKinds : List TrackKind
+  unfoldable pub firstKinds : List TrackKind
   firstKinds =
       record { test = ltb 103000 N; place = 0; detail = N }
       ∷ record { test = ltb N 97000; place = 0; detail = N }
@@ -59,7 +62,7 @@ module _ (f : ℕ → ℕ) (N T : ℕ) (ss : List Sector) where
       ∷ []
 
   -- kinds 20 and 21
-  pub lastKinds : List TrackKind
+  unfoldable pub lastKinds : List TrackKind
   lastKinds =
       record { test = ltb 0 (count (violation f N) N 0); place = least (violation f N) N 0; detail = count (violation f N) N 0 }
       ∷ record { test = leb 1000 (longestRun f N); place = longestStart f N; detail = longestRun f N }
@@ -70,7 +73,7 @@ module _ (f : ℕ → ℕ) (N T : ℕ) (ss : List Sector) where
   onRecord test detail = record { test = λ i. test (nth ss i); detail = λ i. detail (nth ss i) }
 
   -- kinds 6 to 19
-  pub sectorKinds : List SectorKind
+  unfoldable pub sectorKinds : List SectorKind
   sectorKinds =
       record { test = λ i. someSector (sameNumber (nth ss i)) (take i ss); detail = λ i. nth ss i .number }
       ∷ onRecord (λ s. leb 245 (s .number) && leb (s .number) 247) (λ s. s .number)
@@ -117,3 +120,17 @@ module _ (f : ℕ → ℕ) (N T : ℕ) (ss : List Sector) where
       (getD-append-add (map trackHits firstKinds) (map (sectorHits ss) sectorKinds ++ map trackHits lastKinds) (14 + k) []
       ∙ getD-append-add (map (sectorHits ss) sectorKinds) (map trackHits lastKinds) k []
       ∙ getD-mapped trackHits lastKinds k [] noTrackKind (omega arith))
+
+  -- what holds of the hits of every kind on the track and of every kind on sectors holds of every row
+  pub every-row : (P : List Hit → Type 0) → ((kind : TrackKind) → P (trackHits kind)) → ((kind : SectorKind) → P (sectorHits ss kind))
+      → (k : ℕ) → k < kinds → P (getD (found f N T ss) k [])
+  every-row P track sector k h = go (decLe 5 k) (decLe 19 k)
+    where
+      go : Dec (5 ≤ k) → Dec (19 ≤ k) → P (getD (found f N T ss) k [])
+      go (no a) b = rw (first-row k (lt-of-not-le a)) (track (getD firstKinds k noTrackKind))
+      go (yes a) (no b) =
+          let e : 5 + (k - 5) ≡ k = omega arith in
+          rw e at (subst P (sym (sector-row (k - 5) (omega (arith, lt-of-not-le b)))) (sector (getD sectorKinds (k - 5) noSectorKind)))
+      go (yes a) (yes b) =
+          let e : 19 + (k - 19) ≡ k = omega arith in
+          rw e at (subst P (sym (last-row (k - 19) (omega arith))) (track (getD lastKinds (k - 19) noTrackKind)))

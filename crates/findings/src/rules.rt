@@ -4,7 +4,7 @@ use crate::cell_rules::Gaps;
 use sectors::Sector;
 use sectors::Sectors;
 ghost use mathlib.Core.Path.{_≡_};
-ghost use mathlib.Core.List.{List, []};
+ghost use mathlib.Core.List.{[]};
 ghost use Prim.Native.Nat.{_-_, _<_, _≤_};
 ghost use lib.ListN.{getD};
 ghost use Rattle.findings.specs.Rules.{endOf, lies, inData, someSector};

@@ -6,13 +6,13 @@ use crate::rules::Seen;
 use sectors::Sector;
 use sectors::Sectors;
 ghost use mathlib.Core.Path.{_≡_};
-ghost use mathlib.Core.List.{List, [], map};
+ghost use mathlib.Core.List.{[], map};
 ghost use Prim.Native.Nat.{_+_, _-_, _*_, _<_, _≤_};
 ghost use lib.ListN.{length, getD};
 ghost use Rattle.basis.specs.Lists.{joined};
 ghost use Rattle.cells.specs.CellsAndBytes.{cell};
 ghost use Rattle.findings.specs.Findings.{levels, atLater, each, found, findingOf, ofKind};
-ghost use Rattle.findings.specs.Inner.{hitsOf, kinds, most, gapRules, sectorRule, Near, Few, On, GapsOn, sectorsIn, Added, Room};
+ghost use Rattle.findings.specs.Inner.{hitsOf, kinds, most, sectorRule, Near, Few, On, GapsOn, sectorsIn, Added, Room};
 
 // The numbers of the most findings that there can be, four for each: with 64 sectors there are at most 901.
 pub(crate) const NUMBERS: usize = 3604;

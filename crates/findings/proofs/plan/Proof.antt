@@ -1,6 +1,6 @@
 -- `findings::plan` meets its contract. Assumes nothing.
 use Prim.Native.Nat.{ℕ, _≤_}
-use mathlib.Core.Path.{_≡_, refl, sym, ap, _∙_}
+use mathlib.Core.Path.{_≡_, sym, ap, _∙_}
 use native.Mathlib.Omega.{arith}
 use denote.Ref.{now}
 use lib.ListN.{length}
@@ -10,7 +10,6 @@ use Rattle.refusals.specs.RefusedCalls.{numberOf, valueOf}
 use Rattle.refusals.specs.RefusedCalls.Answer.{gives}
 use Rattle.sectors.specs.Calls.{listedAnswer, sectorsAnswer}
 use Rattle.sectors.specs.Sectors.{sectorsOf, kept}
-use Rattle.sectors.specs.declared.Sectors.{Sectors}
 use Rattle.sectors.proofs.Calls.{list-accepted, listed-sectors}
 use borrow.Author.Needs.{needs}
 use Rattle.findings.proofs.plan.Statement.{statement}

@@ -8,7 +8,7 @@ use lib.ListN.{length}
 use Rattle.basis.specs.Lists.{joined}
 use Rattle.cells.specs.CellsAndBytes.{cell}
 use Rattle.findings.specs.Findings.{found, ofKind}
-use Rattle.findings.specs.Inner.{kinds, most, sectorsIn, Added}
+use Rattle.findings.specs.Inner.{kinds, sectorsIn, Added}
 use Rattle.findings.proofs.Few.{few-findings}
 use Rattle.findings.proofs.Numbers.{kinds-start, kinds-next, kinds-room}
 use Rattle.findings.proofs.Others.{length-kept}

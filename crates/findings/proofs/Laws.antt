@@ -1,0 +1,238 @@
+-- What follows from the definition of the findings. `bytes` are the packed cells of a track of N cells, T is the drive's track, and
+-- kinds have 01's numbers, from 1 to 21 (`kinds`).
+--
+--   stands-exactly      a finding stands in the list exactly when the row of its kind has its place and detail
+--   track-exactly       of kinds 1 to 5: exactly when the test passes, with the place and detail of the table
+--   cells-exactly       the same of kinds 20 and 21
+--   sector-exactly      of kinds 6 to 19: exactly when a sector passes the test, at its place and with the detail of the table
+--   empty-means-none    the list is empty exactly when every row is
+--   strictly-ordered    by kind, then place
+--   kinds-in-range      kinds are 1 to 21, and each has its level
+--   tnf-only            kind 4 stands only with level 2, place 0, detail 0, and T at most 79
+--
+-- The tests, places and details are in proofs/Table, one line for each kind. Assumes nothing.
+use Prim.Native.Nat.{ℕ, _+_, _-_, _<_, _≤_}
+use mathlib.Core.Path.{_≡_, refl, ap}
+use mathlib.Core.Bool.{Bool, true, false, _&&_}
+use mathlib.Core.List.{List, [], List·Memᴰ, List·Memᴰ·head, List·Memᴰ·not-nil, List·Memᴰ·eq-of-singleton, Memᴰ·cast, Memᴰ·map}
+use mathlib.Core.Logic.{_⊎_, inl, inr, _↔_}
+use native.Mathlib.Omega.{arith}
+use borrow.Author.Tests.{leb-true}
+use lib.Dec.{eqb, leb}
+use lib.ListN.{length, getD}
+use Rattle.basis.specs.Lists.{joined}
+use Rattle.cells.specs.CellsAndBytes.{cell}
+use Rattle.findings.specs.Findings.{nth, levels, found, findingOf, ofKind, findingsOf}
+use Rattle.findings.specs.Inner.{kinds}
+use Rattle.findings.specs.Rules.{Hit, when}
+use Rattle.findings.specs.declared.Finding.{Finding}
+use Rattle.findings.proofs.Members.{joined-from, joined-has, map-image, no-members, Ordered, ordered-joined, ordered-map, ordered-at}
+use Rattle.findings.proofs.Table.{TrackKind, SectorKind, trackHits, hitsAt, sectorHits, firstKinds, sectorKinds, lastKinds, noTrackKind, noSectorKind, first-row, sector-row, last-row, every-row}
+use Rattle.sectors.specs.Sectors.{sectorsOf}
+use Rattle.sectors.proofs.Places.{sectors-ordered}
+
+-- a place and a detail
+abbrev pub hit : ℕ → ℕ → Hit
+hit place detail = record { place = place; detail = detail }
+
+-- a finding of a kind, with the kind's level
+abbrev pub finding : (kind place detail : ℕ) → Finding
+finding kind place detail = record { kind = kind; level = getD levels (kind - 1) 0; place = place; detail = detail }
+
+-- it stands in the list
+abbrev pub Stands : List ℕ → (N T kind place detail : ℕ) → Type 0
+Stands bytes N T kind place detail = List·Memᴰ (finding kind place detail) (findingsOf bytes N T)
+
+-- what a kind finds
+abbrev pub rowOf : List ℕ → (N T kind : ℕ) → List Hit
+rowOf bytes N T kind = getD (found (cell bytes N) N T (sectorsOf bytes N)) (kind - 1) []
+
+-- x stands before y
+abbrev pub Before : Finding → Finding → Type 0
+Before x y = (x .kind < y .kind) ⊎ ((x .kind ≡ y .kind) × (x .place < y .place))
+
+-- one hit's place is before another's
+abbrev Nearer : Hit → Hit → Type 0
+Nearer x y = x .place < y .place
+
+one-ordered : (test : Bool) (p d : ℕ) → Ordered Nearer (when test p d)
+one-ordered true p d = (λ y m. absurd (List·Memᴰ·not-nil m), tt)
+one-ordered false p d = tt
+
+second-passes : (a b : Bool) → (a && b) ≡ true → b ≡ true
+second-passes true b e = e
+second-passes false b e = let z : _≡_ {A = ℕ} 0 1 = cc in absurd (omega arith)
+
+-- members of what a test gives
+when-has : (test : Bool) (p d : ℕ) → test ≡ true → List·Memᴰ (hit p d) (when test p d)
+when-has test p d e = rw e (List·Memᴰ·head refl)
+
+when-only : (test : Bool) (p d : ℕ) (x : Hit) → List·Memᴰ x (when test p d) → (test ≡ true) × (x ≡ hit p d)
+when-only true p d x m = (refl, List·Memᴰ·eq-of-singleton m)
+when-only false p d x m = absurd (List·Memᴰ·not-nil m)
+
+module _ (bytes : List ℕ) (N T : ℕ) where
+  abbrev rows : List (List Hit)
+  rows = found (cell bytes N) N T (sectorsOf bytes N)
+
+  -- a finding of the list comes from a row
+  pub record Comes (x : Finding) : Type 0 where
+    pub kind : ℕ
+    pub below : kind < kinds
+    pub place : ℕ
+    pub detail : ℕ
+    pub member : List·Memᴰ (hit place detail) (getD (found (cell bytes N) N T (sectorsOf bytes N)) kind [])
+    pub is : x ≡ findingOf kind (hit place detail)
+
+  comes : (x : Finding) → List·Memᴰ x (findingsOf bytes N T) → Comes x
+  unfolding findingsOf levels ofKind
+  comes x m =
+      let j = joined-from (ofKind rows) kinds x m in
+      let i = map-image (findingOf (j .place)) (getD rows (j .place) []) x (j .member) in
+      record { kind = j .place; below = j .below; place = i .of .place; detail = i .of .detail; member = i .member; is = i .is }
+
+  -- kinds are 1 to 21, and each has its level
+  pub kinds-in-range : (x : Finding) → List·Memᴰ x (findingsOf bytes N T) → (1 ≤ x .kind) × (x .kind ≤ kinds) × (x .level ≡ getD levels (x .kind - 1) 0)
+  unfolding findingOf
+  kinds-in-range x m =
+      let c = comes x m in
+      let k : c .kind + 1 - 1 ≡ c .kind = omega arith in
+      rw (c .is) (omega arith, omega (arith, c .below), rw k refl)
+
+  -- a finding stands in the list exactly when the row of its kind has its place and detail
+  module _ (kind p d : ℕ) (low : 1 ≤ kind) (high : kind ≤ kinds) where
+    is-finding : finding kind p d ≡ findingOf (kind - 1) (hit p d)
+    unfolding findingOf
+    is-finding = let e : kind - 1 + 1 ≡ kind = omega arith in rw e
+
+    from-row : (k place detail : ℕ) → finding kind p d ≡ findingOf k (hit place detail) → List·Memᴰ (hit place detail) (getD rows k []) → List·Memᴰ (hit p d) (rowOf bytes N T kind)
+    unfolding findingOf
+    from-row k place detail is m =
+        let n : kind ≡ k + 1 = ap (λ (x : Finding). x .kind) is in
+        let e : kind - 1 ≡ k = omega arith in
+        rw (e, ap (λ (x : Finding). x .place) is, ap (λ (x : Finding). x .detail) is) m
+
+    row-has : Stands bytes N T kind p d → List·Memᴰ (hit p d) (rowOf bytes N T kind)
+    row-has m = let c = comes (finding kind p d) m in from-row (c .kind) (c .place) (c .detail) (c .is) (c .member)
+
+    stands : List·Memᴰ (hit p d) (rowOf bytes N T kind) → Stands bytes N T kind p d
+    unfolding findingsOf levels ofKind
+    stands m = Memᴰ·cast is-finding (joined-has (ofKind rows) kinds (kind - 1) (findingOf (kind - 1) (hit p d)) (omega arith) (Memᴰ·map (findingOf (kind - 1)) m))
+
+    pub stands-exactly : Stands bytes N T kind p d ↔ List·Memᴰ (hit p d) (rowOf bytes N T kind)
+    stands-exactly = (row-has, stands)
+
+  -- the list is empty exactly when every row is
+  pub empty-means-none : (findingsOf bytes N T ≡ []) ↔ ((kind : ℕ) → 1 ≤ kind → kind ≤ kinds → rowOf bytes N T kind ≡ [])
+  empty-means-none = (none, empty)
+    where
+      none : findingsOf bytes N T ≡ [] → (kind : ℕ) → 1 ≤ kind → kind ≤ kinds → rowOf bytes N T kind ≡ []
+      none e kind low high = no-members (rowOf bytes N T kind) (λ y m. List·Memᴰ·not-nil (rw e at (stands kind (y .place) (y .detail) low high m)))
+
+      empty : ((kind : ℕ) → 1 ≤ kind → kind ≤ kinds → rowOf bytes N T kind ≡ []) → findingsOf bytes N T ≡ []
+      empty h = no-members (findingsOf bytes N T) (λ x m. absurd (List·Memᴰ·not-nil (at-row (comes x m))))
+        where
+          at-row : {x : Finding} (c : Comes x) → List·Memᴰ (hit (c .place) (c .detail)) []
+          at-row c =
+              let e : c .kind + 1 - 1 ≡ c .kind = omega arith in
+              rw (rw e at (h (c .kind + 1) (omega arith) (omega (arith, c .below)))) at (c .member)
+
+  -- of kinds 1 to 5, and 20 and 21: exactly when the test passes, with the place and detail of the table
+  module _ (kind p d : ℕ) where
+    by-test : (entry : TrackKind) → rowOf bytes N T kind ≡ trackHits entry → 1 ≤ kind → kind ≤ kinds
+        → Stands bytes N T kind p d ↔ ((entry .test ≡ true) × (p ≡ entry .place) × (d ≡ entry .detail))
+    by-test entry e low high = (seen, found-there)
+      where
+        seen : Stands bytes N T kind p d → (entry .test ≡ true) × (p ≡ entry .place) × (d ≡ entry .detail)
+        seen m =
+            let w = when-only (entry .test) (entry .place) (entry .detail) (hit p d) (rw e at (row-has kind p d low high m)) in
+            (w .0, ap (λ (x : Hit). x .place) (w .1), ap (λ (x : Hit). x .detail) (w .1))
+
+        found-there : (entry .test ≡ true) × (p ≡ entry .place) × (d ≡ entry .detail) → Stands bytes N T kind p d
+        found-there w = stands kind p d low high (rw (e, w .1, w .2) (when-has (entry .test) (entry .place) (entry .detail) (w .0)))
+
+    pub track-exactly : 1 ≤ kind → kind ≤ 5 → let entry = getD (firstKinds (cell bytes N) N T (sectorsOf bytes N)) (kind - 1) noTrackKind in
+        Stands bytes N T kind p d ↔ ((entry .test ≡ true) × (p ≡ entry .place) × (d ≡ entry .detail))
+    track-exactly low high =
+        by-test (getD (firstKinds (cell bytes N) N T (sectorsOf bytes N)) (kind - 1) noTrackKind)
+        (first-row (cell bytes N) N T (sectorsOf bytes N) (kind - 1) (omega arith)) low (omega arith)
+
+    pub cells-exactly : 20 ≤ kind → kind ≤ kinds → let entry = getD (lastKinds (cell bytes N) N T (sectorsOf bytes N)) (kind - 20) noTrackKind in
+        Stands bytes N T kind p d ↔ ((entry .test ≡ true) × (p ≡ entry .place) × (d ≡ entry .detail))
+    cells-exactly low high =
+        let e : 19 + (kind - 20) ≡ kind - 1 = omega arith in
+        by-test (getD (lastKinds (cell bytes N) N T (sectorsOf bytes N)) (kind - 20) noTrackKind)
+        (rw e at (last-row (cell bytes N) N T (sectorsOf bytes N) (kind - 20) (omega arith))) (omega arith) high
+
+  -- sector `index` passes the test of a kind on sectors, and p and d are its place and detail
+  pub record AtSector (entry : SectorKind) (p d : ℕ) : Type 0 where
+    pub index : ℕ
+    pub below : index < length (sectorsOf bytes N)
+    pub passes : entry .test index ≡ true
+    pub place-is : p ≡ nth (sectorsOf bytes N) index .place
+    pub detail-is : d ≡ entry .detail index
+
+  by-sector : (kind p d : ℕ) (entry : SectorKind) → rowOf bytes N T kind ≡ sectorHits (sectorsOf bytes N) entry → 1 ≤ kind → kind ≤ kinds
+      → Stands bytes N T kind p d ↔ AtSector entry p d
+  by-sector kind p d entry e low high = (seen, found-there)
+    where
+      seen : Stands bytes N T kind p d → AtSector entry p d
+      seen m =
+          let j = joined-from (hitsAt (sectorsOf bytes N) entry) (length (sectorsOf bytes N)) (hit p d) (rw e at (row-has kind p d low high m)) in
+          let w = when-only (entry .test (j .place)) (nth (sectorsOf bytes N) (j .place) .place) (entry .detail (j .place)) (hit p d) (j .member) in
+          record {
+            index = j .place;
+            below = j .below;
+            passes = w .0;
+            place-is = ap (λ (x : Hit). x .place) (w .1);
+            detail-is = ap (λ (x : Hit). x .detail) (w .1);
+          }
+
+      found-there : AtSector entry p d → Stands bytes N T kind p d
+      found-there w =
+          stands kind p d low high
+          (rw (e, w .place-is, w .detail-is)
+          (joined-has (hitsAt (sectorsOf bytes N) entry) (length (sectorsOf bytes N)) (w .index) _ (w .below)
+          (when-has (entry .test (w .index)) (nth (sectorsOf bytes N) (w .index) .place) (entry .detail (w .index)) (w .passes))))
+
+  -- of kinds 6 to 19: exactly when a sector passes the test, at its place and with the detail of the table
+  pub sector-exactly : (kind p d : ℕ) → 6 ≤ kind → kind ≤ 19
+      → Stands bytes N T kind p d ↔ AtSector (getD (sectorKinds (cell bytes N) N T (sectorsOf bytes N)) (kind - 6) noSectorKind) p d
+  sector-exactly kind p d low high =
+      let e : 5 + (kind - 6) ≡ kind - 1 = omega arith in
+      by-sector kind p d (getD (sectorKinds (cell bytes N) N T (sectorsOf bytes N)) (kind - 6) noSectorKind)
+      (rw e at (sector-row (cell bytes N) N T (sectorsOf bytes N) (kind - 6) (omega arith))) (omega arith) (omega arith)
+
+  -- the list is ordered by kind, then place, strictly
+  row-ordered : (k : ℕ) → k < kinds → Ordered Nearer (getD rows k [])
+  row-ordered = every-row (cell bytes N) N T (sectorsOf bytes N) (Ordered Nearer) (λ kind. one-ordered (kind .test) (kind .place) (kind .detail)) sectors-row
+    where
+      sectors-row : (kind : SectorKind) → Ordered Nearer (sectorHits (sectorsOf bytes N) kind)
+      sectors-row kind =
+          ordered-joined Nearer (hitsAt (sectorsOf bytes N) kind) (length (sectorsOf bytes N))
+          (λ i h. one-ordered (kind .test i) (nth (sectorsOf bytes N) i .place) (kind .detail i))
+          (λ i j x y h l a b. (let v = when-only (kind .test i) (nth (sectorsOf bytes N) i .place) (kind .detail i) x a in
+          let w = when-only (kind .test j) (nth (sectorsOf bytes N) j .place) (kind .detail j) y b in
+          rw (v .1, w .1) (sectors-ordered bytes N i j h l)))
+
+  pub strictly-ordered : (i j : ℕ) → i < j → j < length (findingsOf bytes N T)
+      → Before (getD (findingsOf bytes N T) i (finding 0 0 0)) (getD (findingsOf bytes N T) j (finding 0 0 0))
+  unfolding findingsOf levels ofKind findingOf
+  strictly-ordered i j h l = ordered-at Before (finding 0 0 0) (joined (ofKind rows) kinds) i j all h l
+    where
+      all : Ordered Before (joined (ofKind rows) kinds)
+      all =
+          ordered-joined Before (ofKind rows) kinds (λ k b. ordered-map Nearer Before (findingOf k) (λ x y r. inr (refl, r)) (getD rows k []) (row-ordered k b))
+          (λ j k x y h l a b. (let v = map-image (findingOf j) (getD rows j []) x a in
+          let w = map-image (findingOf k) (getD rows k []) y b in
+          rw (v .is, w .is) (inl (omega arith))))
+
+  -- kind 4 stands only with level 2, place 0, detail 0, and T at most 79
+  pub tnf-only : (x : Finding) → List·Memᴰ x (findingsOf bytes N T) → x .kind ≡ 4 → (x .level ≡ 2) × (x .place ≡ 0) × (x .detail ≡ 0) × (T ≤ 79)
+  unfolding levels firstKinds
+  tnf-only x m e =
+      let level = kinds-in-range x m .2 in
+      let is : finding (x .kind) (x .place) (x .detail) ≡ x = rw (← level) in
+      let s : Stands bytes N T 4 (x .place) (x .detail) = rw e at (Memᴰ·cast is m) in
+      let t = track-exactly 4 (x .place) (x .detail) (omega arith) (omega arith) .0 s in
+      (rw e at level, t .1, t .2, leb-true T 79 (second-passes (eqb (length (sectorsOf bytes N)) 0) (leb T 79) (t .0)))
