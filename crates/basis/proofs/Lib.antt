@@ -1,3 +1,4 @@
 pub mod Lists
+pub mod Joined
 pub mod Search
 pub mod Tables

@@ -109,6 +109,18 @@ least-high test (suc k) p = go (test p) (least-high test k (p + 1))
     go true h = omega arith
     go false h = omega arith
 
+-- a search can go on from the least place that passes a wider test
+pub least-skip : (wider test : ℕ → Bool) → ((q : ℕ) → wider q ≡ false → test q ≡ false)
+    → (k p to : ℕ) → p + k ≡ to → least test (to - least wider k p) (least wider k p) ≡ least test (to - p) p
+unfolding least
+least-skip wider test narrower zero p to e = refl
+least-skip wider test narrower (suc k) p to e = go (wider p) refl (least-skip wider test narrower k (p + 1) to (omega arith))
+  where
+    go : (b : Bool) → wider p ≡ b → least test (to - least wider k (p + 1)) (least wider k (p + 1)) ≡ least test (to - (p + 1)) (p + 1)
+        → least test (to - cond b p (least wider k (p + 1))) (cond b p (least wider k (p + 1))) ≡ least test (to - p) p
+    go true w more = refl
+    go false w more = more ∙ sym (least-step test p to (omega arith) (narrower p w))
+
 -- in a longer range the least is not less
 pub least-grows : (test : ℕ → Bool) (k p : ℕ) → least test k p ≤ least test (suc k) p
 unfolding least

@@ -3,3 +3,4 @@ pub mod Words
 pub mod Standing
 pub mod Packing
 pub mod Ones
+pub mod InBytes

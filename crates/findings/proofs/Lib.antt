@@ -1,2 +1,9 @@
+pub mod Bounds
+pub mod Few
+pub mod Numbers
+pub mod Others
+pub mod Outcome
+pub mod Rows
 pub mod Runs
 pub mod Syncs
+pub mod Table

@@ -2,3 +2,4 @@ pub mod Cells
 pub mod Rules
 pub mod Findings
 pub mod Calls
+pub mod Inner

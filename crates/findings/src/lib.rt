@@ -1,7 +1,18 @@
-// The copy-protection findings of a track.
+// The copy-protection findings of a track: 01's 21 kinds, ordered by kind, then place.
 mod cell_rules;
+mod rules;
+mod survey;
 
 use refusals::Refusal;
+use sectors::Listed;
+
+ghost use mathlib.Core.Path.{_≡_};
+ghost use Prim.Native.Nat.{_+_, _*_, _/_, _%_, _<_, _≤_};
+ghost use mathlib.Core.List.{_++_};
+ghost use lib.ListN.{length, take, drop};
+ghost use Rattle.findings.specs.Calls.{foundAnswer, findingsAnswer, written, numbersOf, numbersAfter};
+ghost use Rattle.findings.specs.Findings.{findingsOf};
+ghost use Rattle.findings.specs.Inner.{findingAt};
 
 // A finding: its kind from 1 to 21, the kind's level, its place in cells, and its detail.
 pub struct Finding {
@@ -15,4 +26,78 @@ pub struct Finding {
 pub enum Found {
     Count(usize),
     Refused(Refusal),
+}
+
+// The findings of a track of n cells, packed in `bytes`, as numbers at the front of the list: kind, level, place and detail of each.
+// `track` and `side` are the drive's.
+pub fn findings_as_numbers(bytes: &[u8], n: usize, track: u32, side: u32, list: &mut [u32]) -> Found
+    ensures answer { λ r. ⌜ foundAnswer r ≡ findingsAnswer (now (bytes .entry)) n track side (length (now (list .entry)) / 4) ⌝ }
+    ensures list { λ _. ⌜ now (list .exit) ≡ numbersAfter (now (bytes .entry)) n track side (now (list .entry)) ⌝ }
+{
+    let mut numbers: [u32; 3604] = [0; 3604];
+    let room = list.len() / 4;
+    let planned = plan(&mut numbers, bytes, n, track, side, room);
+    copy(&numbers, 4 * planned.count, list);
+    planned.answer
+}
+
+// What is to be done with a list that has room for so many findings: how many of the numbers go there, none beside a refusal, and the
+// answer.
+struct Planned {
+    pub count: usize,
+    pub answer: Found,
+}
+
+// The findings as numbers, and the plan for a list with room for `room` findings. 3,604 numbers are enough: with 64 sectors there are at
+// most 901 findings.
+fn plan(numbers: &mut [u32; 3604], bytes: &[u8], n: usize, track: u32, side: u32, room: usize) -> Planned
+    ensures answer { λ r. ⌜ foundAnswer (r .answer) ≡ findingsAnswer (now (bytes .entry)) n track side room ⌝ }
+    ensures count { λ r. ⌜ r .count ≡ written (findingsAnswer (now (bytes .entry)) n track side room) ⌝ }
+    ensures numbers { λ r. ⌜ take (4 * r .count) (now (numbers .exit)) ≡ numbersOf (take (r .count) (findingsOf (now (bytes .entry)) n track)) ⌝ }
+    ensures bounds { λ r. ⌜ (r .count ≤ 901) × (r .count ≤ room) ⌝ }
+{
+    let listed = sectors::sectors_of(bytes, n, track, side);
+    let ss = listed.sectors;
+    let answer = listed.answer;
+    match answer {
+        Listed::Refused(refusal) => Planned { count: 0, answer: Found::Refused(refusal) },
+        Listed::Count(_) => {
+            let count = survey::survey(numbers, bytes, n, track, ss);
+            if room < count {
+                return Planned { count: 0, answer: Found::Refused(Refusal::ListTooShort(count)) };
+            }
+            Planned { count, answer: Found::Count(count) }
+        }
+    }
+}
+
+// Finding i of those that stand in the numbers.
+fn finding_at(numbers: &[u32; 3604], i: usize) -> Finding
+    requires { ⌜ 4 * i + 3 < 3604 ⌝ }
+    ensures { λ r. ⌜ r ≡ findingAt (now (numbers .entry)) i ⌝ }
+{
+    let kind = low(numbers[4 * i]);
+    let level = low(numbers[4 * i + 1]);
+    let place = numbers[4 * i + 2];
+    let detail = numbers[4 * i + 3];
+    Finding { kind, level, place, detail }
+}
+
+// Copies the first `end` numbers to the front of the list.
+fn copy(numbers: &[u32; 3604], end: usize, list: &mut [u32])
+    requires { ⌜ (end ≤ 3604) × (end ≤ length (now numbers)) × (end ≤ length (now list)) ⌝ }
+    ensures { λ _. ⌜ now (list .exit) ≡ take end (now (numbers .entry)) ++ drop end (now (list .entry)) ⌝ }
+{
+    let mut i: usize = 0;
+    while i < end {
+        list[i] = numbers[i];
+        i += 1;
+    }
+}
+
+// The lowest byte of a number.
+fn low(x: u32) -> u8
+    ensures { λ r. ⌜ r ≡ x % 256 ⌝ }
+{
+    (x % 256) as u8
 }

@@ -21,5 +21,6 @@ module _ (most given needed room : ℕ) where
   in-room h g = rw (le-ltb most given h, le-ltb room needed g)
 
 -- an answer that is the judgement, and a buffer that is the answer's
-pub answer-and-buffer : {a b : Answer ℕ} (made buffer : List ℕ) {after : List ℕ} → a ≡ b → after ≡ bufferAfter a made buffer → (a ≡ b) × (after ≡ bufferAfter b made buffer)
-answer-and-buffer made buffer e h = (e, h ∙ ap (λ (x : Answer ℕ). bufferAfter x made buffer) e)
+pub answer-and-buffer : {A : Type 0} {a b : Answer A} (made buffer : List ℕ) {after : List ℕ} → a ≡ b → after ≡ bufferAfter a made buffer
+    → (a ≡ b) × (after ≡ bufferAfter b made buffer)
+answer-and-buffer {A} made buffer e h = (e, h ∙ ap (λ (x : Answer A). bufferAfter x made buffer) e)

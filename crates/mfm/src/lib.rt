@@ -5,7 +5,8 @@ ghost use mathlib.Core.Bool.{cond};
 ghost use Prim.Native.Nat.{_<_, _≤_, _*_, _+_, _/_, _%_, _^_};
 ghost use lib.ListN.{length};
 ghost use Rattle.basis.specs.Lists.{writtenOver};
-ghost use Rattle.mfm.specs.Coding.{clock, byteCells, encoded, decoded};
+ghost use Rattle.cells.specs.CellsAndBytes.{cell, word};
+ghost use Rattle.mfm.specs.Coding.{clock, byteCells, byteOn, encoded, decoded};
 ghost use Rattle.mfm.specs.Calls.{answerOf, codingAnswer, decodingAnswer, cellsAfter, bytesAfter};
 
 // The most bytes that one call codes, and the most bytes of cells that one call decodes.
@@ -69,6 +70,14 @@ pub fn byte_cells(before: bool, byte: u8) -> u16
     cells
 }
 
+// The byte whose sixteen cells start at p of a track of n cells, counted on past n: its data cells.
+pub fn byte_on(bytes: &[u8], n: usize, p: usize) -> u8
+    ensures { λ r. ⌜ r ≡ byteOn (cell (now (bytes .entry)) n) p ⌝ }
+{
+    let cells = sixteen_cells(bytes, n, p);
+    nibble((cells / 256) as u8) * 16 + nibble((cells % 256) as u8)
+}
+
 // Codes all of `bytes` into the front of `cells`.
 fn write_cells(bytes: &[u8], before: bool, cells: &mut [u8])
     requires { ⌜ 2 * length (now bytes) ≤ length (now cells) ⌝ }
@@ -104,6 +113,28 @@ fn write_bytes(cells: &[u8], bytes: &mut [u8])
         bytes[i] = nibble(cells[2 * i]) * 16 + nibble(cells[2 * i + 1]);
         i += 1;
     }
+}
+
+// The sixteen cells from p, as a number: out of three bytes where they lie before the track's end, else cell by cell.
+fn sixteen_cells(bytes: &[u8], n: usize, p: usize) -> u64
+    ensures { λ r. ⌜ (r ≡ word (cell (now (bytes .entry)) n) 16 p) × (r < 65536) ⌝ }
+{
+    let k = p / 8;
+    if p < n {
+        if 16 <= n - p {
+            if k + 2 < bytes.len() {
+                let three = wide(bytes[k]) * 65536 + wide(bytes[k + 1]) * 256 + wide(bytes[k + 2]);
+                return (three >> (8 - p % 8)) % 65536;
+            }
+        }
+    }
+    cells::word_at(bytes, n, p, 16)
+}
+
+fn wide(byte: u8) -> u64
+    ensures { λ r. ⌜ (r ≡ byte) × (r < 256) ⌝ }
+{
+    byte as u64
 }
 
 // The four data cells of a byte of cells.

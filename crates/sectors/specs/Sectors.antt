@@ -87,15 +87,24 @@ sectorAt f p =
       «data_place» = cond (dataFound f p) (leastData f p) 0;
       «data_mark» = cond (dataFound f p) (markByte f (leastData f p)) 0;
       «data_length» = dataLength f p;
-      «data_check_good» = ltb 0 (dataLength f p) && checkGood f (leastData f p) (dataLength f p)
+      «data_check_good» = ltb 0 (dataLength f p) && checkGood f (leastData f p) (dataLength f p);
     }
 
 -- a record that is all zeros
 abbrev pub noSector : Sector
 noSector =
     record {
-      place = 0; mark = 0; track = 0; side = 0; number = 0; «size_code» = 0; «id_check_good» = false; «data_place» = 0; «data_mark» = 0;
-      «data_length» = 0; «data_check_good» = false
+      place = 0;
+      mark = 0;
+      track = 0;
+      side = 0;
+      number = 0;
+      «size_code» = 0;
+      «id_check_good» = false;
+      «data_place» = 0;
+      «data_mark» = 0;
+      «data_length» = 0;
+      «data_check_good» = false;
     }
 
 -- "Each ID mark is a sector, its check good or bad"

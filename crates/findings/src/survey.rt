@@ -1,0 +1,166 @@
+// The findings of a track as numbers, put one after the other into a list, kind by kind. A kind is given by its index, from 0.
+use sectors::{Sector, Sectors};
+use crate::cell_rules;
+use crate::cell_rules::Gaps;
+use crate::rules;
+use crate::rules::Seen;
+
+ghost use mathlib.Core.Path.{_≡_};
+ghost use mathlib.Core.List.{List, [], map};
+ghost use Prim.Native.Nat.{_+_, _-_, _*_, _<_, _≤_};
+ghost use lib.ListN.{length, getD};
+ghost use Rattle.basis.specs.Lists.{joined};
+ghost use Rattle.cells.specs.CellsAndBytes.{cell};
+ghost use Rattle.findings.specs.Findings.{levels, atLater, each, found, findingOf, ofKind};
+ghost use Rattle.findings.specs.Inner.{hitsOf, kinds, most, gapRules, sectorRule, Near, Few, On, GapsOn, sectorsIn, Added, Room};
+
+// How many kinds there are, and the level of each, from kind 1 on.
+const KINDS: usize = 21;
+
+const LEVELS: [u8; 21] = [1, 1, 3, 2, 2, 1, 1, 2, 2, 2, 2, 2, 1, 1, 1, 1, 1, 1, 3, 3, 1];
+
+// The index of the kind that looks for duplicated numbers, that of the first of the kinds after it, which look at each sector by itself,
+// and that of the first of those after these, which look at the whole track again.
+const DUPLICATES: usize = 5;
+
+const SECTOR_KINDS: usize = 6;
+
+const GAP_KINDS: usize = 19;
+
+// Where in the group of kinds on sectors the rules on data start, where they end, and where the last kind stands.
+const DATA_RULES: usize = 6;
+
+const OVERWRITTEN: usize = 11;
+
+// All findings of a track of n cells with the sectors ss; how many there are.
+pub(crate) fn survey(numbers: &mut [u32; 3604], bytes: &[u8], n: usize, track: u32, ss: Sectors) -> usize
+    requires { ⌜ On n ss ⌝ }
+    ensures { λ r. ⌜ Added [] 0 (joined (ofKind (found (cell (now (bytes .entry)) n) n track (sectorsIn ss))) kinds) (now (numbers .exit)) r ⌝ }
+{
+    clear(numbers);
+    let gaps = cell_rules::find_gaps(bytes, n);
+    let mut at: usize = 0;
+    let mut k: usize = 0;
+    while k < KINDS {
+        at = one_kind(numbers, bytes, n, track, ss, gaps, k, at);
+        k += 1;
+    }
+    at
+}
+
+// The findings of one kind.
+fn one_kind(numbers: &mut [u32; 3604], bytes: &[u8], n: usize, track: u32, ss: Sectors, gaps: Gaps, k: usize, at: usize) -> usize
+    requires { ⌜ On n ss ⌝ }
+    requires { ⌜ GapsOn (cell (now bytes) n) n gaps ⌝ }
+    requires { ⌜ (k < kinds) × Room (now numbers) at (ofKind (found (cell (now bytes) n) n track (sectorsIn ss)) k) ⌝ }
+    ensures { λ r. ⌜ Added (now (numbers .entry)) at (ofKind (found (cell (now (bytes .entry)) n) n track (sectorsIn ss)) k) (now (numbers .exit)) r ⌝ }
+{
+    if k < DUPLICATES {
+        return put(numbers, at, k, rules::track_rule(k, n as u32, ss.count as u32, track));
+    }
+    if k == DUPLICATES {
+        return duplicates(numbers, ss, at);
+    }
+    if k < GAP_KINDS {
+        return each_sector(numbers, bytes, n, track, ss, k, at);
+    }
+    put(numbers, at, k, rules::gap_rule(k - GAP_KINDS, gaps))
+}
+
+// DSN: nested loops over the pairs of sectors, left by label at the first earlier sector with the same number.
+fn duplicates(numbers: &mut [u32; 3604], ss: Sectors, at: usize) -> usize
+    requires { ⌜ Few ss × Room (now numbers) at (map (findingOf 5) (joined (atLater (sectorsIn ss)) (length (sectorsIn ss)))) ⌝ }
+    ensures { λ r. ⌜ Added (now (numbers .entry)) at (map (findingOf 5) (joined (atLater (sectorsIn ss)) (length (sectorsIn ss)))) (now (numbers .exit)) r ⌝ }
+{
+    let count = ss.count;
+    let mut to = at;
+    let mut i: usize = 0;
+    'sectors: while i < count {
+        let s = ss.all[i];
+        let mut j: usize = 0;
+        while j < i {
+            let earlier = ss.all[j];
+            if earlier.number == s.number {
+                to = put(numbers, to, DUPLICATES, Seen { hit: true, place: s.place, detail: s.number as u32 });
+                i += 1;
+                continue 'sectors;
+            }
+            j += 1;
+        }
+        i += 1;
+    }
+    to
+}
+
+// A kind on each sector by itself: kinds 7 to 19.
+fn each_sector(numbers: &mut [u32; 3604], bytes: &[u8], n: usize, track: u32, ss: Sectors, k: usize, at: usize) -> usize
+    requires { ⌜ On n ss ⌝ }
+    requires { ⌜ (6 ≤ k) × (k < 19) × Room (now numbers) at (map (findingOf k) (each (sectorRule (cell (now bytes) n) n track (sectorsIn ss) (k - 6)) (sectorsIn ss))) ⌝ }
+    ensures { λ r. ⌜ Added (now (numbers .entry)) at (map (findingOf k) (each (sectorRule (cell (now (bytes .entry)) n) n track (sectorsIn ss) (k - 6)) (sectorsIn ss))) (now (numbers .exit)) r ⌝ }
+{
+    let count = ss.count;
+    let mut to = at;
+    let mut i: usize = 0;
+    while i < count {
+        let s = ss.all[i];
+        to = put(numbers, to, k, sector_rule(bytes, n, track, ss, k - SECTOR_KINDS, s));
+        i += 1;
+    }
+    to
+}
+
+// What a kind on sectors sees at the sector s, k being its place among these kinds.
+fn sector_rule(bytes: &[u8], n: usize, track: u32, ss: Sectors, k: usize, s: Sector) -> Seen
+    requires { ⌜ On n ss × Near s ⌝ }
+    ensures { λ r. ⌜ hitsOf r ≡ sectorRule (cell (now (bytes .entry)) n) n track (sectorsIn ss) k s ⌝ }
+{
+    if k < DATA_RULES {
+        return rules::id_rule(k, track, s);
+    }
+    if k < OVERWRITTEN {
+        return rules::data_rule(k - DATA_RULES, n, s);
+    }
+    if k == OVERWRITTEN {
+        return Seen { hit: rules::overwritten(n, ss, s), place: s.place, detail: s.number as u32 };
+    }
+    let syncs = cell_rules::syncs_inside(bytes, n, s);
+    Seen { hit: 0 < syncs, place: s.place, detail: syncs as u32 }
+}
+
+// What a rule saw, put after the `at` findings that are in the list; how many there are then.
+fn put(numbers: &mut [u32; 3604], at: usize, k: usize, seen: Seen) -> usize
+    requires { ⌜ (k < kinds) × Room (now numbers) at (map (findingOf k) (hitsOf seen)) ⌝ }
+    ensures { λ r. ⌜ Added (now (numbers .entry)) at (map (findingOf k) (hitsOf seen)) (now (numbers .exit)) r ⌝ }
+{
+    if seen.hit {
+        let b = 4 * at;
+        numbers[b] = k as u32 + 1;
+        numbers[b + 1] = level(k);
+        numbers[b + 2] = seen.place;
+        numbers[b + 3] = seen.detail;
+        at + 1
+    } else {
+        at
+    }
+}
+
+// The list before the first finding: what it held is not read.
+fn clear(numbers: &mut [u32; 3604])
+    ensures { λ _. ⌜ length (now (numbers .exit)) ≡ 4 * most ⌝ }
+{
+    *numbers = [0; 3604];
+}
+
+// The level of a kind.
+fn level(k: usize) -> u32
+    requires { ⌜ k < kinds ⌝ }
+    ensures { λ r. ⌜ r ≡ getD levels k 0 ⌝ }
+{
+    wide(LEVELS[k])
+}
+
+fn wide(x: u8) -> u32
+    ensures { λ r. ⌜ r ≡ x ⌝ }
+{
+    x as u32
+}

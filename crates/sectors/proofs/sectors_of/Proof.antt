@@ -1,0 +1,81 @@
+-- `sectors::sectors_of` meets its contract. Assumes nothing.
+use native.Mathlib.Omega.{arith}
+use mathlib.Core.Path.{_≡_, refl, ap, _∙_}
+use lib.ListN.{length}
+use Rattle.sectors.specs.Sectors.{sectorsOf}
+use Rattle.sectors.specs.Calls.{sectorsAnswer}
+use Rattle.refusals.specs.RefusedCalls.Answer.{gives}
+use Rattle.sectors.specs.declared.Sectors.{Sectors}
+use Rattle.sectors.proofs.Calls.{most-cells, refuses-1, refuses-2, refuses-3, track-accepted, refuses-4, count-accepted, list-refused, list-given}
+use Rattle.sectors.proofs.Kept.{kept-count}
+use borrow.Author.Needs.{needs}
+use Rattle.sectors.proofs.sectors_of.Statement.{statement}
+use Rattle.sectors.proofs.sectors_of.Tie as tie
+
+no-list-requires : tie.Need-no-list-requires
+no-list-requires c κs = search needs
+
+returns : tie.Need-returns
+unfolding sectorsAnswer
+returns c = list-refused _ _ 1 0 (c .no-list .ensures .0) (refuses-1 _ _ _ _ _ (c .before .if1 .taken)) _ _ (c .no-list .ensures .1)
+
+no-list-requires-2 : tie.Need-no-list-requires-2
+no-list-requires-2 c κs = search needs
+
+returns-2 : tie.Need-returns-2
+unfolding sectorsAnswer
+returns-2 c = list-refused _ _ 2 _ (c .no-list2 .ensures .0) (refuses-2 _ _ _ _ _ (c .before .before .if1 .left) (c .before .if2 .taken)) _ _ (c .no-list2 .ensures .1)
+
+add-needed : tie.Need-add-needed
+add-needed c = omega (arith, most-cells (c .before .before .before .args .n) (c .if2 .left))
+
+no-list-requires-3 : tie.Need-no-list-requires-3
+no-list-requires-3 c κs = search needs
+
+returns-3 : tie.Need-returns-3
+unfolding sectorsAnswer
+returns-3 c = list-refused _ _ 3 _ (c .no-list3 .ensures .0) (refuses-3 _ _ _ _ _ (c .before .before .before .if1 .left) (c .before .before .if2 .left) (c .before .if3 .taken)) _ _ (c .no-list3 .ensures .1)
+
+list-requires : tie.Need-list-requires
+list-requires c κs = most-cells _ (c .before .if2 .left)
+
+no-list-requires-4 : tie.Need-no-list-requires-4
+no-list-requires-4 c κs = search needs
+
+returns-4 : tie.Need-returns-4
+unfolding sectorsAnswer
+returns-4 c =
+    let s = c .before .before in
+    let a = s .before .before .before .before .before .args in
+    let e : s .list .result .count ≡ length (sectorsOf (a .bytes .now) (a .n)) = ap (λ (x : Sectors). x .count) (s .list .ensures) ∙ kept-count (sectorsOf (a .bytes .now) (a .n)) in
+    list-refused _ _ 4 (s .list .result .count) (c .no-list4 .ensures .0)
+    (rw e (refuses-4 (length (sectorsOf (a .bytes .now) (a .n))) (gives (length (sectorsOf (a .bytes .now) (a .n)))) (omega (arith, e, c .before .if4 .taken)))
+    ∙ track-accepted _ _ _ _ _ (s .before .before .before .if1 .left) (s .before .before .if2 .left) (s .before .if3 .left))
+    _ _ (c .no-list4 .ensures .1)
+
+returns-5 : tie.Need-returns-5
+unfolding sectorsAnswer
+returns-5 c =
+    let s = c .before in
+    let a = s .before .before .before .before .before .args in
+    let e : s .list .result .count ≡ length (sectorsOf (a .bytes .now) (a .n)) = ap (λ (x : Sectors). x .count) (s .list .ensures) ∙ kept-count (sectorsOf (a .bytes .now) (a .n)) in
+    list-given _ _ (s .list .result .count) refl
+    (rw e (count-accepted (length (sectorsOf (a .bytes .now) (a .n))) (gives (length (sectorsOf (a .bytes .now) (a .n)))) (omega (arith, e, c .if4 .left)))
+    ∙ track-accepted _ _ _ _ _ (s .before .before .before .if1 .left) (s .before .before .if2 .left) (s .before .if3 .left))
+    _ _ (s .list .ensures)
+
+pub sectors-of-spec : {M : Type 1} → statement M
+sectors-of-spec =
+    tie.close
+    (tie.spec
+    no-list-requires
+    returns
+    no-list-requires-2
+    returns-2
+    add-needed
+    no-list-requires-3
+    returns-3
+    list-requires
+    no-list-requires-4
+    returns-4
+    returns-5)
