@@ -1,8 +1,10 @@
 pub mod Bounds
 pub mod Few
+pub mod Lending
 pub mod Numbers
 pub mod Others
 pub mod Outcome
+pub mod Records
 pub mod Rows
 pub mod Runs
 pub mod Syncs
