@@ -70,9 +70,12 @@ start-few f n = omega (arith, least-high (runFrom f n (longestRun f n)) n 0)
 
 pub gaps-few : (f : ℕ → ℕ) (n : ℕ) (gaps : Gaps) → GapsOn f n gaps → n ≤ 131072
     → (gaps .first ≤ 131072) × (gaps .violations ≤ 131072) × (gaps .start ≤ 131072) × (gaps .longest ≤ 131072)
-gaps-few f n gaps on h =
-    (omega (arith, on .first, least-high (violation f n) n 0), omega (arith, on .violations, count-few (violation f n) n 0),
-    omega (arith, on .start, start-few f n), omega (arith, on .longest, run-few f n))
+gaps-few f n gaps on h = (
+  omega (arith, on .first, least-high (violation f n) n 0),
+  omega (arith, on .violations, count-few (violation f n) n 0),
+  omega (arith, on .start, start-few f n),
+  omega (arith, on .longest, run-few f n),
+)
 
 -- the syncs inside a sector
 pub inside-few : (f : ℕ → ℕ) (s : Sector) → Near s → syncsInside f s ≤ 20000

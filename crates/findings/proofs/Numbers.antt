@@ -45,7 +45,7 @@ module _ {before : List ℕ} {at : ℕ} where
         long = length-sets before (4 * at) four ∙ room .long;
         count = refl;
         front = rw (end, sets-eq four before (4 * at) inside)
-            (take-at (take (4 * at) before ++ four) (drop (4 * at + 4) before) (4 * at + 4) long)
+            (take-at (take (4 * at) before ++ four) (drop (4 * at + 4) before) (4 * at + 4) long);
       }
 
   -- some findings, and then more
@@ -55,7 +55,7 @@ module _ {before : List ℕ} {at : ℕ} where
         record {
           long = second .long;
           count = omega (arith, first .count, second .count, length-append xs ys);
-          front = second .front ∙ rw (first .front, numbers-append xs ys) (append-assoc (take (4 * at) before) (numbersOf xs) (numbersOf ys))
+          front = second .front ∙ rw (first .front, numbers-append xs ys) (append-assoc (take (4 * at) before) (numbersOf xs) (numbersOf ys));
         }
 
     pub room-then : (ys zs : List Finding) → length (xs ++ ys) ≤ length zs → Room before at zs → Room between mid ys

@@ -1,6 +1,6 @@
 -- The sectors that a struct keeps, and a search over them. Assumes nothing.
 use Prim.Native.Nat.{ℕ, _+_, _<_, _≤_}
-use mathlib.Core.Path.{_≡_, refl, sym, _∙_}
+use mathlib.Core.Path.{_≡_, sym, ap, _∙_}
 use mathlib.Core.Bool.{Bool, true, false}
 use mathlib.Core.List.{List, []}
 use native.Mathlib.Numerals.{add-one}
@@ -8,9 +8,9 @@ use native.Mathlib.Omega.{arith}
 use borrow.Author.Tests.{eq-eqb, ne-eqb}
 use lib.ListN.{length, getD, take, drop, drop-of-length-le}
 use lib.Seq.{length-take-le, getD-take, drop-cons}
-use Rattle.findings.specs.Findings.{nth, atLater}
+use Rattle.findings.specs.Findings.{nth, atSector, atLater}
 use Rattle.findings.specs.Inner.{Few, sectorsIn}
-use Rattle.findings.specs.Rules.{when, someSector, sameNumber}
+use Rattle.findings.specs.Rules.{Hit, when, someSector, sameNumber}
 use Rattle.sectors.specs.Sectors.{noSector}
 use Rattle.sectors.specs.declared.Sector.{Sector}
 use Rattle.sectors.specs.declared.Sectors.{Sectors}
@@ -21,6 +21,11 @@ module _ (ss : Sectors) where
 
   pub kept-sector : (i : ℕ) → i < ss .count → nth (sectorsIn ss) i ≡ getD (ss .all) i noSector
   kept-sector i h = getD-take (ss .count) (ss .all) i noSector h
+
+  -- what a rule finds at the sector that is read
+  pub at-kept : (rule : Sector → List Hit) (i : ℕ) → i < ss .count → (hits : List Hit) → hits ≡ rule (getD (ss .all) i noSector) → hits ≡ atSector rule (sectorsIn ss) i
+  unfolding atSector
+  at-kept rule i h hits e = e ∙ ap rule (sym (kept-sector i h))
 
 -- what is left of a search from sector j on decides it, since none before j passes
 module _ (test : Sector → Bool) (xs : List Sector) (j : ℕ) where

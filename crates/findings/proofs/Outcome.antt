@@ -13,6 +13,7 @@ use Rattle.cells.specs.CellsAndBytes.{cell, bytesFor}
 use Rattle.findings.specs.Calls.{findingsAnswer, written, numbersOf}
 use Rattle.findings.specs.Findings.{levels, found, ofKind, findingsOf}
 use Rattle.findings.specs.Inner.{kinds, most, sectorsIn, Added}
+use Rattle.findings.specs.declared.Finding.{Finding}
 use Rattle.findings.proofs.Bounds.{sectors-kept}
 use Rattle.findings.proofs.Few.{few-findings}
 use Rattle.findings.proofs.Numbers.{length-numbers}
@@ -27,7 +28,7 @@ module _ (bytes : List ℕ) (N T H : ℕ) where
   -- the findings are judged after the sectors
   pub findings-follow : (room : ℕ)
       → Follows (sectorsAnswer bytes N T H) (findingsAnswer bytes N T H room)
-          (cond (ltb room (length (findingsOf bytes N T))) (refused 5 (length (findingsOf bytes N T))) (gives (length (findingsOf bytes N T))))
+      (cond (ltb room (length (findingsOf bytes N T))) (refused 5 (length (findingsOf bytes N T))) (gives (length (findingsOf bytes N T))))
   unfolding sectorsAnswer findingsAnswer
   findings-follow room =
       follows-track _ _ _ (follows-count _ _ _ (follows-given (length (sectorsOf bytes N)) _) (length (sectorsOf bytes N))) bytes N T H
@@ -86,3 +87,45 @@ module _ (bytes : List ℕ) (N T H room : ℕ) where
         let is : count ≡ length fs = omega (arith, added .count) in
         let g : gives count ≡ findingsAnswer bytes N T H room = rw is (list-in-room bytes N T H m e room (omega arith)) in
         (g, (ap written g, (added .front ∙ ap numbersOf (sym (take-all count fs (omega arith))), (omega (arith, findings-few bytes N T few), h))))
+
+-- an answer gives k or refuses
+data Judged (k : ℕ) : Answer ℕ → Type 0 where
+  accepts : Judged k (gives k)
+  refuses : (number value : ℕ) → Judged k (refused number value)
+
+judged-cond : (k : ℕ) (b : Bool) (number value : ℕ) (x : Answer ℕ) → Judged k x → Judged k (cond b (refused number value) x)
+judged-cond k true number value x j = refuses number value
+judged-cond k false number value x j = j
+
+judged : (bytes : List ℕ) (N T H room : ℕ) → Judged (length (findingsOf bytes N T)) (findingsAnswer bytes N T H room)
+unfolding findingsAnswer trackJudged countJudged
+judged bytes N T H room =
+    let k = length (findingsOf bytes N T) in
+    judged-cond k (ltb 83 T || ltb 1 H) 1 0 _
+    (judged-cond k (ltb N 20000 || ltb 131072 N) 2 N _
+    (judged-cond k (ltb (length bytes) (bytesFor N)) 3 (bytesFor N) _
+    (judged-cond k (ltb 64 (length (sectorsOf bytes N))) 4 (length (sectorsOf bytes N)) _ (judged-cond k (ltb room k) 5 k (gives k) accepts))))
+
+-- as many numbers are there as are to be written, and writing them is what the call promises
+module _ (fs : List Finding) (numbers list : List ℕ) where
+  enough : (answer : Answer ℕ) → Judged (length fs) answer → (count : ℕ) → count ≡ written answer → take (4 * count) numbers ≡ numbersOf (take count fs)
+      → 4 * count ≤ length numbers
+  enough answer accepts count e front =
+      omega (arith, ap length front, length-take (4 * count) numbers, length-numbers (take count fs), length-take count fs)
+  enough answer (refuses number value) count e front = omega arith
+
+  after : (answer : Answer ℕ) → Judged (length fs) answer → (count : ℕ) → count ≡ written answer → take (4 * count) numbers ≡ numbersOf (take count fs)
+      → take (4 * count) numbers ++ drop (4 * count) list ≡ bufferAfter answer (numbersOf fs) list
+  unfolding bufferAfter
+  after answer accepts count e front =
+      let n : 4 * count ≡ length (numbersOf fs) = omega (arith, length-numbers fs) in
+      rw (front, take-all count fs (omega arith), n)
+  after answer (refuses number value) count e front = rw e
+
+module _ (bytes : List ℕ) (N T H room count : ℕ) (numbers : List ℕ) (e : count ≡ written (findingsAnswer bytes N T H room))
+    (front : take (4 * count) numbers ≡ numbersOf (take count (findingsOf bytes N T))) where
+  pub numbers-enough : 4 * count ≤ length numbers
+  numbers-enough = enough (findingsOf bytes N T) numbers numbers (findingsAnswer bytes N T H room) (judged bytes N T H room) count e front
+
+  pub numbers-written : (list : List ℕ) → take (4 * count) numbers ++ drop (4 * count) list ≡ bufferAfter (findingsAnswer bytes N T H room) (numbersOf (findingsOf bytes N T)) list
+  numbers-written list = after (findingsOf bytes N T) numbers list (findingsAnswer bytes N T H room) (judged bytes N T H room) count e front

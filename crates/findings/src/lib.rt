@@ -6,7 +6,7 @@ mod survey;
 
 use refusals::Refusal;
 use sectors::Listed;
-
+use survey::NUMBERS;
 ghost use mathlib.Core.Path.{_≡_};
 ghost use Prim.Native.Nat.{_+_, _*_, _/_, _%_, _<_, _≤_};
 ghost use mathlib.Core.List.{_++_};
@@ -35,7 +35,7 @@ pub fn findings_as_numbers(bytes: &[u8], n: usize, track: u32, side: u32, list: 
     ensures answer { λ r. ⌜ foundAnswer r ≡ findingsAnswer (now (bytes .entry)) n track side (length (now (list .entry)) / 4) ⌝ }
     ensures list { λ _. ⌜ now (list .exit) ≡ numbersAfter (now (bytes .entry)) n track side (now (list .entry)) ⌝ }
 {
-    let mut numbers: [u32; 3604] = [0; 3604];
+    let mut numbers: [u32; NUMBERS] = [0; NUMBERS];
     let room = list.len() / 4;
     let planned = plan(&mut numbers, bytes, n, track, side, room);
     copy(&numbers, 4 * planned.count, list);
@@ -51,7 +51,14 @@ struct Planned {
 
 // The findings as numbers, and the plan for a list with room for `room` findings. 3,604 numbers are enough: with 64 sectors there are at
 // most 901 findings.
-fn plan(numbers: &mut [u32; 3604], bytes: &[u8], n: usize, track: u32, side: u32, room: usize) -> Planned
+fn plan(
+    numbers: &mut [u32; NUMBERS],
+    bytes: &[u8],
+    n: usize,
+    track: u32,
+    side: u32,
+    room: usize,
+) -> Planned
     ensures answer { λ r. ⌜ foundAnswer (r .answer) ≡ findingsAnswer (now (bytes .entry)) n track side room ⌝ }
     ensures count { λ r. ⌜ r .count ≡ written (findingsAnswer (now (bytes .entry)) n track side room) ⌝ }
     ensures numbers { λ r. ⌜ take (4 * r .count) (now (numbers .exit)) ≡ numbersOf (take (r .count) (findingsOf (now (bytes .entry)) n track)) ⌝ }
@@ -61,19 +68,28 @@ fn plan(numbers: &mut [u32; 3604], bytes: &[u8], n: usize, track: u32, side: u32
     let ss = listed.sectors;
     let answer = listed.answer;
     match answer {
-        Listed::Refused(refusal) => Planned { count: 0, answer: Found::Refused(refusal) },
+        Listed::Refused(refusal) => Planned {
+            count: 0,
+            answer: Found::Refused(refusal),
+        },
         Listed::Count(_) => {
             let count = survey::survey(numbers, bytes, n, track, ss);
             if room < count {
-                return Planned { count: 0, answer: Found::Refused(Refusal::ListTooShort(count)) };
+                return Planned {
+                    count: 0,
+                    answer: Found::Refused(Refusal::ListTooShort(count)),
+                };
             }
-            Planned { count, answer: Found::Count(count) }
+            Planned {
+                count,
+                answer: Found::Count(count),
+            }
         }
     }
 }
 
 // Finding i of those that stand in the numbers.
-fn finding_at(numbers: &[u32; 3604], i: usize) -> Finding
+fn finding_at(numbers: &[u32; NUMBERS], i: usize) -> Finding
     requires { ⌜ 4 * i + 3 < 3604 ⌝ }
     ensures { λ r. ⌜ r ≡ findingAt (now (numbers .entry)) i ⌝ }
 {
@@ -81,11 +97,16 @@ fn finding_at(numbers: &[u32; 3604], i: usize) -> Finding
     let level = low(numbers[4 * i + 1]);
     let place = numbers[4 * i + 2];
     let detail = numbers[4 * i + 3];
-    Finding { kind, level, place, detail }
+    Finding {
+        kind,
+        level,
+        place,
+        detail,
+    }
 }
 
 // Copies the first `end` numbers to the front of the list.
-fn copy(numbers: &[u32; 3604], end: usize, list: &mut [u32])
+fn copy(numbers: &[u32; NUMBERS], end: usize, list: &mut [u32])
     requires { ⌜ (end ≤ 3604) × (end ≤ length (now numbers)) × (end ≤ length (now list)) ⌝ }
     ensures { λ _. ⌜ now (list .exit) ≡ take end (now (numbers .entry)) ++ drop end (now (list .entry)) ⌝ }
 {

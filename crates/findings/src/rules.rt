@@ -1,8 +1,8 @@
 // The rules of 01's table of findings on the track's numbers, on one sector's record, and on one record beside the others. A kind is
 // given by its place in its group, from 0.
-use sectors::{Sector, Sectors};
 use crate::cell_rules::Gaps;
-
+use sectors::Sector;
+use sectors::Sectors;
 ghost use mathlib.Core.Path.{_≡_};
 ghost use mathlib.Core.List.{List, []};
 ghost use Prim.Native.Nat.{_-_, _<_, _≤_};
@@ -70,15 +70,35 @@ pub fn track_rule(k: usize, n: u32, sectors: u32, track: u32) -> Seen
 {
     match k {
         // LGT
-        0 => Seen { hit: MOST_USUAL_CELLS < n, place: 0, detail: n },
+        0 => Seen {
+            hit: MOST_USUAL_CELLS < n,
+            place: 0,
+            detail: n,
+        },
         // SHT
-        1 => Seen { hit: n < FEWEST_USUAL_CELLS, place: 0, detail: n },
+        1 => Seen {
+            hit: n < FEWEST_USUAL_CELLS,
+            place: 0,
+            detail: n,
+        },
         // NOS
-        2 => Seen { hit: (sectors < FEWEST_USUAL_SECTORS) | (MOST_USUAL_SECTORS < sectors), place: 0, detail: sectors },
+        2 => Seen {
+            hit: (sectors < FEWEST_USUAL_SECTORS) | (MOST_USUAL_SECTORS < sectors),
+            place: 0,
+            detail: sectors,
+        },
         // TNF
-        3 => Seen { hit: (sectors == 0) & (track <= LAST_USUAL_TRACK), place: 0, detail: 0 },
+        3 => Seen {
+            hit: (sectors == 0) & (track <= LAST_USUAL_TRACK),
+            place: 0,
+            detail: 0,
+        },
         // EXT
-        4 => Seen { hit: (0 < sectors) & (FIRST_EXTRA_TRACK <= track), place: 0, detail: sectors },
+        4 => Seen {
+            hit: (0 < sectors) & (FIRST_EXTRA_TRACK <= track),
+            place: 0,
+            detail: sectors,
+        },
         _ => nothing(),
     }
 }
@@ -89,17 +109,43 @@ pub fn id_rule(k: usize, track: u32, s: Sector) -> Seen
 {
     match k {
         // ISN
-        0 => Seen { hit: (FIRST_INVALID_NUMBER <= s.number) & (s.number <= LAST_INVALID_NUMBER), place: s.place, detail: s.number as u32 },
+        0 => Seen {
+            hit: (FIRST_INVALID_NUMBER <= s.number) & (s.number <= LAST_INVALID_NUMBER),
+            place: s.place,
+            detail: s.number as u32,
+        },
         // ITN
-        1 => Seen { hit: (s.track as u32) != track, place: s.place, detail: s.track as u32 },
+        1 => Seen {
+            hit: (s.track as u32) != track,
+            place: s.place,
+            detail: s.track as u32,
+        },
         // IIF
-        2 => Seen { hit: (LAST_ID_TRACK < s.track) | ((LAST_ID_SIDE < s.side) | (LAST_SIZE_CODE < s.size_code)), place: s.place, detail: s.side as u32 },
+        2 => Seen {
+            hit: (LAST_ID_TRACK < s.track)
+                | ((LAST_ID_SIDE < s.side) | (LAST_SIZE_CODE < s.size_code)),
+            place: s.place,
+            detail: s.side as u32,
+        },
         // SSZ
-        3 => Seen { hit: (s.size_code != CODE_OF_512) & (s.size_code != CODE_OF_1024), place: s.place, detail: s.size_code as u32 },
+        3 => Seen {
+            hit: (s.size_code != CODE_OF_512) & (s.size_code != CODE_OF_1024),
+            place: s.place,
+            detail: s.size_code as u32,
+        },
         // NSI
-        4 => Seen { hit: s.mark != ID_MARK, place: s.place, detail: s.mark as u32 },
+        4 => Seen {
+            hit: s.mark != ID_MARK,
+            place: s.place,
+            detail: s.mark as u32,
+        },
         // NSD
-        5 => Seen { hit: (s.data_mark != 0) & ((s.data_mark != DELETED_DATA_MARK) & (s.data_mark != DATA_MARK)), place: s.place, detail: s.data_mark as u32 },
+        5 => Seen {
+            hit: (s.data_mark != 0)
+                & ((s.data_mark != DELETED_DATA_MARK) & (s.data_mark != DATA_MARK)),
+            place: s.place,
+            detail: s.data_mark as u32,
+        },
         _ => nothing(),
     }
 }
@@ -111,15 +157,35 @@ pub(crate) fn data_rule(k: usize, n: usize, s: Sector) -> Seen
 {
     match k {
         // SBI
-        0 => Seen { hit: !s.id_check_good, place: s.place, detail: s.number as u32 },
+        0 => Seen {
+            hit: !s.id_check_good,
+            place: s.place,
+            detail: s.number as u32,
+        },
         // SND
-        1 => Seen { hit: s.id_check_good & !(s.data_mark != 0), place: s.place, detail: s.number as u32 },
+        1 => Seen {
+            hit: s.id_check_good & (s.data_mark == 0),
+            place: s.place,
+            detail: s.number as u32,
+        },
         // SBD
-        2 => Seen { hit: (0 < s.data_length) & !s.data_check_good, place: s.place, detail: s.number as u32 },
+        2 => Seen {
+            hit: (0 < s.data_length) & !s.data_check_good,
+            place: s.place,
+            detail: s.number as u32,
+        },
         // DOI
-        3 => Seen { hit: (0 < s.data_length) & (((s.data_place as usize) < n) & (n < data_end(s))), place: s.place, detail: less(data_end(s), n) as u32 },
+        3 => Seen {
+            hit: (0 < s.data_length) & (((s.data_place as usize) < n) & (n < data_end(s))),
+            place: s.place,
+            detail: less(data_end(s), n) as u32,
+        },
         // DBI
-        4 => Seen { hit: (s.data_mark != 0) & (n <= (s.data_place as usize)), place: s.place, detail: less(s.data_place as usize, n) as u32 },
+        4 => Seen {
+            hit: (s.data_mark != 0) & (n <= (s.data_place as usize)),
+            place: s.place,
+            detail: less(s.data_place as usize, n) as u32,
+        },
         _ => nothing(),
     }
 }
@@ -148,9 +214,17 @@ pub(crate) fn gap_rule(k: usize, gaps: Gaps) -> Seen
 {
     match k {
         // MTV
-        0 => Seen { hit: 0 < gaps.violations, place: gaps.first as u32, detail: gaps.violations as u32 },
+        0 => Seen {
+            hit: 0 < gaps.violations,
+            place: gaps.first as u32,
+            detail: gaps.violations as u32,
+        },
         // NFA
-        1 => Seen { hit: LONG_RUN <= gaps.longest, place: gaps.start as u32, detail: gaps.longest as u32 },
+        1 => Seen {
+            hit: LONG_RUN <= gaps.longest,
+            place: gaps.start as u32,
+            detail: gaps.longest as u32,
+        },
         _ => nothing(),
     }
 }
@@ -181,7 +255,11 @@ fn data_end(s: Sector) -> usize
 fn nothing() -> Seen
     ensures { λ r. ⌜ hitsOf r ≡ [] ⌝ }
 {
-    Seen { hit: false, place: 0, detail: 0 }
+    Seen {
+        hit: false,
+        place: 0,
+        detail: 0,
+    }
 }
 
 // How much more a is than b, 0 where it is less.

@@ -1,10 +1,10 @@
 // The findings of a track as numbers, put one after the other into a list, kind by kind. A kind is given by its index, from 0.
-use sectors::{Sector, Sectors};
 use crate::cell_rules;
 use crate::cell_rules::Gaps;
 use crate::rules;
 use crate::rules::Seen;
-
+use sectors::Sector;
+use sectors::Sectors;
 ghost use mathlib.Core.Path.{_≡_};
 ghost use mathlib.Core.List.{List, [], map};
 ghost use Prim.Native.Nat.{_+_, _-_, _*_, _<_, _≤_};
@@ -14,10 +14,35 @@ ghost use Rattle.cells.specs.CellsAndBytes.{cell};
 ghost use Rattle.findings.specs.Findings.{levels, atLater, each, found, findingOf, ofKind};
 ghost use Rattle.findings.specs.Inner.{hitsOf, kinds, most, gapRules, sectorRule, Near, Few, On, GapsOn, sectorsIn, Added, Room};
 
+// The numbers of the most findings that there can be, four for each: with 64 sectors there are at most 901.
+pub(crate) const NUMBERS: usize = 3604;
+
 // How many kinds there are, and the level of each, from kind 1 on.
 const KINDS: usize = 21;
 
-const LEVELS: [u8; 21] = [1, 1, 3, 2, 2, 1, 1, 2, 2, 2, 2, 2, 1, 1, 1, 1, 1, 1, 3, 3, 1];
+const LEVELS: [u8; 21] = [
+    1,
+    1,
+    3,
+    2,
+    2,
+    1,
+    1,
+    2,
+    2,
+    2,
+    2,
+    2,
+    1,
+    1,
+    1,
+    1,
+    1,
+    1,
+    3,
+    3,
+    1,
+];
 
 // The index of the kind that looks for duplicated numbers, that of the first of the kinds after it, which look at each sector by itself,
 // and that of the first of those after these, which look at the whole track again.
@@ -27,13 +52,19 @@ const SECTOR_KINDS: usize = 6;
 
 const GAP_KINDS: usize = 19;
 
-// Where in the group of kinds on sectors the rules on data start, where they end, and where the last kind stands.
+// Among the kinds on each sector by itself: the first of those on checks and data, and the one after these, SWS.
 const DATA_RULES: usize = 6;
 
 const OVERWRITTEN: usize = 11;
 
 // All findings of a track of n cells with the sectors ss; how many there are.
-pub(crate) fn survey(numbers: &mut [u32; 3604], bytes: &[u8], n: usize, track: u32, ss: Sectors) -> usize
+pub(crate) fn survey(
+    numbers: &mut [u32; NUMBERS],
+    bytes: &[u8],
+    n: usize,
+    track: u32,
+    ss: Sectors,
+) -> usize
     requires { ⌜ On n ss ⌝ }
     ensures { λ r. ⌜ Added [] 0 (joined (ofKind (found (cell (now (bytes .entry)) n) n track (sectorsIn ss))) kinds) (now (numbers .exit)) r ⌝ }
 {
@@ -49,14 +80,28 @@ pub(crate) fn survey(numbers: &mut [u32; 3604], bytes: &[u8], n: usize, track: u
 }
 
 // The findings of one kind.
-fn one_kind(numbers: &mut [u32; 3604], bytes: &[u8], n: usize, track: u32, ss: Sectors, gaps: Gaps, k: usize, at: usize) -> usize
+fn one_kind(
+    numbers: &mut [u32; NUMBERS],
+    bytes: &[u8],
+    n: usize,
+    track: u32,
+    ss: Sectors,
+    gaps: Gaps,
+    k: usize,
+    at: usize,
+) -> usize
     requires { ⌜ On n ss ⌝ }
     requires { ⌜ GapsOn (cell (now bytes) n) n gaps ⌝ }
     requires { ⌜ (k < kinds) × Room (now numbers) at (ofKind (found (cell (now bytes) n) n track (sectorsIn ss)) k) ⌝ }
     ensures { λ r. ⌜ Added (now (numbers .entry)) at (ofKind (found (cell (now (bytes .entry)) n) n track (sectorsIn ss)) k) (now (numbers .exit)) r ⌝ }
 {
     if k < DUPLICATES {
-        return put(numbers, at, k, rules::track_rule(k, n as u32, ss.count as u32, track));
+        return put(
+            numbers,
+            at,
+            k,
+            rules::track_rule(k, n as u32, ss.count as u32, track),
+        );
     }
     if k == DUPLICATES {
         return duplicates(numbers, ss, at);
@@ -68,7 +113,7 @@ fn one_kind(numbers: &mut [u32; 3604], bytes: &[u8], n: usize, track: u32, ss: S
 }
 
 // DSN: nested loops over the pairs of sectors, left by label at the first earlier sector with the same number.
-fn duplicates(numbers: &mut [u32; 3604], ss: Sectors, at: usize) -> usize
+fn duplicates(numbers: &mut [u32; NUMBERS], ss: Sectors, at: usize) -> usize
     requires { ⌜ Few ss × Room (now numbers) at (map (findingOf 5) (joined (atLater (sectorsIn ss)) (length (sectorsIn ss)))) ⌝ }
     ensures { λ r. ⌜ Added (now (numbers .entry)) at (map (findingOf 5) (joined (atLater (sectorsIn ss)) (length (sectorsIn ss)))) (now (numbers .exit)) r ⌝ }
 {
@@ -81,7 +126,16 @@ fn duplicates(numbers: &mut [u32; 3604], ss: Sectors, at: usize) -> usize
         while j < i {
             let earlier = ss.all[j];
             if earlier.number == s.number {
-                to = put(numbers, to, DUPLICATES, Seen { hit: true, place: s.place, detail: s.number as u32 });
+                to = put(
+                    numbers,
+                    to,
+                    DUPLICATES,
+                    Seen {
+                        hit: true,
+                        place: s.place,
+                        detail: s.number as u32,
+                    },
+                );
                 i += 1;
                 continue 'sectors;
             }
@@ -93,7 +147,15 @@ fn duplicates(numbers: &mut [u32; 3604], ss: Sectors, at: usize) -> usize
 }
 
 // A kind on each sector by itself: kinds 7 to 19.
-fn each_sector(numbers: &mut [u32; 3604], bytes: &[u8], n: usize, track: u32, ss: Sectors, k: usize, at: usize) -> usize
+fn each_sector(
+    numbers: &mut [u32; NUMBERS],
+    bytes: &[u8],
+    n: usize,
+    track: u32,
+    ss: Sectors,
+    k: usize,
+    at: usize,
+) -> usize
     requires { ⌜ On n ss ⌝ }
     requires { ⌜ (6 ≤ k) × (k < 19) × Room (now numbers) at (map (findingOf k) (each (sectorRule (cell (now bytes) n) n track (sectorsIn ss) (k - 6)) (sectorsIn ss))) ⌝ }
     ensures { λ r. ⌜ Added (now (numbers .entry)) at (map (findingOf k) (each (sectorRule (cell (now (bytes .entry)) n) n track (sectorsIn ss) (k - 6)) (sectorsIn ss))) (now (numbers .exit)) r ⌝ }
@@ -103,7 +165,12 @@ fn each_sector(numbers: &mut [u32; 3604], bytes: &[u8], n: usize, track: u32, ss
     let mut i: usize = 0;
     while i < count {
         let s = ss.all[i];
-        to = put(numbers, to, k, sector_rule(bytes, n, track, ss, k - SECTOR_KINDS, s));
+        to = put(
+            numbers,
+            to,
+            k,
+            sector_rule(bytes, n, track, ss, k - SECTOR_KINDS, s),
+        );
         i += 1;
     }
     to
@@ -121,14 +188,22 @@ fn sector_rule(bytes: &[u8], n: usize, track: u32, ss: Sectors, k: usize, s: Sec
         return rules::data_rule(k - DATA_RULES, n, s);
     }
     if k == OVERWRITTEN {
-        return Seen { hit: rules::overwritten(n, ss, s), place: s.place, detail: s.number as u32 };
+        return Seen {
+            hit: rules::overwritten(n, ss, s),
+            place: s.place,
+            detail: s.number as u32,
+        };
     }
     let syncs = cell_rules::syncs_inside(bytes, n, s);
-    Seen { hit: 0 < syncs, place: s.place, detail: syncs as u32 }
+    Seen {
+        hit: 0 < syncs,
+        place: s.place,
+        detail: syncs as u32,
+    }
 }
 
 // What a rule saw, put after the `at` findings that are in the list; how many there are then.
-fn put(numbers: &mut [u32; 3604], at: usize, k: usize, seen: Seen) -> usize
+fn put(numbers: &mut [u32; NUMBERS], at: usize, k: usize, seen: Seen) -> usize
     requires { ⌜ (k < kinds) × Room (now numbers) at (map (findingOf k) (hitsOf seen)) ⌝ }
     ensures { λ r. ⌜ Added (now (numbers .entry)) at (map (findingOf k) (hitsOf seen)) (now (numbers .exit)) r ⌝ }
 {
@@ -145,10 +220,10 @@ fn put(numbers: &mut [u32; 3604], at: usize, k: usize, seen: Seen) -> usize
 }
 
 // The list before the first finding: what it held is not read.
-fn clear(numbers: &mut [u32; 3604])
+fn clear(numbers: &mut [u32; NUMBERS])
     ensures { λ _. ⌜ length (now (numbers .exit)) ≡ 4 * most ⌝ }
 {
-    *numbers = [0; 3604];
+    *numbers = [0; NUMBERS];
 }
 
 // The level of a kind.

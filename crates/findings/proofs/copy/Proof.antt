@@ -8,8 +8,6 @@ use lib.ListN.{length, take, drop, length-set}
 use Rattle.findings.proofs.Numbers.{copied-more}
 use Rattle.findings.proofs.copy.Statement.{statement}
 use Rattle.findings.proofs.copy.Tie as tie
-use Rattle.findings.proofs.copy.Reads as reads
-use Rattle.findings.proofs.copy.Lts as lts
 
 abbrev Inv-loop : tie.InvT-loop
 Inv-loop numbers end list₀ i₀ list i = (i ≤ end) × (length list ≡ length list₀) × (list ≡ take i numbers ++ drop i list₀)
@@ -39,7 +37,7 @@ loop-less : tie.Need-loop-less Inv-loop μ-loop
 loop-less c = omega arith
 
 loop-again : tie.Need-loop-again Inv-loop μ-loop
-loop-again c = 
+loop-again c =
     let a = c .before .before .before in
     let l = c .before .before .loop in
     (omega arith, length-set (l .list) (l .i) _ ∙ l .inv .1, copied-more (now (a .args .numbers)) (now (a .args .list)) (l .list) (l .i) (omega (arith, a .pre .1)) (omega (arith, a .pre .2)) (l .inv .2))
@@ -48,7 +46,7 @@ same-length : tie.Need-same-length Inv-loop μ-loop
 same-length c = c .before .loop .inv .1
 
 returns : tie.Need-returns Inv-loop μ-loop
-returns c = 
+returns c =
     let e : c .before .loop .i ≡ c .before .before .args .end = omega arith in
     rw e at (c .before .loop .inv .2)
 

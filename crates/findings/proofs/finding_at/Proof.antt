@@ -3,9 +3,6 @@ use Rattle.findings.specs.Inner.{findingAt}
 use borrow.Author.Needs.{needs}
 use Rattle.findings.proofs.finding_at.Statement.{statement}
 use Rattle.findings.proofs.finding_at.Tie as tie
-use Rattle.findings.proofs.finding_at.Reads as reads
-use Rattle.findings.proofs.finding_at.Lts as lts
-use Rattle.findings.proofs.low.Reads as low-reads
 
 mul-low : tie.Need-mul-low
 mul-low c = search needs

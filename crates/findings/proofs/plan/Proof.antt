@@ -15,10 +15,6 @@ use Rattle.sectors.proofs.Calls.{list-accepted, listed-sectors}
 use borrow.Author.Needs.{needs}
 use Rattle.findings.proofs.plan.Statement.{statement}
 use Rattle.findings.proofs.plan.Tie as tie
-use Rattle.findings.proofs.plan.Reads as reads
-use Rattle.findings.proofs.plan.Lts as lts
-use Rattle.findings.proofs.survey.survey.Reads as survey-reads
-use Rattle.sectors.proofs.sectors_of.Reads as sectors-of-reads
 
 -- in the second arm the list of sectors was accepted, with this number of sectors
 abbrev count : tie.After-enum-told → ℕ
@@ -48,27 +44,27 @@ enum-told : tie.Need-enum-told
 enum-told c = search needs
 
 survey-requires : tie.Need-survey-requires
-survey-requires c κs = 
+survey-requires c κs =
     let k = c .before in
     let a = k .before .before .before .before .before .args in
     sectors-on (now (a .bytes)) (a .n) (k .before .before .before .sectors-of .result .sectors) (are k) (few k) (cells-accepted (now (a .bytes)) (a .n) (a .track) (a .side) (count k) (accepted k))
 
 returns : tie.Need-returns
-returns c = 
+returns c =
     let k = c .before .before .before in
     let a = k .before .before .before .before .before .args in
     let added = surveyed (now (a .bytes)) (a .n) (a .track) (k .before .before .before .sectors-of .result .sectors) (are k) (few k) (c .before .survey .last .0) (c .before .survey .result) (c .before .survey .ensures) in
     plan-too-short (now (a .bytes)) (a .n) (a .track) (a .side) (a .room) (count k) (accepted k) (few k) (c .before .survey .last .0) (c .before .survey .result) added (c .if1 .taken)
 
 returns-2 : tie.Need-returns-2
-returns-2 c = 
+returns-2 c =
     let a = c .before .before .before .before .before .before .args in
     let v = c .before .answer .given in
     let g = sym (ap listedAnswer (v .1)) ∙ c .before .before .before .before .sectors-of .ensures .0 in
     plan-refused (now (a .bytes)) (a .n) (a .track) (a .side) (a .room) (numberOf (v .0 .0)) (valueOf (v .0 .0)) (sym (findings-follow (now (a .bytes)) (a .n) (a .track) (a .side) (a .room) .refusals _ _ (sym g)))
 
 returns-3 : tie.Need-returns-3
-returns-3 c = 
+returns-3 c =
     let k = c .before .before .before in
     let a = k .before .before .before .before .before .args in
     let added = surveyed (now (a .bytes)) (a .n) (a .track) (k .before .before .before .sectors-of .result .sectors) (are k) (few k) (c .before .survey .last .0) (c .before .survey .result) (c .before .survey .ensures) in

@@ -3,26 +3,22 @@ use mathlib.Core.Path.{_∙_}
 use native.Mathlib.Omega.{arith}
 use Rattle.findings.specs.Inner.{dataRules}
 use Rattle.findings.proofs.Rows.{no-row}
+use mathlib.Core.Bool.{Bool·not-not}
 use borrow.Author.Needs.{needs}
 use Rattle.findings.proofs.rules.data_rule.Statement.{statement}
 use Rattle.findings.proofs.rules.data_rule.Tie as tie
-use Rattle.findings.proofs.rules.data_rule.Reads as reads
-use Rattle.findings.proofs.rules.data_rule.Lts as lts
-use Rattle.findings.proofs.rules.data_end.Reads as data-end-reads
-use Rattle.findings.proofs.rules.less.Reads as less-reads
-use Rattle.findings.proofs.rules.nothing.Reads as nothing-reads
 
 cast-t6 : tie.Need-cast-t6
 cast-t6 c = search needs
 
-cast-t10 : tie.Need-cast-t10
-cast-t10 c = search needs
+cast-t9 : tie.Need-cast-t9
+cast-t9 c = search needs
 
-cast-t14 : tie.Need-cast-t14
-cast-t14 c = search needs
+cast-t13 : tie.Need-cast-t13
+cast-t13 c = search needs
 
-cast-t16 : tie.Need-cast-t16
-cast-t16 c = search needs
+cast-t15 : tie.Need-cast-t15
+cast-t15 c = search needs
 
 data-end-requires : tie.Need-data-end-requires
 data-end-requires c κs = search needs
@@ -33,11 +29,11 @@ data-end-requires-2 c κs = search needs
 less-requires : tie.Need-less-requires
 less-requires c κs = search needs
 
-cast-t24 : tie.Need-cast-t24
-cast-t24 c = search needs
+cast-t23 : tie.Need-cast-t23
+cast-t23 c = search needs
 
-cast-t26 : tie.Need-cast-t26
-cast-t26 c = search needs
+cast-t25 : tie.Need-cast-t25
+cast-t25 c = search needs
 
 cast-less : tie.Need-cast-less
 cast-less c = search needs
@@ -45,8 +41,8 @@ cast-less c = search needs
 less-requires-2 : tie.Need-less-requires-2
 less-requires-2 c κs = search needs
 
-cast-t31 : tie.Need-cast-t31
-cast-t31 c = search needs
+cast-t30 : tie.Need-cast-t30
+cast-t30 c = search needs
 
 nothing-requires : tie.Need-nothing-requires
 nothing-requires c κs = search needs
@@ -57,7 +53,7 @@ returns c = rw (c .before .before .match .keys1)
 
 returns-2 : tie.Need-returns-2
 unfolding dataRules
-returns-2 c = rw (c .before .before .before .match .keys2)
+returns-2 c = rw (c .before .before .before .match .keys2, Bool·not-not)
 
 returns-3 : tie.Need-returns-3
 unfolding dataRules
@@ -80,17 +76,17 @@ data-rule-spec =
     tie.close
     (tie.spec
     cast-t6
-    cast-t10
-    cast-t14
-    cast-t16
+    cast-t9
+    cast-t13
+    cast-t15
     data-end-requires
     data-end-requires-2
     less-requires
-    cast-t24
-    cast-t26
+    cast-t23
+    cast-t25
     cast-less
     less-requires-2
-    cast-t31
+    cast-t30
     nothing-requires
     returns
     returns-2

@@ -6,9 +6,6 @@ use Rattle.findings.proofs.Rows.{no-row}
 use borrow.Author.Needs.{needs}
 use Rattle.findings.proofs.rules.gap_rule.Statement.{statement}
 use Rattle.findings.proofs.rules.gap_rule.Tie as tie
-use Rattle.findings.proofs.rules.gap_rule.Reads as reads
-use Rattle.findings.proofs.rules.gap_rule.Lts as lts
-use Rattle.findings.proofs.rules.nothing.Reads as nothing-reads
 
 cast-t5 : tie.Need-cast-t5
 cast-t5 c = search needs

@@ -6,9 +6,6 @@ use Rattle.findings.proofs.Rows.{no-row}
 use borrow.Author.Needs.{needs}
 use Rattle.findings.proofs.rules.id_rule.Statement.{statement}
 use Rattle.findings.proofs.rules.id_rule.Tie as tie
-use Rattle.findings.proofs.rules.id_rule.Reads as reads
-use Rattle.findings.proofs.rules.id_rule.Lts as lts
-use Rattle.findings.proofs.rules.nothing.Reads as nothing-reads
 
 cast-t8 : tie.Need-cast-t8
 cast-t8 c = search needs

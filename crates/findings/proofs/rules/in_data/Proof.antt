@@ -3,9 +3,6 @@ use Rattle.findings.specs.Rules.{inData}
 use borrow.Author.Needs.{needs}
 use Rattle.findings.proofs.rules.in_data.Statement.{statement}
 use Rattle.findings.proofs.rules.in_data.Tie as tie
-use Rattle.findings.proofs.rules.in_data.Reads as reads
-use Rattle.findings.proofs.rules.in_data.Lts as lts
-use Rattle.findings.proofs.rules.lies.Reads as lies-reads
 
 cast-place : tie.Need-cast-place
 cast-place c = search needs

@@ -2,9 +2,6 @@
 use borrow.Author.Needs.{needs}
 use Rattle.findings.proofs.rules.lies.Statement.{statement}
 use Rattle.findings.proofs.rules.lies.Tie as tie
-use Rattle.findings.proofs.rules.lies.Reads as reads
-use Rattle.findings.proofs.rules.lies.Lts as lts
-use Rattle.findings.proofs.rules.data_end.Reads as data-end-reads
 
 cast-result : tie.Need-cast-result
 cast-result c = search needs

@@ -8,9 +8,6 @@ use Rattle.findings.specs.Inner.{sectorsIn}
 use Rattle.findings.proofs.Others.{length-kept, kept-sector, some-here, some-on, some-none}
 use Rattle.findings.proofs.rules.overwritten.Statement.{statement}
 use Rattle.findings.proofs.rules.overwritten.Tie as tie
-use Rattle.findings.proofs.rules.overwritten.Reads as reads
-use Rattle.findings.proofs.rules.overwritten.Lts as lts
-use Rattle.findings.proofs.rules.in_data.Reads as in-data-reads
 
 abbrev Inv-loop : tie.InvT-loop
 Inv-loop n s ss count j₀ j = (j ≤ count) × (someSector (inData n s) (drop j (sectorsIn ss)) ≡ someSector (inData n s) (sectorsIn ss))
@@ -31,7 +28,7 @@ in-data-requires : tie.Need-in-data-requires Inv-loop μ-loop
 in-data-requires c κs = c .before .before .before .pre .1
 
 returns : tie.Need-returns Inv-loop μ-loop
-returns c = 
+returns c =
     let a = c .before .before .before .before .before in
     let j = c .before .before .before .before .loop .j in
     let below : j < a .args .t2 .count = c .before .before .before .loop-test .taken in
@@ -46,7 +43,7 @@ loop-less : tie.Need-loop-less Inv-loop μ-loop
 loop-less c = omega arith
 
 loop-again : tie.Need-loop-again Inv-loop μ-loop
-loop-again c = 
+loop-again c =
     let a = c .before .before .before .before .before in
     let j = c .before .before .before .before .loop .j in
     let below : j < a .args .t2 .count = c .before .before .before .loop-test .taken in
@@ -55,7 +52,7 @@ loop-again c =
     (omega arith, some-on (inData (a .args .n) (a .args .s)) (sectorsIn (a .args .t2)) j inside e (c .before .before .before .before .loop .inv .1))
 
 returns-2 : tie.Need-returns-2 Inv-loop μ-loop
-returns-2 c = 
+returns-2 c =
     let a = c .before .before in
     let j = c .before .loop .j in
     let past : length (sectorsIn (a .args .t2)) ≤ j = omega (arith, length-kept (a .args .t2) (a .pre .0)) in

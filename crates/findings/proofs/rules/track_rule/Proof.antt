@@ -6,9 +6,6 @@ use Rattle.findings.proofs.Rows.{no-row}
 use borrow.Author.Needs.{needs}
 use Rattle.findings.proofs.rules.track_rule.Statement.{statement}
 use Rattle.findings.proofs.rules.track_rule.Tie as tie
-use Rattle.findings.proofs.rules.track_rule.Reads as reads
-use Rattle.findings.proofs.rules.track_rule.Lts as lts
-use Rattle.findings.proofs.rules.nothing.Reads as nothing-reads
 
 nothing-requires : tie.Need-nothing-requires
 nothing-requires c κs = search needs

@@ -12,9 +12,6 @@ use Rattle.findings.proofs.Others.{NoneBefore, length-kept, twice-at, o
 use borrow.Author.Needs.{needs}
 use Rattle.findings.proofs.survey.duplicates.Statement.{statement}
 use Rattle.findings.proofs.survey.duplicates.Tie as tie
-use Rattle.findings.proofs.survey.duplicates.Reads as reads
-use Rattle.findings.proofs.survey.duplicates.Lts as lts
-use Rattle.findings.proofs.survey.put.Reads as put-reads
 
 abbrev Inv-loop : tie.InvT-loop
 Inv-loop numbers₀ at ss count to₀ i₀ s j₀ numbers to i j = (numbers ≡ numbers₀) × (to ≡ to₀) × (i ≡ i₀) × (j ≤ i₀) × NoneBefore ss i₀ j
@@ -50,7 +47,7 @@ cast-t22 : tie.Need-cast-t22 Inv-loop μ-loop Inv-sectors μ-sectors
 cast-t22 c = search needs
 
 put-requires : tie.Need-put-requires Inv-loop μ-loop Inv-sectors μ-sectors
-put-requires c κs = 
+put-requires c κs =
     let a = c .before .before .before .before .before .before .before .before .before .before .before in
     let l = c .before .before .before .before .before .before .before .loop in
     let s = c .before .before .before .before .before .before .before .before .before .before .sectors in
@@ -67,7 +64,7 @@ sectors-less : tie.Need-sectors-less Inv-loop μ-loop Inv-sectors μ-sectors
 sectors-less c = omega (arith, c .before .before .before .before .before .before .before .before .loop .inv .2, c .before .before .before .before .before .before .before .before .before .before .sectors-test .taken)
 
 sectors-again : tie.Need-sectors-again Inv-loop μ-loop Inv-sectors μ-sectors
-sectors-again c = 
+sectors-again c =
     let a = c .before .before .before .before .before .before .before .before .before .before .before .before in
     let l = c .before .before .before .before .before .before .before .before .loop in
     let s = c .before .before .before .before .before .before .before .before .before .before .before .sectors in
@@ -83,7 +80,7 @@ loop-less : tie.Need-loop-less Inv-loop μ-loop Inv-sectors μ-sectors
 loop-less c = omega (arith, c .before .before .before .before .loop-test .taken)
 
 loop-again : tie.Need-loop-again Inv-loop μ-loop Inv-sectors μ-sectors
-loop-again c = 
+loop-again c =
     let a = c .before .before .before .before .before .before .before .before .before in
     let l = c .before .before .before .before .before .loop in
     let s = c .before .before .before .before .before .before .before .before .sectors in
@@ -97,7 +94,7 @@ sectors-less-2 : tie.Need-sectors-less-2 Inv-loop μ-loop Inv-sectors μ-sectors
 sectors-less-2 c = omega (arith, c .before .loop .inv .2, c .before .before .before .sectors-test .taken)
 
 sectors-again-2 : tie.Need-sectors-again-2 Inv-loop μ-loop Inv-sectors μ-sectors
-sectors-again-2 c = 
+sectors-again-2 c =
     let a = c .before .before .before .before .before in
     let l = c .before .loop in
     let s = c .before .before .before .before .sectors in
@@ -109,7 +106,7 @@ sectors-again-2 c =
     (omega (arith, l .inv .2), rw (l .inv .2) (joined-next (findingOf 5) (atLater (sectorsIn (a .args .t2))) (s .i) (s .inv .1) (rw (l .inv .0, l .inv .1) (added-same refl refl (ap (map (findingOf 5)) once) (added-none _ room)))))
 
 returns : tie.Need-returns Inv-loop μ-loop Inv-sectors μ-sectors
-returns c = 
+returns c =
     let a = c .before .before in
     let e : c .before .sectors .i ≡ length (sectorsIn (a .args .t2)) = omega (arith, length-kept (a .args .t2) (a .pre .0)) in
     rw e at (c .before .sectors .inv .1)

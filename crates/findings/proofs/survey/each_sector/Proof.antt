@@ -1,6 +1,6 @@
 -- `findings::survey::each_sector` meets its contract: the findings at the sectors before i, one after the other. Assumes nothing.
 use Prim.Native.Nat.{ℕ, _-_, _<_, _≤_}
-use mathlib.Core.Path.{_≡_, ap, sym, _∙_}
+use mathlib.Core.Path.{_≡_}
 use mathlib.Core.List.{List, map}
 use native.Mathlib.Omega.{arith}
 use denote.Ref.{now}
@@ -11,14 +11,10 @@ use Rattle.findings.specs.Findings.{atSector, findingOf}
 use Rattle.findings.specs.Inner.{hitsOf, sectorRule, sectorsIn, Added}
 use Rattle.findings.specs.Rules.{Hit}
 use Rattle.findings.proofs.Numbers.{joined-start, joined-next, joined-room}
-use Rattle.findings.proofs.Others.{length-kept, kept-sector}
+use Rattle.findings.proofs.Others.{length-kept, at-kept}
 use Rattle.sectors.specs.declared.Sectors.{Sectors}
 use Rattle.findings.proofs.survey.each_sector.Statement.{statement}
 use Rattle.findings.proofs.survey.each_sector.Tie as tie
-use Rattle.findings.proofs.survey.each_sector.Reads as reads
-use Rattle.findings.proofs.survey.each_sector.Lts as lts
-use Rattle.findings.proofs.survey.put.Reads as put-reads
-use Rattle.findings.proofs.survey.sector_rule.Reads as sector-rule-reads
 
 -- what the kind finds at each sector
 abbrev row : List ℕ → (n track k : ℕ) → Sectors → ℕ → List Hit
@@ -31,7 +27,7 @@ abbrev μ-loop : tie.MeasureT-loop
 μ-loop numbers₀ bytes n track k at ss count to₀ i₀ numbers to i = count - i
 
 loop-holds : tie.Need-loop-holds Inv-loop μ-loop
-loop-holds c = 
+loop-holds c =
     let a = c .before in
     (omega arith, joined-start (findingOf (a .args .k)) (row (now (a .args .bytes)) (a .args .n) (a .args .track) (a .args .k) (a .args .t5)) _ (a .pre .1 .2))
 
@@ -50,14 +46,12 @@ sector-rule-requires c κs = (c .before .before .before .before .before .pre .0,
 -- what the rule saw at the sector read is what the kind finds there
 row-at : (c : tie.After-sector-rule Inv-loop μ-loop) → let a = c .before .before .before .before .before .before .args in
     hitsOf (c .sector-rule .result) ≡ row (now (a .bytes)) (a .n) (a .track) (a .k) (a .t5) (c .before .before .before .before .loop .i)
-unfolding atSector
 row-at c =
     let a = c .before .before .before .before .before .before .args in
-    let l = c .before .before .before .before .loop in
-    c .sector-rule .ensures ∙ ap (sectorRule (cell (now (a .bytes)) (a .n)) (a .n) (a .track) (sectorsIn (a .t5)) (a .k - 6)) (sym (kept-sector (a .t5) (l .i) (c .before .before .before .loop-test .taken)))
+    at-kept (a .t5) (sectorRule (cell (now (a .bytes)) (a .n)) (a .n) (a .track) (sectorsIn (a .t5)) (a .k - 6)) _ (c .before .before .before .loop-test .taken) (hitsOf (c .sector-rule .result)) (c .sector-rule .ensures)
 
 put-requires : tie.Need-put-requires Inv-loop μ-loop
-put-requires c κs = 
+put-requires c κs =
     let a = c .before .before .before .before .before .before in
     let l = c .before .before .before .before .loop in
     let inside : l .i < length (sectorsIn (a .args .t5)) = omega (arith, length-kept (a .args .t5) (a .pre .0 .few), c .before .before .before .loop-test .taken) in
@@ -70,13 +64,13 @@ loop-less : tie.Need-loop-less Inv-loop μ-loop
 loop-less c = omega (arith, c .before .before .before .before .loop-test .taken)
 
 loop-again : tie.Need-loop-again Inv-loop μ-loop
-loop-again c = 
+loop-again c =
     let a = c .before .before .before .before .before .before .before .args in
     let l = c .before .before .before .before .before .loop in
     (omega (arith, c .before .before .before .before .loop-test .taken), joined-next (findingOf (a .k)) (row (now (a .bytes)) (a .n) (a .track) (a .k) (a .t5)) (l .i) (l .inv .1) (rw (row-at (c .before)) at (c .put .ensures)))
 
 returns : tie.Need-returns Inv-loop μ-loop
-returns c = 
+returns c =
     let a = c .before .before .before in
     let e : c .before .loop .i ≡ length (sectorsIn (a .args .t5)) = omega (arith, length-kept (a .args .t5) (a .pre .0 .few)) in
     rw e at (c .before .loop .inv .1)

@@ -15,13 +15,6 @@ use Rattle.findings.proofs.Rows.{track-kind, later-kind, sector-kind, g
 use borrow.Author.Needs.{needs}
 use Rattle.findings.proofs.survey.one_kind.Statement.{statement}
 use Rattle.findings.proofs.survey.one_kind.Tie as tie
-use Rattle.findings.proofs.survey.one_kind.Reads as reads
-use Rattle.findings.proofs.survey.one_kind.Lts as lts
-use Rattle.findings.proofs.rules.gap_rule.Reads as gap-rule-reads
-use Rattle.findings.proofs.rules.track_rule.Reads as track-rule-reads
-use Rattle.findings.proofs.survey.duplicates.Reads as duplicates-reads
-use Rattle.findings.proofs.survey.each_sector.Reads as each-sector-reads
-use Rattle.findings.proofs.survey.put.Reads as put-reads
 
 above-5 : (k : ℕ) → 5 ≤ k → (k ≡ 5 → ⊥) → 6 ≤ k
 above-5 k h e = omega arith
@@ -50,7 +43,7 @@ track-rule-requires : tie.Need-track-rule-requires
 track-rule-requires c κs = search needs
 
 put-requires : tie.Need-put-requires
-put-requires c κs = 
+put-requires c κs =
     let a = c .before .before .before .before .before in
     (a .pre .1 .1 .0, room-same refl refl (sym (by-track c)) (a .pre .1 .1 .1))
 
@@ -58,34 +51,34 @@ returns : tie.Need-returns
 returns c = added-same refl refl (by-track (c .before)) (c .put .ensures)
 
 duplicates-requires : tie.Need-duplicates-requires
-duplicates-requires c κs = 
+duplicates-requires c κs =
     let a = c .before .before .before .before in
     (a .pre .0 .few, room-same refl refl (sym (later-kind (cell (now (a .args .bytes)) (a .args .n)) (a .args .n) (a .args .track) (sectorsIn (a .args .ss)) (a .args .k) (c .before .if2 .taken))) (a .pre .1 .1 .1))
 
 returns-2 : tie.Need-returns-2
-returns-2 c = 
+returns-2 c =
     let a = c .before .before .before .before .before in
     added-same refl refl (later-kind (cell (now (a .args .bytes)) (a .args .n)) (a .args .n) (a .args .track) (sectorsIn (a .args .ss)) (a .args .k) (c .before .before .if2 .taken)) (c .duplicates .ensures)
 
 each-sector-requires : tie.Need-each-sector-requires
-each-sector-requires c κs = 
+each-sector-requires c κs =
     let a = c .before .before .before .before .before in
     let low : 6 ≤ a .args .k = above-5 (a .args .k) (c .before .before .before .if1 .left) (c .before .before .if2 .left) in
     (a .pre .0, (low, c .before .if3 .taken, room-same refl refl (sym (sector-kind (cell (now (a .args .bytes)) (a .args .n)) (a .args .n) (a .args .track) (sectorsIn (a .args .ss)) (a .args .k) low (c .before .if3 .taken))) (a .pre .1 .1 .1)))
 
 returns-3 : tie.Need-returns-3
-returns-3 c = 
+returns-3 c =
     let a = c .before .before .before .before .before .before in
     let low : 6 ≤ a .args .k = above-5 (a .args .k) (c .before .before .before .before .if1 .left) (c .before .before .before .if2 .left) in
     added-same refl refl (sector-kind (cell (now (a .args .bytes)) (a .args .n)) (a .args .n) (a .args .track) (sectorsIn (a .args .ss)) (a .args .k) low (c .before .before .if3 .taken)) (c .each-sector .ensures)
 
 gap-rule-requires : tie.Need-gap-rule-requires
-gap-rule-requires c κs = 
+gap-rule-requires c κs =
     let a = c .before .before .before .before .before in
     gaps-few (cell (now (a .args .bytes)) (a .args .n)) (a .args .n) (a .args .gaps) (a .pre .1 .0) (a .pre .0 .short)
 
 put-requires-2 : tie.Need-put-requires-2
-put-requires-2 c κs = 
+put-requires-2 c κs =
     let a = c .before .before .before .before .before .before in
     (a .pre .1 .1 .0, room-same refl refl (sym (by-gaps c)) (a .pre .1 .1 .1))
 

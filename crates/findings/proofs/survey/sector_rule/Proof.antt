@@ -8,12 +8,6 @@ use Rattle.findings.proofs.Bounds.{inside-few}
 use borrow.Author.Needs.{needs}
 use Rattle.findings.proofs.survey.sector_rule.Statement.{statement}
 use Rattle.findings.proofs.survey.sector_rule.Tie as tie
-use Rattle.findings.proofs.survey.sector_rule.Reads as reads
-use Rattle.findings.proofs.survey.sector_rule.Lts as lts
-use Rattle.findings.proofs.cell_rules.syncs_inside.Reads as syncs-inside-reads
-use Rattle.findings.proofs.rules.data_rule.Reads as data-rule-reads
-use Rattle.findings.proofs.rules.id_rule.Reads as id-rule-reads
-use Rattle.findings.proofs.rules.overwritten.Reads as overwritten-reads
 
 id-rule-requires : tie.Need-id-rule-requires
 id-rule-requires c κs = search needs
@@ -43,7 +37,7 @@ syncs-inside-requires : tie.Need-syncs-inside-requires
 syncs-inside-requires c κs = search needs
 
 cast-t12 : tie.Need-cast-t12
-cast-t12 c = 
+cast-t12 c =
     let a = c .before .before .before .before .before in
     omega (arith, c .syncs-inside .ensures, inside-few (cell (now (a .args .bytes)) (a .args .n)) (a .args .s) (a .pre .1))
 

@@ -14,11 +14,6 @@ use Rattle.findings.proofs.Numbers.{kinds-start, kinds-next, kinds-room
 use Rattle.findings.proofs.Others.{length-kept}
 use Rattle.findings.proofs.survey.survey.Statement.{statement}
 use Rattle.findings.proofs.survey.survey.Tie as tie
-use Rattle.findings.proofs.survey.survey.Reads as reads
-use Rattle.findings.proofs.survey.survey.Lts as lts
-use Rattle.findings.proofs.cell_rules.find_gaps.Reads as find-gaps-reads
-use Rattle.findings.proofs.survey.clear.Reads as clear-reads
-use Rattle.findings.proofs.survey.one_kind.Reads as one-kind-reads
 
 abbrev Inv-loop : tie.InvT-loop
 Inv-loop numbers₀ bytes n track ss gaps at₀ k₀ numbers at k = (k ≤ kinds) × Added [] 0 (joined (ofKind (found (cell bytes n) n track (sectorsIn ss))) k) numbers at
@@ -36,7 +31,7 @@ loop-holds : tie.Need-loop-holds Inv-loop μ-loop
 loop-holds c = (omega arith, kinds-start _ (c .before .clear .ensures))
 
 one-kind-requires : tie.Need-one-kind-requires Inv-loop μ-loop
-one-kind-requires c κs = 
+one-kind-requires c κs =
     let a = c .before .before .before .before .before .before .before in
     let l = c .before .before .loop in
     let gaps = c .before .before .before .find-gaps .ensures in
@@ -50,13 +45,13 @@ loop-less : tie.Need-loop-less Inv-loop μ-loop
 loop-less c = omega arith
 
 loop-again : tie.Need-loop-again Inv-loop μ-loop
-loop-again c = 
+loop-again c =
     let a = c .before .before .before .before .before .before .before .before in
     let l = c .before .before .before .loop in
     (omega arith, kinds-next (ofKind (found (cell (now (a .args .bytes)) (a .args .n)) (a .args .n) (a .args .track) (sectorsIn (a .args .ss)))) (l .k) (l .inv .1) (c .one-kind .ensures))
 
 returns : tie.Need-returns Inv-loop μ-loop
-returns c = 
+returns c =
     let e : c .before .loop .k ≡ kinds = omega arith in
     rw e at (c .before .loop .inv .1)
 
