@@ -4,6 +4,9 @@ mod lent;
 mod rules;
 mod survey;
 
+pub use lent::findings;
+pub use lent::finding_by_index;
+
 use refusals::Refusal;
 use sectors::Listed;
 use survey::NUMBERS;
