@@ -2,3 +2,4 @@ pub mod Lists
 pub mod Joined
 pub mod Search
 pub mod Tables
+pub mod Walks

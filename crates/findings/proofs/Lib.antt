@@ -1,6 +1,7 @@
 pub mod Bounds
 pub mod Few
 pub mod Laws
+pub mod Lending
 pub mod Members
 pub mod Numbers
 pub mod Others

@@ -1,87 +1,150 @@
--- The findings as records, read back out of the numbers that `plan` leaves. Assumes nothing.
-use Prim.Native.Nat.{ℕ, zero, suc, _+_, _-_, _*_, _<_, _≤_}
+-- Numbers back into records, and the caller's list as the call leaves it. Assumes nothing.
+use Prim.Native.Nat.{ℕ, zero, suc, _+_, _*_, _%_, _≤_, _<_}
 use mathlib.Core.Path.{_≡_, refl, sym, ap, _∙_}
-use mathlib.Core.List.{List, [], _∷_, _++_}
+use mathlib.Core.Bool.{Bool, true, false, cond}
+use mathlib.Core.List.{List, [], _∷_, _++_, map}
 use native.Mathlib.Nat.{mod-eq-of-lt}
+use native.Mathlib.Numerals.{add-one}
 use native.Mathlib.Omega.{arith}
-use lib.Dec.{ltb, ltb→lt}
-use lib.ListN.{length, getD, take, drop}
-use lib.Seq.{getD-take, length-take-le, ext-getD}
-use Rattle.basis.specs.Lists.{listed}
-use Rattle.basis.proofs.Lists.{length-listed, getD-listed}
-use Rattle.basis.proofs.Tables.{passes-below}
-use Rattle.findings.specs.Calls.{findingsAnswer, written, numbersOf}
-use Rattle.findings.specs.Findings.{levels, findingsOf}
-use Rattle.findings.specs.Inner.{kinds, findingAt}
+use borrow.Author.Tests.{ltb-false}
+use lib.Dec.{T as T′, ltb, ltb→lt}
+use lib.ListN.{length, getD, set, take, drop, length-append, length-drop, length-set, take-append-drop, List·getD-eq-default}
+use lib.Seq.{length-take-le, take-all}
+use Rattle.basis.specs.Lists.{listed, joined}
+use Rattle.basis.proofs.Lists.{is-listed, listed-more}
+use Rattle.basis.proofs.Tables.{below, passes-below}
+use Rattle.refusals.specs.RefusedCalls.{Answer, bufferAfter}
+use Rattle.refusals.specs.RefusedCalls.Answer.{gives, refused}
+use Rattle.findings.specs.Calls.{findingsAnswer, listAfter, numbersOf, written, noFinding}
+use Rattle.findings.specs.Findings.{levels, findingOf, ofKind, findingsOf}
+use Rattle.findings.specs.Inner.{findingAt}
+use Rattle.findings.specs.Rules.{Hit}
 use Rattle.findings.specs.declared.Finding.{Finding}
-use Rattle.findings.proofs.Laws.{finding, kinds-in-range}
-use Rattle.findings.proofs.Members.{member-at}
-use Rattle.findings.proofs.Outcome.{written-few, findings-written}
-use Rattle.refusals.specs.RefusedCalls.{bufferAfter}
+use Rattle.findings.proofs.Outcome.{findings-follow}
+use Rattle.sectors.specs.Calls.{sectorsAnswer}
 
--- the four numbers of finding i
-pub record Four (l : List ℕ) (i : ℕ) (x : Finding) : Type 0 where
-  pub kind : getD l (4 * i) 0 ≡ x .kind
-  pub level : getD l (4 * i + 1) 0 ≡ x .level
-  pub place : getD l (4 * i + 2) 0 ≡ x .place
-  pub detail : getD l (4 * i + 3) 0 ≡ x .detail
+-- findings whose kind and level are bytes
+abbrev pub Narrow : List Finding → Type 0
+Narrow [] = Unit {0}
+Narrow (x ∷ xs) = ((x .kind < 256) × (x .level < 256)) × Narrow xs
 
-numbers-at : (d : Finding) (xs : List Finding) (i : ℕ) → i < length xs → Four (numbersOf xs) i (getD xs i d)
-unfolding numbersOf
-numbers-at d [] i h = absurd (omega arith)
-numbers-at d (x ∷ xs) zero h = record { kind = refl; level = refl; place = refl; detail = refl }
-numbers-at d (x ∷ xs) (suc i) h =
-    let f = numbers-at d xs i (omega arith) in
+narrow-take : (c : ℕ) (xs : List Finding) → Narrow xs → Narrow (take c xs)
+narrow-take zero xs h = tt
+narrow-take (suc c) [] h = tt
+narrow-take (suc c) (x ∷ xs) h = (h .0, narrow-take c xs (h .1))
+
+narrow-append : (xs ys : List Finding) → Narrow xs → Narrow ys → Narrow (xs ++ ys)
+narrow-append [] ys h l = l
+narrow-append (x ∷ xs) ys h l = (h .0, narrow-append xs ys (h .1) l)
+
+level-narrow : ℕ → Bool
+level-narrow k = ltb (getD levels k 0) 256
+
+levels-narrow : T′ (below level-narrow 21)
+unfolding level-narrow levels
+levels-narrow = tt
+
+narrow-kind : (k : ℕ) → k < 21 → (hits : List Hit) → Narrow (map (findingOf k) hits)
+unfolding findingOf level-narrow
+narrow-kind k h [] = tt
+narrow-kind k h (hit ∷ hits) = ((omega arith, ltb→lt _ 256 (passes-below level-narrow 21 levels-narrow k h)), narrow-kind k h hits)
+
+narrow-kinds : (rows : List (List Hit)) (n : ℕ) → n ≤ 21 → Narrow (joined (ofKind rows) n)
+unfolding joined ofKind
+narrow-kinds rows zero h = tt
+narrow-kinds rows (suc n) h =
+    narrow-append (joined (ofKind rows) n) (ofKind rows n) (narrow-kinds rows n (omega arith)) (narrow-kind n (omega arith) (getD rows n []))
+
+-- four numbers on is one finding on
+next-finding : (a b c d : ℕ) (rest : List ℕ) (i : ℕ) → findingAt (a ∷ b ∷ c ∷ d ∷ rest) (suc i) ≡ findingAt rest i
+unfolding findingAt
+next-finding a b c d rest i =
     let e₀ : 4 * suc i ≡ suc (suc (suc (suc (4 * i)))) = omega arith in
     let e₁ : 4 * suc i + 1 ≡ suc (suc (suc (suc (4 * i + 1)))) = omega arith in
     let e₂ : 4 * suc i + 2 ≡ suc (suc (suc (suc (4 * i + 2)))) = omega arith in
     let e₃ : 4 * suc i + 3 ≡ suc (suc (suc (suc (4 * i + 3)))) = omega arith in
-    record { kind = rw e₀ (f .kind); level = rw e₁ (f .level); place = rw e₂ (f .place); detail = rw e₃ (f .detail) }
+    rw (e₁, e₂, e₃, e₀)
 
--- kinds and levels are bytes
-level-small : (k : ℕ) → k < kinds → getD levels k 0 < 256
-unfolding levels
-level-small k h = ltb→lt (getD levels k 0) 256 (passes-below (λ i. ltb (getD levels i 0) 256) kinds tt k h)
+records-back : (xs : List Finding) (rest : List ℕ) → Narrow xs → (i : ℕ) → i < length xs → findingAt (numbersOf xs ++ rest) i ≡ getD xs i noFinding
+unfolding numbersOf findingAt
+records-back [] rest h i l = absurd (omega arith)
+records-back (x ∷ xs) rest h zero l = rw (mod-eq-of-lt (h .0 .0), mod-eq-of-lt (h .0 .1))
+records-back (x ∷ xs) rest h (suc i) l =
+    next-finding (x .kind) (x .level) (x .place) (x .detail) (numbersOf xs ++ rest) i ∙ records-back xs rest (h .1) i (omega arith)
 
-from-four : (l : List ℕ) (i : ℕ) (x : Finding) → Four l i x → x .kind < 256 → x .level < 256 → findingAt l i ≡ x
-unfolding findingAt
-from-four l i x f k v = rw (f .kind, f .level, f .place, f .detail, mod-eq-of-lt k, mod-eq-of-lt v)
+-- the first c findings of a list of numbers that starts with them
+pub front-is : (xs : List Finding) (numbers : List ℕ) → Narrow xs → take (4 * length xs) numbers ≡ numbersOf xs → listed (findingAt numbers) (length xs) ≡ xs
+front-is xs numbers h e = sym (is-listed (findingAt numbers) noFinding xs same)
+  where
+    same : (i : ℕ) → i < length xs → getD xs i noFinding ≡ findingAt numbers i
+    same i l =
+        sym (records-back xs (drop (4 * length xs) numbers) h i l)
+        ∙ ap (λ (ns : List ℕ). findingAt (ns ++ drop (4 * length xs) numbers) i) (sym e)
+        ∙ ap (λ (ns : List ℕ). findingAt ns i) (take-append-drop (4 * length xs) numbers)
 
-four-same : (l m : List ℕ) (i : ℕ) (x : Finding) → ((j : ℕ) → j < 4 → getD m (4 * i + j) 0 ≡ getD l (4 * i + j) 0) → Four l i x → Four m i x
-four-same l m i x same f =
-    let z : 4 * i + 0 ≡ 4 * i = omega arith in
-    record {
-      kind = rw z at (same 0 (omega arith)) ∙ f .kind;
-      level = same 1 (omega arith) ∙ f .level;
-      place = same 2 (omega arith) ∙ f .place;
-      detail = same 3 (omega arith) ∙ f .detail;
-    }
+-- a list after i stores at its front
+abbrev pub filled : (ℕ → Finding) → List Finding → ℕ → List Finding
+filled f list zero = list
+filled f list (suc i) = set (filled f list i) i (f i)
 
--- the numbers that `plan` leaves, of which it says so much
-module _ (bytes : List ℕ) (N T H room count : ℕ) (numbers : List ℕ) (e : count ≡ written (findingsAnswer bytes N T H room))
-    (front : take (4 * count) numbers ≡ numbersOf (take count (findingsOf bytes N T))) where
-  count-few : count ≤ length (findingsOf bytes N T)
-  count-few = omega (arith, e, written-few bytes N T H room)
+pub length-filled : (f : ℕ → Finding) (list : List Finding) (i : ℕ) → length (filled f list i) ≡ length list
+length-filled f list zero = refl
+length-filled f list (suc i) = length-set (filled f list i) i (f i) ∙ length-filled f list i
 
-  pub record-at : (i : ℕ) → i < count → findingAt numbers i ≡ getD (findingsOf bytes N T) i (finding 0 0 0)
-  record-at i h =
-      let fs = findingsOf bytes N T in
-      let long = length-take-le count fs count-few in
-      let f = numbers-at (finding 0 0 0) (take count fs) i (omega arith) in
-      let same : (j : ℕ) → j < 4 → getD numbers (4 * i + j) 0 ≡ getD (numbersOf (take count fs)) (4 * i + j) 0 =
-      λ j l. sym (getD-take (4 * count) numbers (4 * i + j) 0 (omega arith)) ∙ ap (λ (x : List ℕ). getD x (4 * i + j) 0) front in
-      let r = kinds-in-range bytes N T (getD fs i (finding 0 0 0)) (member-at (finding 0 0 0) fs i (omega (arith, count-few))) in
-      from-four numbers i (getD fs i (finding 0 0 0)) (rw (getD-take count fs i (finding 0 0 0) h) at (four-same (numbersOf (take count fs)) numbers i (getD (take count fs) i (finding 0 0 0)) same f))
-      (omega (arith, r .1)) (rw (r .2) (level-small (getD fs i (finding 0 0 0) .kind - 1) (omega (arith, r .0, r .1))))
+filled-is : (f : ℕ → Finding) (list : List Finding) (i : ℕ) → i ≤ length list → filled f list i ≡ listed f i ++ drop i list
+unfolding listed
+filled-is f list zero h = refl
+filled-is f list (suc i) h = rw add-one at (listed-more f noFinding i (f i) list (filled f list i) (filled-is f list i (omega arith)) h refl)
 
-  -- all records, and what they make of a list whose front they are written to
-  pub records-are : listed (findingAt numbers) count ≡ take count (findingsOf bytes N T)
-  records-are =
-      let fs = findingsOf bytes N T in
-      let long = length-take-le count fs count-few in
-      let l = length-listed (findingAt numbers) count in
-      ext-getD (finding 0 0 0) (listed (findingAt numbers) count) (take count fs) (l ∙ sym long)
-      (λ i b. getD-listed (findingAt numbers) (finding 0 0 0) count i (omega (arith, l)) ∙ record-at i (omega (arith, l)) ∙ sym (getD-take count fs i (finding 0 0 0) (omega (arith, l))))
+-- an answer that gives a number gives that of the findings, for which there is room
+abbrev Counts : (all room : ℕ) → Answer ℕ → Type 0
+Counts all room (gives count) = (count ≡ all) × (count ≤ room)
+Counts all room (refused number value) = Unit {0}
 
-  pub records-written : (list : List Finding) → listed (findingAt numbers) count ++ drop count list ≡ bufferAfter (findingsAnswer bytes N T H room) (findingsOf bytes N T) list
-  records-written list = rw (records-are, e) (findings-written bytes N T H room list)
+module _ (xs list : List Finding) where
+  few-written : (a : Answer ℕ) → Counts (length xs) (length list) a → written a ≤ length xs
+  few-written (gives count) e = omega (arith, e .0)
+  few-written (refused number value) e = omega arith
+
+  after-is : (a : Answer ℕ) → Counts (length xs) (length list) a → take (written a) xs ++ drop (written a) list ≡ bufferAfter a xs list
+  unfolding bufferAfter
+  after-is (gives count) e = rw (take-all count xs (omega (arith, e .0)), e .0)
+  after-is (refused number value) e = refl
+
+  length-after : (a : Answer ℕ) → Counts (length xs) (length list) a → length (bufferAfter a xs list) ≡ length list
+  unfolding bufferAfter
+  length-after (gives count) e = omega (arith, e .0, e .1, length-append xs (drop (length xs) list), length-drop (length xs) list)
+  length-after (refused number value) e = refl
+
+module _ (bytes : List ℕ) (N T H : ℕ) where
+  answer-counts : (room : ℕ) → Counts (length (findingsOf bytes N T)) room (findingsAnswer bytes N T H room)
+  answer-counts room = go (sectorsAnswer bytes N T H) refl
+    where
+      judged : (all : ℕ) (b : Bool) → ltb room all ≡ b → Counts all room (cond b (refused 5 all) (gives all))
+      judged all true e = tt
+      judged all false e = (refl, ltb-false room all e)
+
+      go : (a : Answer ℕ) → sectorsAnswer bytes N T H ≡ a → Counts (length (findingsOf bytes N T)) room (findingsAnswer bytes N T H room)
+      go (gives m) e = rw (findings-follow bytes N T H room .accepted m e) (judged (length (findingsOf bytes N T)) (ltb room (length (findingsOf bytes N T))) refl)
+      go (refused number value) e = rw (findings-follow bytes N T H room .refusals number value e) tt
+
+  findings-narrow : Narrow (findingsOf bytes N T)
+  unfolding findingsOf levels
+  findings-narrow = narrow-kinds _ 21 (omega arith)
+
+  -- the caller's list after as many stores as the answer has the call write
+  pub list-is : (list : List Finding) (numbers : List ℕ) (c : ℕ) → c ≡ written (findingsAnswer bytes N T H (length list)) → c ≤ length list
+      → take (4 * c) numbers ≡ numbersOf (take c (findingsOf bytes N T)) → filled (findingAt numbers) list c ≡ listAfter bytes N T H list
+  list-is list numbers c e h n =
+      let a = findingsAnswer bytes N T H (length list) in
+      let xs = findingsOf bytes N T in
+      let counts = answer-counts (length list) in
+      let l : length (take c xs) ≡ c = length-take-le c xs (omega (arith, few-written xs list a counts)) in
+      let s : listed (findingAt numbers) c ≡ take c xs = rw l at (front-is (take c xs) numbers (narrow-take c xs findings-narrow) (rw l n)) in
+      filled-is (findingAt numbers) list c h ∙ rw (s, e) (after-is xs list a counts)
+
+  -- nothing stands past its end
+  pub list-past : (list : List Finding) (i : ℕ) → length list ≤ i → getD (listAfter bytes N T H list) i noFinding ≡ noFinding
+  list-past list i h =
+      let e = length-after (findingsOf bytes N T) list (findingsAnswer bytes N T H (length list)) (answer-counts (length list)) in
+      List·getD-eq-default (listAfter bytes N T H list) noFinding (omega arith)

@@ -1,7 +1,11 @@
 // The copy-protection findings of a track: 01's 21 kinds, ordered by kind, then place.
 mod cell_rules;
+mod lent;
 mod rules;
 mod survey;
+
+pub use lent::findings;
+pub use lent::finding_by_index;
 
 use refusals::Refusal;
 use sectors::Listed;
