@@ -4,9 +4,8 @@ mod lent;
 mod rules;
 mod survey;
 
-pub use lent::findings;
 pub use lent::finding_by_index;
-
+pub use lent::findings;
 use refusals::Refusal;
 use sectors::Listed;
 use survey::NUMBERS;
