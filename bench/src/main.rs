@@ -8,6 +8,7 @@
 mod library;
 
 use second_program::cells;
+use second_program::findings;
 use second_program::random::Random;
 use second_program::sectors;
 use second_program::track_builder::standard_track;
@@ -81,4 +82,15 @@ fn main() {
         black_box(sectors::list(black_box(&any), n));
     });
     line("all sectors of random cells", ours, plain);
+
+    for (name, bytes) in [("random cells", &any), ("the standard track", &standard)] {
+        let mut list = [0; 3_604];
+        let ours = median(21, 20, || {
+            let _ = black_box(library::findings(black_box(bytes), n, 0, 0, &mut list));
+        });
+        let plain = median(21, 20, || {
+            let _ = black_box(findings::findings(0, 0, black_box(bytes), n, 901));
+        });
+        line(&format!("all findings, {name}"), ours, plain);
+    }
 }
