@@ -11,7 +11,7 @@ use lib.Dec.{eqb, ltb, leb}
 use lib.ListN.{length, getD, length-append, length-map}
 use Rattle.basis.specs.Lists.{joined}
 use Rattle.findings.specs.Findings.{nth, found, findingOf, ofKind}
-use Rattle.findings.specs.Inner.{kinds, most}
+use Rattle.findings.specs.Inner.{kinds, mostFindings}
 use Rattle.findings.specs.Rules.{Hit, when, lgt, sht, tnf, ext}
 use Rattle.findings.proofs.Table.{sectorKinds, lastKinds, noTrackKind, noSectorKind, hitsAt, sector-row, last-row}
 use Rattle.sectors.specs.declared.Sector.{Sector}
@@ -85,7 +85,7 @@ module _ (f : ℕ → ℕ) (N T : ℕ) (ss : List Sector) where
       let kind = getD (lastKinds f N T ss) k noTrackKind in
       rw (last-row f N T ss k h) (at-most-one (kind .test) (kind .place) (kind .detail))
 
-  pub few-findings : length ss ≤ 64 → length (joined (ofKind (found f N T ss)) kinds) ≤ most
+  pub few-findings : length ss ≤ 64 → length (joined (ofKind (found f N T ss)) kinds) ≤ mostFindings
   unfolding hits
   few-findings h =
       rw (length-kinds (found f N T ss) kinds)

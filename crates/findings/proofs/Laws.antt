@@ -5,17 +5,19 @@
 --   track-exactly       of kinds 1 to 5: exactly when the test passes, with the place and detail of the table
 --   cells-exactly       the same of kinds 20 and 21
 --   sector-exactly      of kinds 6 to 19: exactly when a sector passes the test, at its place and with the detail of the table
---   empty-means-none    the list is empty exactly when every row is
+--   empty-means-none    the list is empty exactly when no rule holds
 --   strictly-ordered    by kind, then place
 --   kinds-in-range      kinds are 1 to 21, and each has its level
 --   tnf-only            kind 4 stands only with level 2, place 0, detail 0, and T at most 79
 --
 -- The tests, places and details are in proofs/Table, one line for each kind. Assumes nothing.
 use Prim.Native.Nat.{ℕ, _+_, _-_, _<_, _≤_}
-use mathlib.Core.Path.{_≡_, refl, ap}
+use mathlib.Core.Path.{_≡_, refl, ap, _∙_}
 use mathlib.Core.Bool.{Bool, true, false, _&&_}
 use mathlib.Core.List.{List, [], List·Memᴰ, List·Memᴰ·head, List·Memᴰ·not-nil, List·Memᴰ·eq-of-singleton, Memᴰ·cast, Memᴰ·map}
 use mathlib.Core.Logic.{_⊎_, inl, inr, _↔_}
+use native.Mathlib.Decide.{decLe}
+use native.Mathlib.Nat.{lt-of-not-le}
 use native.Mathlib.Omega.{arith}
 use borrow.Author.Tests.{leb-true}
 use lib.Dec.{eqb, leb}
@@ -63,7 +65,15 @@ second-passes : (a b : Bool) → (a && b) ≡ true → b ≡ true
 second-passes true b e = e
 second-passes false b e = let z : _≡_ {A = ℕ} 0 1 = cc in absurd (omega arith)
 
+-- a test that does not pass fails
+fails : (test : Bool) → (test ≡ true → ⊥) → test ≡ false
+fails true h = absurd (h refl)
+fails false h = refl
+
 -- members of what a test gives
+no-hits : (test : Bool) (p d : ℕ) → test ≡ false → when test p d ≡ []
+no-hits test p d e = rw e
+
 when-has : (test : Bool) (p d : ℕ) → test ≡ true → List·Memᴰ (hit p d) (when test p d)
 when-has test p d e = rw e (List·Memᴰ·head refl)
 
@@ -121,21 +131,6 @@ module _ (bytes : List ℕ) (N T : ℕ) where
 
     pub stands-exactly : Stands bytes N T kind p d ↔ List·Memᴰ (hit p d) (rowOf bytes N T kind)
     stands-exactly = (row-has, stands)
-
-  -- the list is empty exactly when every row is
-  pub empty-means-none : (findingsOf bytes N T ≡ []) ↔ ((kind : ℕ) → 1 ≤ kind → kind ≤ kinds → rowOf bytes N T kind ≡ [])
-  empty-means-none = (none, empty)
-    where
-      none : findingsOf bytes N T ≡ [] → (kind : ℕ) → 1 ≤ kind → kind ≤ kinds → rowOf bytes N T kind ≡ []
-      none e kind low high = no-members (rowOf bytes N T kind) (λ y m. List·Memᴰ·not-nil (rw e at (stands kind (y .place) (y .detail) low high m)))
-
-      empty : ((kind : ℕ) → 1 ≤ kind → kind ≤ kinds → rowOf bytes N T kind ≡ []) → findingsOf bytes N T ≡ []
-      empty h = no-members (findingsOf bytes N T) (λ x m. absurd (List·Memᴰ·not-nil (at-row (comes x m))))
-        where
-          at-row : {x : Finding} (c : Comes x) → List·Memᴰ (hit (c .place) (c .detail)) []
-          at-row c =
-              let e : c .kind + 1 - 1 ≡ c .kind = omega arith in
-              rw (rw e at (h (c .kind + 1) (omega arith) (omega (arith, c .below)))) at (c .member)
 
   -- of kinds 1 to 5, and 20 and 21: exactly when the test passes, with the place and detail of the table
   module _ (kind p d : ℕ) where
@@ -202,6 +197,71 @@ module _ (bytes : List ℕ) (N T : ℕ) where
       let e : 5 + (kind - 6) ≡ kind - 1 = omega arith in
       by-sector kind p d (getD (sectorKinds (cell bytes N) N T (sectorsOf bytes N)) (kind - 6) noSectorKind)
       (rw e at (sector-row (cell bytes N) N T (sectorsOf bytes N) (kind - 6) (omega arith))) (omega arith) (omega arith)
+
+  -- no rule holds: no test of a kind on the track or on its cells passes, and none of a kind on sectors, at any sector
+  pub record NoRule : Type 0 where
+    pub track : (k : ℕ) → k < 5 → getD (firstKinds (cell bytes N) N T (sectorsOf bytes N)) k noTrackKind .test ≡ false
+    pub sectors : (k i : ℕ) → k < 14 → i < length (sectorsOf bytes N) → getD (sectorKinds (cell bytes N) N T (sectorsOf bytes N)) k noSectorKind .test i ≡ false
+    pub cells : (k : ℕ) → k < 2 → getD (lastKinds (cell bytes N) N T (sectorsOf bytes N)) k noTrackKind .test ≡ false
+
+  -- then every row is empty
+  no-sector-hits : (entry : SectorKind) → ((i : ℕ) → i < length (sectorsOf bytes N) → entry .test i ≡ false) → sectorHits (sectorsOf bytes N) entry ≡ []
+  no-sector-hits entry none = no-members (sectorHits (sectorsOf bytes N) entry) no-member
+    where
+      no-member : (y : Hit) → List·Memᴰ y (sectorHits (sectorsOf bytes N) entry) → ⊥
+      no-member y m =
+          let j = joined-from (hitsAt (sectorsOf bytes N) entry) (length (sectorsOf bytes N)) y m in
+          List·Memᴰ·not-nil (rw (no-hits (entry .test (j .place)) _ _ (none (j .place) (j .below))) at (j .member))
+
+  empty-row : NoRule → (k : ℕ) → k < kinds → getD rows k [] ≡ []
+  empty-row none k h = go (decLe 5 k) (decLe 19 k)
+    where
+      go : Dec (5 ≤ k) → Dec (19 ≤ k) → getD rows k [] ≡ []
+      go (no a) b = first-row (cell bytes N) N T (sectorsOf bytes N) k (lt-of-not-le a) ∙ no-hits _ _ _ (none .track k (lt-of-not-le a))
+      go (yes a) (no b) =
+          let e : 5 + (k - 5) ≡ k = omega arith in
+          let l : k - 5 < 14 = omega (arith, lt-of-not-le b) in
+          rw e at (sector-row (cell bytes N) N T (sectorsOf bytes N) (k - 5) l ∙ no-sector-hits _ (λ i b. none .sectors (k - 5) i l b))
+      go (yes a) (yes b) =
+          let e : 19 + (k - 19) ≡ k = omega arith in
+          let l : k - 19 < 2 = omega arith in
+          rw e at (last-row (cell bytes N) N T (sectorsOf bytes N) (k - 19) l ∙ no-hits _ _ _ (none .cells (k - 19) l))
+
+  -- an empty list means that no rule holds, and the other way round
+  pub empty-means-none : (findingsOf bytes N T ≡ []) ↔ NoRule
+  empty-means-none = (none, empty)
+    where
+      nothing-stands : findingsOf bytes N T ≡ [] → (kind p d : ℕ) → Stands bytes N T kind p d → ⊥
+      nothing-stands e kind p d m = List·Memᴰ·not-nil (rw e at m)
+
+      none-track : findingsOf bytes N T ≡ [] → (k kind : ℕ) → kind ≡ k + 1 → kind - 1 ≡ k → k < 5 → getD (firstKinds (cell bytes N) N T (sectorsOf bytes N)) k noTrackKind .test ≡ false
+      none-track e k kind is index h =
+          fails _ (λ t. nothing-stands e kind _ _ (track-exactly kind _ _ (omega arith) (omega arith) .1 (rw index t, refl, refl)))
+
+      none-cells : findingsOf bytes N T ≡ [] → (k kind : ℕ) → kind ≡ k + 20 → kind - 20 ≡ k → k < 2 → getD (lastKinds (cell bytes N) N T (sectorsOf bytes N)) k noTrackKind .test ≡ false
+      none-cells e k kind is index h =
+          fails _ (λ t. nothing-stands e kind _ _ (cells-exactly kind _ _ (omega arith) (omega arith) .1 (rw index t, refl, refl)))
+
+      none-sectors : findingsOf bytes N T ≡ [] → (k i kind : ℕ) → kind ≡ k + 6 → kind - 6 ≡ k → k < 14 → i < length (sectorsOf bytes N)
+          → getD (sectorKinds (cell bytes N) N T (sectorsOf bytes N)) k noSectorKind .test i ≡ false
+      none-sectors e k i kind is index h l =
+          fails _
+          (λ t. nothing-stands e kind _ _
+          (sector-exactly kind _ _ (omega arith) (omega arith) .1 (record { index = i; below = l; passes = rw index t; place-is = refl; detail-is = refl })))
+
+      none : findingsOf bytes N T ≡ [] → NoRule
+      none e =
+          record {
+            track = λ k h. none-track e k (k + 1) refl (omega arith) h;
+            sectors = λ k i h l. none-sectors e k i (k + 6) refl (omega arith) h l;
+            cells = λ k h. none-cells e k (k + 20) refl (omega arith) h;
+          }
+
+      empty : NoRule → findingsOf bytes N T ≡ []
+      empty h = no-members (findingsOf bytes N T) no-member
+        where
+          no-member : (x : Finding) → List·Memᴰ x (findingsOf bytes N T) → ⊥
+          no-member x m = let c = comes x m in List·Memᴰ·not-nil (rw (empty-row h (c .kind) (c .below)) at (c .member))
 
   -- the list is ordered by kind, then place, strictly
   row-ordered : (k : ℕ) → k < kinds → Ordered Nearer (getD rows k [])

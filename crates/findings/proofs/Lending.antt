@@ -1,4 +1,4 @@
--- What the walks of `lent` share: the machine values of a finding and of an answer, and the two promises of the call. Assumes nothing.
+-- What the walk of `lent` needs: the machine values of a finding and of an answer, and the promise on the answer. Assumes nothing.
 use mathlib.Core.Path.{_≡_}
 use Prim.Native.Nat.{ℕ}
 use mathlib.Core.List.{List}
@@ -6,7 +6,7 @@ use mir.Val.{Val}
 use denote.RattleType.{RattleType}
 use denote.Struct.Laws as LL
 use denote.Enum.Laws as EL
-use Rattle.findings.specs.Calls.{foundAnswer, findingsAnswer, listAfter}
+use Rattle.findings.specs.Calls.{foundAnswer, findingsAnswer}
 use Rattle.findings.specs.declared.Finding.{Finding}
 use Rattle.findings.specs.declared.Found.{Found}
 use Rattle.findings.proofs.Finding as T
@@ -18,18 +18,12 @@ use Rattle.findings.proofs.Found.Laws as N′
 abbrev pub R : RattleType
 R = T.the-row
 
-abbrev pub r-val : Finding → Val
-r-val = LL.val T.the-type T′.the-laws
-
 abbrev pub r-vals : Finding → List Val
 r-vals = LL.vals T.the-type T′.the-laws
 
 abbrev pub found-vals : Found → List Val
 found-vals = EL.vals N.the-type N′.the-laws
 
--- the two promises, of the call on the list xs with room for `room` findings
+-- the promise on the answer of the call, for a list with room for `room` findings
 abbrev pub Answers : List ℕ → (cells track side room : ℕ) → Found → Type 0
 Answers bytes cells track side room r = foundAnswer r ≡ findingsAnswer bytes cells track side room
-
-abbrev pub Leaves : List ℕ → (cells track side : ℕ) → List Finding → List Finding → Type 0
-Leaves bytes cells track side xs zs = zs ≡ listAfter bytes cells track side xs

@@ -10,7 +10,7 @@ use lib.Seq.{length-sets, sets-eq, take-at, length-take-le, paste-suc}
 use Rattle.basis.specs.Lists.{joined}
 use Rattle.basis.proofs.Joined.{joined-none, joined-more, joined-grows}
 use Rattle.findings.specs.Calls.{numbersOf}
-use Rattle.findings.specs.Inner.{most, Room, Added}
+use Rattle.findings.specs.Inner.{mostFindings, Room, Added}
 use Rattle.findings.specs.declared.Finding.{Finding}
 
 pub numbers-append : (xs ys : List Finding) → numbersOf (xs ++ ys) ≡ numbersOf xs ++ numbersOf ys
@@ -92,7 +92,7 @@ module _ {A : Type 0} (g : A → Finding) (f : ℕ → List A) where
 
 -- the findings of all kinds, from an empty list on
 module _ (f : ℕ → List Finding) where
-  pub kinds-start : {numbers : List ℕ} → length numbers ≡ 4 * most → Added [] 0 (joined f 0) numbers 0
+  pub kinds-start : {numbers : List ℕ} → length numbers ≡ 4 * mostFindings → Added [] 0 (joined f 0) numbers 0
   unfolding numbersOf
   kinds-start long = rw joined-none record { long = long; count = refl; front = refl }
 
@@ -100,7 +100,7 @@ module _ (f : ℕ → List Finding) where
       → Added [] 0 (joined f (k + 1)) after next
   kinds-next k first second = rw joined-more (added-then first second)
 
-  pub kinds-room : (n k : ℕ) {numbers : List ℕ} {at : ℕ} → k < n → length (joined f n) ≤ most → Added [] 0 (joined f k) numbers at → Room numbers at (f k)
+  pub kinds-room : (n k : ℕ) {numbers : List ℕ} {at : ℕ} → k < n → length (joined f n) ≤ mostFindings → Added [] 0 (joined f k) numbers at → Room numbers at (f k)
   kinds-room n k h few first =
       let e : k + 1 + (n - (k + 1)) ≡ n = omega arith in
       let l = rw e at (joined-grows f (k + 1) (n - (k + 1))) in

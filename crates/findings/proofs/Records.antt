@@ -8,20 +8,24 @@ use native.Mathlib.Numerals.{add-one}
 use native.Mathlib.Omega.{arith}
 use borrow.Author.Tests.{ltb-false}
 use lib.Dec.{T as T′, ltb, ltb→lt}
-use lib.ListN.{length, getD, set, take, drop, length-append, length-drop, length-set, take-append-drop, List·getD-eq-default}
+use lib.ListN.{length, getD, set, take, drop, length-set, take-append-drop}
 use lib.Seq.{length-take-le, take-all}
 use Rattle.basis.specs.Lists.{listed, joined}
 use Rattle.basis.proofs.Lists.{is-listed, listed-more}
 use Rattle.basis.proofs.Tables.{below, passes-below}
 use Rattle.refusals.specs.RefusedCalls.{Answer, bufferAfter}
 use Rattle.refusals.specs.RefusedCalls.Answer.{gives, refused}
-use Rattle.findings.specs.Calls.{findingsAnswer, listAfter, numbersOf, written, noFinding}
+use Rattle.findings.specs.Calls.{findingsAnswer, listAfter, numbersOf, written}
 use Rattle.findings.specs.Findings.{levels, findingOf, ofKind, findingsOf}
 use Rattle.findings.specs.Inner.{findingAt}
 use Rattle.findings.specs.Rules.{Hit}
 use Rattle.findings.specs.declared.Finding.{Finding}
 use Rattle.findings.proofs.Outcome.{findings-follow}
 use Rattle.sectors.specs.Calls.{sectorsAnswer}
+
+-- a record that is all zeros, where there is none
+abbrev noFinding : Finding
+noFinding = record { kind = 0; level = 0; place = 0; detail = 0 }
 
 -- findings whose kind and level are bytes
 abbrev pub Narrow : List Finding → Type 0
@@ -111,11 +115,6 @@ module _ (xs list : List Finding) where
   after-is (gives count) e = rw (take-all count xs (omega (arith, e .0)), e .0)
   after-is (refused number value) e = refl
 
-  length-after : (a : Answer ℕ) → Counts (length xs) (length list) a → length (bufferAfter a xs list) ≡ length list
-  unfolding bufferAfter
-  length-after (gives count) e = omega (arith, e .0, e .1, length-append xs (drop (length xs) list), length-drop (length xs) list)
-  length-after (refused number value) e = refl
-
 module _ (bytes : List ℕ) (N T H : ℕ) where
   answer-counts : (room : ℕ) → Counts (length (findingsOf bytes N T)) room (findingsAnswer bytes N T H room)
   answer-counts room = go (sectorsAnswer bytes N T H) refl
@@ -142,9 +141,3 @@ module _ (bytes : List ℕ) (N T H : ℕ) where
       let l : length (take c xs) ≡ c = length-take-le c xs (omega (arith, few-written xs list a counts)) in
       let s : listed (findingAt numbers) c ≡ take c xs = rw l at (front-is (take c xs) numbers (narrow-take c xs findings-narrow) (rw l n)) in
       filled-is (findingAt numbers) list c h ∙ rw (s, e) (after-is xs list a counts)
-
-  -- nothing stands past its end
-  pub list-past : (list : List Finding) (i : ℕ) → length list ≤ i → getD (listAfter bytes N T H list) i noFinding ≡ noFinding
-  list-past list i h =
-      let e = length-after (findingsOf bytes N T) list (findingsAnswer bytes N T H (length list)) (answer-counts (length list)) in
-      List·getD-eq-default (listAfter bytes N T H list) noFinding (omega arith)

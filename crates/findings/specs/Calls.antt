@@ -4,7 +4,7 @@ use Prim.Native.Nat.{ℕ, _/_}
 use mathlib.Core.Bool.{cond}
 use mathlib.Core.List.{List, [], _∷_, _++_}
 use lib.Dec.{ltb}
-use lib.ListN.{length, getD, replicate}
+use lib.ListN.{length}
 use Rattle.refusals.specs.RefusedCalls.{Answer, refusedWith, bufferAfter}
 use Rattle.refusals.specs.RefusedCalls.Answer.{gives, refused}
 use Rattle.findings.specs.Findings.{findingsOf}
@@ -44,12 +44,3 @@ numbersOf (x ∷ xs) = (x .kind ∷ x .level ∷ x .place ∷ x .detail ∷ []) 
 -- a list of numbers afterwards, with room for a quarter as many findings
 abbrev pub numbersAfter : List ℕ → (N T H : ℕ) → List ℕ → List ℕ
 numbersAfter bytes N T H list = bufferAfter (findingsAnswer bytes N T H (length list / 4)) (numbersOf (findingsOf bytes N T)) list
-
--- a record that is all zeros
-abbrev pub noFinding : Finding
-noFinding = record { kind = 0; level = 0; place = 0; detail = 0 }
-
--- the record of this index in a list that is all zeros at first, with room for the 901 findings that 64 sectors can bring: all zeros past
--- the findings, and beside a refusal
-unfoldable pub indexedFinding : List ℕ → (N T H index : ℕ) → Finding
-indexedFinding bytes N T H index = getD (listAfter bytes N T H (replicate 901 noFinding)) index noFinding

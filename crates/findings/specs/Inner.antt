@@ -1,4 +1,4 @@
--- What only the contracts of private functions need: the rules in groups, as the code takes them, and findings added to a list of
+-- What the contracts of private functions need, and the number of kinds: the rules in groups, as the code takes them, and findings added to a list of
 -- numbers. Assumes nothing.
 use Prim.Native.Nat.{ℕ, _+_, _-_, _*_, _%_, _<_, _≤_}
 use mathlib.Core.Path.{_≡_}
@@ -49,7 +49,7 @@ pub record GapsOn (f : ℕ → ℕ) (n : ℕ) (gaps : Gaps) : Type 0 where
   pub start : gaps .start ≡ longestStart f n
   pub longest : gaps .longest ≡ longestRun f n
 
--- the bounds of a record's place and length of data
+-- the bounds of a record's place and length of its data
 pub record Near (s : Sector) : Type 0 where
   pub data-place : s .«data_place» ≤ 200000
   pub data-length : s .«data_length» ≤ 1024
@@ -69,21 +69,21 @@ pub record On (n : ℕ) (ss : Sectors) : Type 0 where
   pub near : (i : ℕ) → i < ss .count → Near (getD (ss .all) i noSector)
   pub short : n ≤ 131072
 
--- how many kinds there are, and the most findings that they can give on a track with at most 64 sectors
+-- how many kinds there are, and a number of findings that they never pass on a track with at most 64 sectors
 abbrev pub kinds : ℕ
 kinds = 21
 
-abbrev pub most : ℕ
-most = 901
+abbrev pub mostFindings : ℕ
+mostFindings = 901
 
 -- a list of numbers with `at` findings at its front has room for the findings xs after them
 pub record Room (numbers : List ℕ) (at : ℕ) (xs : List Finding) : Type 0 where
-  pub long : length numbers ≡ 4 * most
-  pub fits : at + length xs ≤ most
+  pub long : length numbers ≡ 4 * mostFindings
+  pub fits : at + length xs ≤ mostFindings
 
 -- the same list with the findings xs put there: `next` findings in all
 pub record Added (before : List ℕ) (at : ℕ) (xs : List Finding) (after : List ℕ) (next : ℕ) : Type 0 where
-  pub long : length after ≡ 4 * most
+  pub long : length after ≡ 4 * mostFindings
   pub count : next ≡ at + length xs
   pub front : take (4 * next) after ≡ take (4 * at) before ++ numbersOf xs
 

@@ -4,7 +4,6 @@ use Prim.Native.Nat.{ℕ, _+_, _-_}
 use mathlib.Core.Bool.{Bool, false, cond, not, _&&_, _||_}
 use mathlib.Core.List.{List, [], _∷_}
 use lib.Dec.{eqb, ltb, leb}
-use lib.ListN.{length}
 use Rattle.basis.specs.Search.{count, least}
 use Rattle.findings.specs.Cells.{violation, longestRun, longestStart, syncsInside}
 use Rattle.sectors.specs.Sectors.{dataEnd}
@@ -57,7 +56,7 @@ ext sectors T = when (ltb 0 sectors && leb 80 T) 0 sectors
 
 -- 6 DSN: an earlier sector has this number
 unfoldable pub sameNumber : Sector → Sector → Bool
-sameNumber s e = eqb (e .number) (s .number)
+sameNumber s other = eqb (other .number) (s .number)
 
 abbrev pub dsn : List Sector → Sector → List Hit
 dsn earlier s = when (someSector (sameNumber s) earlier) (s .place) (s .number)
@@ -108,22 +107,22 @@ dbi N s = when (marked s && leb N (s .«data_place»)) (s .place) (s .«data_pla
 
 -- 18 SWS: this p, or p + N, lies at or after q and before the end of another sector's data
 abbrev pub lies : ℕ → Sector → Bool
-lies x e = leb (e .«data_place») x && ltb x (endOf e)
+lies x other = leb (other .«data_place») x && ltb x (endOf other)
 
 unfoldable pub inData : ℕ → Sector → Sector → Bool
-inData N s e = (not (eqb (e .place) (s .place)) && isRead e) && (lies (s .place) e || lies (s .place + N) e)
+inData N s other = (not (eqb (other .place) (s .place)) && isRead other) && (lies (s .place) other || lies (s .place + N) other)
 
 abbrev pub sws : ℕ → List Sector → Sector → List Hit
 sws N sectors s = when (someSector (inData N s) sectors) (s .place) (s .number)
 
--- 19 SID: a sync inside the ID or the data
+-- 19 SID: 4489 lies wholly between p+64 and p+160, or between q+64 and the data end, any phase; how many such cells
 abbrev pub sid : (ℕ → ℕ) → Sector → List Hit
 sid f s = when (ltb 0 (syncsInside f s)) (s .place) (syncsInside f s)
 
--- 20 MTV: first such; how many
+-- 20 MTV: a one whose next one, round the track, is 1 or more than 4 cells on; first such; how many
 abbrev pub mtv : (ℕ → ℕ) → ℕ → List Hit
 mtv f N = when (ltb 0 (count (violation f N) N 0)) (least (violation f N) N 0) (count (violation f N) N 0)
 
--- 21 NFA: the longest run of zeros is at least 1,000; its start; length
+-- 21 NFA: the longest run of zeros, round the track, is at least 1,000 (of equal runs, the least start); its start; length
 abbrev pub nfa : (ℕ → ℕ) → ℕ → List Hit
 nfa f N = when (leb 1000 (longestRun f N)) (longestStart f N) (longestRun f N)

@@ -3,10 +3,10 @@ use crate::Finding;
 use crate::Found;
 use crate::finding_at;
 use crate::plan;
+use crate::survey::NUMBERS;
 ghost use mathlib.Core.Path.{_≡_};
-ghost use Prim.Native.Nat.{_<_};
 ghost use lib.ListN.{length};
-ghost use Rattle.findings.specs.Calls.{foundAnswer, findingsAnswer, listAfter, indexedFinding};
+ghost use Rattle.findings.specs.Calls.{foundAnswer, findingsAnswer, listAfter};
 
 // The findings of a track of n cells, packed in `bytes`, at the front of the list; the rest stays. `track` and `side` are the
 // drive's. All is decided by `plan`, on numbers: what a finding is never stands in this function.
@@ -14,7 +14,7 @@ pub fn findings(bytes: &[u8], n: usize, track: u32, side: u32, list: &mut [Findi
     ensures answer { λ r. ⌜ foundAnswer r ≡ findingsAnswer (now (bytes .entry)) n track side (length (now (list .entry))) ⌝ }
     ensures list { λ _. ⌜ now (list .exit) ≡ listAfter (now (bytes .entry)) n track side (now (list .entry)) ⌝ }
 {
-    let mut numbers: [u32; 3604] = [0; 3604];
+    let mut numbers: [u32; NUMBERS] = [0; NUMBERS];
     let planned = plan(&mut numbers, bytes, n, track, side, list.len());
     let mut i = 0;
     while i < planned.count {
@@ -22,39 +22,4 @@ pub fn findings(bytes: &[u8], n: usize, track: u32, side: u32, list: &mut [Findi
         i += 1;
     }
     planned.answer
-}
-
-// The record of this index, from 0, in a list that is all zeros at first and has room for every finding: all zeros past the
-// findings, and beside a refusal. For callers that have no list to lend.
-pub fn finding_by_index(bytes: &[u8], n: usize, track: u32, side: u32, index: usize) -> Finding
-    ensures { λ r. ⌜ r ≡ indexedFinding (now (bytes .entry)) n track side index ⌝ }
-{
-    if index < MOST_FINDINGS {
-        return finding_in_list(bytes, n, track, side, index);
-    }
-    Finding {
-        kind: 0,
-        level: 0,
-        place: 0,
-        detail: 0,
-    }
-}
-
-// The most findings that 64 sectors can bring.
-const MOST_FINDINGS: usize = 901;
-
-// As finding_by_index, of an index within the list: a local list is lent.
-fn finding_in_list(bytes: &[u8], n: usize, track: u32, side: u32, index: usize) -> Finding
-    requires { ⌜ index < 901 ⌝ }
-    ensures { λ r. ⌜ r ≡ indexedFinding (now (bytes .entry)) n track side index ⌝ }
-{
-    let none = Finding {
-        kind: 0,
-        level: 0,
-        place: 0,
-        detail: 0,
-    };
-    let mut list = [none; MOST_FINDINGS];
-    findings(bytes, n, track, side, &mut list);
-    list[index]
 }

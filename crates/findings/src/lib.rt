@@ -4,7 +4,6 @@ mod lent;
 mod rules;
 mod survey;
 
-pub use lent::finding_by_index;
 pub use lent::findings;
 use refusals::Refusal;
 use sectors::Listed;
@@ -18,6 +17,7 @@ ghost use Rattle.findings.specs.Findings.{findingsOf};
 ghost use Rattle.findings.specs.Inner.{findingAt};
 
 // A finding: its kind from 1 to 21, the kind's level, its place in cells, and its detail.
+#[repr(C)]
 pub struct Finding {
     pub kind: u8,
     pub level: u8,

@@ -17,7 +17,7 @@ pub struct Seen {
     pub detail: u32,
 }
 
-// More cells than a usual track has, and fewer.
+// The most and the fewest cells of a usual track.
 const MOST_USUAL_CELLS: u32 = 103000;
 
 const FEWEST_USUAL_CELLS: u32 = 97000;

@@ -12,7 +12,7 @@ ghost use lib.ListN.{length, getD};
 ghost use Rattle.basis.specs.Lists.{joined};
 ghost use Rattle.cells.specs.CellsAndBytes.{cell};
 ghost use Rattle.findings.specs.Findings.{levels, atLater, each, found, findingOf, ofKind};
-ghost use Rattle.findings.specs.Inner.{hitsOf, kinds, most, sectorRule, Near, Few, On, GapsOn, sectorsIn, Added, Room};
+ghost use Rattle.findings.specs.Inner.{hitsOf, kinds, mostFindings, sectorRule, Near, Few, On, GapsOn, sectorsIn, Added, Room};
 
 // The numbers of the most findings that there can be, four for each: with 64 sectors there are at most 901.
 pub(crate) const NUMBERS: usize = 3604;
@@ -221,7 +221,7 @@ fn put(numbers: &mut [u32; NUMBERS], at: usize, k: usize, seen: Seen) -> usize
 
 // The list before the first finding: what it held is not read.
 fn clear(numbers: &mut [u32; NUMBERS])
-    ensures { λ _. ⌜ length (now (numbers .exit)) ≡ 4 * most ⌝ }
+    ensures { λ _. ⌜ length (now (numbers .exit)) ≡ 4 * mostFindings ⌝ }
 {
     *numbers = [0; NUMBERS];
 }

@@ -14,7 +14,7 @@ use Rattle.mfm.specs.Coding.{byteOn}
 abbrev pub syncAt : (ℕ → ℕ) → ℕ → Bool
 syncAt f p = eqb (word f 16 p) 0x4489
 
--- "A mark stands at cell p (0 to N-1) where 4489 stands at p, p+16 and p+32"
+-- "A mark stands at cell p .. where 4489 stands at p, p+16 and p+32". Of a sector p is 0 to N-1 (`sectorsOf`); q is counted on past N
 unfoldable pub markAt : (ℕ → ℕ) → ℕ → Bool
 markAt f p = syncAt f p && (syncAt f (p + 16) && syncAt f (p + 32))
 

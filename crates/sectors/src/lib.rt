@@ -276,8 +276,8 @@ fn no_sector() -> Sector
     }
 }
 
-// The functions below take places below 200,000 and check at most 1,024 bytes: no sum of theirs can overflow. A track has at
-// most 131,072 places, and a data mark stands at most the reach past them.
+// The bounds that the functions below ask for keep their sums from overflowing. A track has at most 131,072 places, a data mark stands
+// at most the reach past them, and data has at most 1,024 bytes.
 
 // The record of the ID mark at p.
 fn sector_at(bytes: &[u8], n: usize, p: usize) -> Sector

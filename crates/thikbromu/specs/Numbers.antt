@@ -35,7 +35,7 @@ abbrev pub recordLent : List ℕ → (N T H index : ℕ) → List ℕ → List �
 recordLent bytes N T H index list =
     writtenOver (take (length list) (sectorNumbers (recordBeside (indexAnswer bytes N T H index) (sectorOf bytes N index)))) list
 
--- reading out: the number that the call returns, the value, and the check result, 1 where it is good and 0 beside a refusal
+-- reading out: the number that the call returns, the value, and the lent check result, 1 where it is good. A refused call keeps it
 abbrev pub numberRead : Answer DataRead → ℕ
 numberRead (gives read) = 0
 numberRead (refused number value) = number
@@ -44,6 +44,6 @@ abbrev pub valueRead : Answer DataRead → ℕ
 valueRead (gives read) = read .size
 valueRead (refused number value) = value
 
-abbrev pub checkRead : Answer DataRead → ℕ
-checkRead (gives read) = cond (read .good) 1 0
-checkRead (refused number value) = 0
+abbrev pub checkRead : Answer DataRead → ℕ → ℕ
+checkRead (gives read) before = cond (read .good) 1 0
+checkRead (refused number value) before = before

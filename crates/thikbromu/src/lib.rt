@@ -6,6 +6,7 @@
 //
 // What the boundary asks of a caller in another language: each address is valid for its length, lent memory does not
 // overlap what else is passed, and a bool is 0 or 1. The routines ask nothing of the values.
+use findings::Finding;
 use findings::Found;
 use flux::Counted;
 use flux::Separated;
@@ -28,7 +29,7 @@ ghost use Rattle.flux.specs.Separation.{separatedAnswer, separation, separatedC
 ghost use Rattle.flux.specs.Demand3.{Demand3};
 ghost use Rattle.flux.specs.Histogram.{countedAnswer, counting};
 ghost use Rattle.sectors.specs.Calls.{listedAnswer, indexAnswer, readOutAnswer, readAnswer, dataAfter};
-ghost use Rattle.findings.specs.Calls.{foundAnswer, findingsAnswer, numbersAfter};
+ghost use Rattle.findings.specs.Calls.{foundAnswer, findingsAnswer, listAfter, numbersAfter};
 ghost use Rattle.thikbromu.specs.Numbers.{numberIn, valueIn, countsLent, sectorNumbers, recordLent, numberRead, valueRead, checkRead};
 
 // Cell p of a track of n cells, counted on past n.
@@ -343,7 +344,7 @@ pub extern "C" fn thikbromu_read_out(
 ) -> u32
     ensures number { λ r. ⌜ r ≡ numberRead (readAnswer (now (bytes .entry)) n track side index (length (now (buffer .entry)))) ⌝ }
     ensures value { λ _. ⌜ now (value .exit) ≡ valueRead (readAnswer (now (bytes .entry)) n track side index (length (now (buffer .entry)))) ⌝ }
-    ensures good { λ _. ⌜ now (good .exit) ≡ checkRead (readAnswer (now (bytes .entry)) n track side index (length (now (buffer .entry)))) ⌝ }
+    ensures good { λ _. ⌜ now (good .exit) ≡ checkRead (readAnswer (now (bytes .entry)) n track side index (length (now (buffer .entry)))) (now (good .entry)) ⌝ }
     ensures buffer { λ _. ⌜ now (buffer .exit) ≡ dataAfter (now (bytes .entry)) n track side index (now (buffer .entry)) ⌝ }
 {
     told_read(
@@ -361,7 +362,7 @@ fn one_if(yes: bool) -> u32
 }
 
 fn told_read(read: ReadOut, good: &mut u32, value: &mut usize) -> u32
-    ensures { λ r. ⌜ (r ≡ numberRead (readOutAnswer read)) × (now (value .exit) ≡ valueRead (readOutAnswer read)) × (now (good .exit) ≡ checkRead (readOutAnswer read)) ⌝ }
+    ensures { λ r. ⌜ (r ≡ numberRead (readOutAnswer read)) × (now (value .exit) ≡ valueRead (readOutAnswer read)) × (now (good .exit) ≡ checkRead (readOutAnswer read) (now (good .entry))) ⌝ }
 {
     match read {
         ReadOut::Data(size, check_good) => {
@@ -371,7 +372,6 @@ fn told_read(read: ReadOut, good: &mut u32, value: &mut usize) -> u32
         }
         ReadOut::Refused(refusal) => {
             *value = refusal.value();
-            *good = 0;
             refusal.number()
         }
     }
@@ -396,6 +396,24 @@ pub extern "C" fn thikbromu_findings(
         findings::findings_as_numbers(bytes, n, track, side, list),
         value,
     )
+}
+
+// As thikbromu_findings, on a list of records as C lays them out: kind and level take a byte each, place and detail four. A list
+// has room for as many findings as it has records.
+#[no_mangle]
+pub extern "C" fn thikbromu_finding_records(
+    bytes: &[u8],
+    n: usize,
+    track: u32,
+    side: u32,
+    list: &mut [Finding],
+    value: &mut usize,
+) -> u32
+    ensures number { λ r. ⌜ r ≡ numberIn (findingsAnswer (now (bytes .entry)) n track side (length (now (list .entry)))) ⌝ }
+    ensures value { λ _. ⌜ now (value .exit) ≡ valueIn (findingsAnswer (now (bytes .entry)) n track side (length (now (list .entry)))) ⌝ }
+    ensures list { λ _. ⌜ now (list .exit) ≡ listAfter (now (bytes .entry)) n track side (now (list .entry)) ⌝ }
+{
+    told_found(findings::findings(bytes, n, track, side, list), value)
 }
 
 fn told_found(found: Found, value: &mut usize) -> u32
