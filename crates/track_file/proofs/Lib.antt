@@ -1,0 +1,13 @@
+pub mod Numbers
+pub mod Sections
+pub mod Bytes
+pub mod Endings
+pub mod Portions
+pub mod Taking
+pub mod Staged
+pub mod Judged
+pub mod Lengths
+pub mod Filling
+pub mod Whole
+pub mod Stopping
+pub mod Laws

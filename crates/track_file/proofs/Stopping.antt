@@ -1,0 +1,217 @@
+-- The reader is stopped exactly where a refusal is given at once, and then nothing that follows matters. Assumes nothing.
+use Prim.Native.Nat.{ℕ, zero, suc, _+_, _-_, _<_}
+use mathlib.Core.Path.{_≡_, refl, sym, _∙_, ap, subst}
+use mathlib.Core.Bool.{Bool, true, false, cond, not, _&&_, _||_}
+use mathlib.Core.List.{List, [], _∷_, _++_}
+use native.Mathlib.Omega.{arith}
+use borrow.Author.Tests.{lt-leb, le-leb, eqb-true, eqb-false}
+use lib.Dec.{eqb, ltb}
+use lib.IntN.{pos}
+use lib.ListN.{length, drop, length-drop}
+use Rattle.cells.specs.CellsAndBytes.{bytesFor}
+use Rattle.refusals.specs.declared.Refusal.{Refusal}
+use Rattle.refusals.specs.declared.Refusal.the-variants.{CellCount as CellsRefused, TooManyTimings, NoRoomForCells, NotATrackFile as NoTrackFile}
+use Rattle.track_file.specs.TrackFile.{fourBytes, number, hasCount, refusedAtOnce, fileAnswerIn, fileBuffer}
+use Rattle.track_file.specs.Portions.{startOf, startCells, numberAfter, takenAfter, afterPlaceCount, afterCellCount, afterFluxCount, afterTiming, inPlaceCount, inCellCount, inFluxCount, inTiming, readerAfterByte, readerAfter, cellsAfter, readerThrough, wholeOf, isStopped, finishAnswer, leftAfter, AtOnce}
+use Rattle.track_file.specs.declared.Place.{Place}
+use Rattle.track_file.specs.declared.Number.{Number}
+use Rattle.track_file.specs.declared.Number.the-variants.{Empty, One, Two, Three}
+use Rattle.track_file.specs.declared.TakenTimings.{TakenTimings}
+use Rattle.track_file.specs.declared.Reader.{Reader}
+use Rattle.track_file.specs.declared.Reader.the-variants.{PlaceCount, Track, CellCount, PackedCells, FluxCount, Timings, AllCells, AllTimings, NotATrackFile, Stopped}
+use Rattle.track_file.proofs.Sections.{more-bytes, last-byte}
+use Rattle.track_file.proofs.Endings.{reader-stays, cells-stay}
+use Rattle.track_file.proofs.Portions.{reader-cut, cells-cut, reader-joined}
+use Rattle.track_file.proofs.Taking.{tookWith}
+use Rattle.track_file.proofs.Staged.{ends, no-file-stays, some-of}
+use Rattle.track_file.proofs.Whole.{whole-answer, whole-buffer}
+
+-- whether the reader is stopped after these bytes
+abbrev stops : Reader → List ℕ → Bool
+stops reader bytes = isStopped (readerAfter reader bytes)
+
+stops-stopped : (refusal : Refusal) (bytes : List ℕ) → stops (Stopped refusal) bytes ≡ true
+unfolding isStopped
+stops-stopped refusal bytes = ap isStopped (reader-stays refusal bytes)
+
+stops-no-file : (bytes : List ℕ) → stops NotATrackFile bytes ≡ false
+unfolding isStopped
+stops-no-file bytes = ap isStopped (no-file-stays bytes)
+
+-- whether the flux count fs is refused
+abbrev fluxRefused : List ℕ → Bool
+fluxRefused fs = hasCount fs && ltb 65536 (number fs)
+
+-- whether the cell count cs, or the flux count after it, is refused
+abbrev cellsRefused : List ℕ → Bool
+cellsRefused cs = (hasCount cs && ltb 131072 (number cs)) || fluxRefused (drop (bytesFor (number cs)) (drop 4 cs))
+
+no-cell-count : (cs : List ℕ) → length cs < 4 → false ≡ cellsRefused cs
+no-cell-count cs h =
+    let fs = drop (bytesFor (number cs)) (drop 4 cs) in
+    let l = length-drop (bytesFor (number cs)) (drop 4 cs) in
+    let m = length-drop 4 cs in
+    let k : length fs < 4 = omega arith in
+    rw (lt-leb 4 (length cs) h, lt-leb 4 (length fs) k)
+
+module _ (place : Place) where
+  stops-all-cells : (n : ℕ) (bytes : List ℕ) → stops (AllCells place n) bytes ≡ false
+  unfolding isStopped readerAfter readerAfterByte
+  stops-all-cells n [] = refl
+  stops-all-cells n (byte ∷ bytes) = stops-no-file bytes
+
+  stops-all-timings : (taken : TakenTimings) (bytes : List ℕ) → stops (AllTimings place taken) bytes ≡ false
+  unfolding isStopped readerAfter readerAfterByte
+  stops-all-timings taken [] = refl
+  stops-all-timings taken (byte ∷ bytes) = stops-no-file bytes
+
+  -- among the timings no refusal is given at once
+  stops-timings : (left : ℕ) (n : Number) (taken : TakenTimings) (bytes : List ℕ) → stops (Timings place left n taken) bytes ≡ false
+  unfolding isStopped readerAfter readerAfterByte numberAfter inTiming afterTiming
+  stops-timings left n taken [] = refl
+  stops-timings left Empty taken (byte ∷ bytes) = stops-timings left (One byte) taken bytes
+  stops-timings left (One a) taken (byte ∷ bytes) = stops-timings left (Two a byte) taken bytes
+  stops-timings left (Two a b) taken (byte ∷ bytes) = stops-timings left (Three a b byte) taken bytes
+  stops-timings left (Three a b c) taken (byte ∷ bytes) =
+      go (ltb 1 left) (takenAfter taken (fourBytes a b c byte)) (stops-timings (left - 1) Empty (takenAfter taken (fourBytes a b c byte)) bytes)
+    where
+      go : (x : Bool) (after : TakenTimings) → stops (Timings place (left - 1) Empty after) bytes ≡ false
+          → stops (cond x (Timings place (left - 1) Empty after) (AllTimings place after)) bytes ≡ false
+      go true after e = e
+      go false after e = stops-all-timings after bytes
+
+  after-flux-count : (n v : ℕ) (bytes : List ℕ) → stops (afterFluxCount place n v) bytes ≡ ltb 65536 v
+  unfolding afterFluxCount
+  after-flux-count n v bytes = go (ltb 65536 v) (eqb n 0) (eqb v 0)
+    where
+      go : (x y z : Bool)
+          → stops (cond x (Stopped (TooManyTimings v)) (cond y (cond z NotATrackFile (Timings place v Empty (tookWith 0 0 (pos 0)))) (cond z (AllCells place n) NotATrackFile))) bytes ≡ x
+      go true y z = stops-stopped (TooManyTimings v) bytes
+      go false true true = stops-no-file bytes
+      go false true false = stops-timings v Empty (tookWith 0 0 (pos 0)) bytes
+      go false false true = stops-all-cells n bytes
+      go false false false = stops-no-file bytes
+
+  in-flux-count : (n : ℕ) (fs : List ℕ) → stops (FluxCount place n Empty) fs ≡ fluxRefused fs
+  unfolding isStopped readerAfter readerAfterByte numberAfter inFluxCount
+  in-flux-count n [] = refl
+  in-flux-count n (a ∷ []) = refl
+  in-flux-count n (a ∷ b ∷ []) = refl
+  in-flux-count n (a ∷ b ∷ c ∷ []) = refl
+  in-flux-count n (a ∷ b ∷ c ∷ d ∷ ys) =
+      rw (le-leb 4 (suc (suc (suc (suc (length ys))))) (omega arith)) (after-flux-count n (fourBytes a b c d) ys)
+
+  in-packed : (n k at : ℕ) (xs : List ℕ) → at + suc k ≡ bytesFor n → stops (PackedCells place n at) xs ≡ stops (FluxCount place n Empty) (drop (suc k) xs)
+  unfolding isStopped readerAfter readerAfterByte
+  in-packed n k at [] e = refl
+  in-packed n zero at (x ∷ xs) e = ap (λ (s : Reader). stops s xs) (sym (last-byte place n at (omega arith)))
+  in-packed n (suc k) at (x ∷ xs) e = ap (λ (s : Reader). stops s xs) (sym (more-bytes place n at (omega arith))) ∙ in-packed n k (at + 1) xs (omega arith)
+
+  after-cell-count : (n : ℕ) (xs : List ℕ) → stops (afterCellCount place n) xs ≡ (ltb 131072 n || fluxRefused (drop (bytesFor n) xs))
+  unfolding afterCellCount
+  after-cell-count n xs = go (ltb 131072 n) (eqb n 0) refl
+    where
+      none : (m : ℕ) → m ≡ 0 → stops (FluxCount place 0 Empty) xs ≡ fluxRefused (drop (bytesFor m) xs)
+      none m e = subst (λ (k : ℕ). stops (FluxCount place 0 Empty) xs ≡ fluxRefused (drop (bytesFor k) xs)) (sym e) (in-flux-count 0 xs)
+
+      some : (k : ℕ) → bytesFor n ≡ suc k → stops (PackedCells place n 0) xs ≡ fluxRefused (drop (bytesFor n) xs)
+      some k e =
+          in-packed n k 0 xs (omega arith) ∙ ap (λ (m : ℕ). stops (FluxCount place n Empty) (drop m xs)) (sym e) ∙ in-flux-count n (drop (bytesFor n) xs)
+
+      go : (x y : Bool) → eqb n 0 ≡ y
+          → stops (cond x (Stopped (CellsRefused n)) (cond y (FluxCount place 0 Empty) (PackedCells place n 0))) xs ≡ (x || fluxRefused (drop (bytesFor n) xs))
+      go true y b = stops-stopped (CellsRefused n) xs
+      go false true b = none n (eqb-true n 0 b)
+      go false false b = some (bytesFor n - 1) (omega (arith, some-of n (eqb-false n 0 b)))
+
+  in-cell-count : (cs : List ℕ) → stops (CellCount place Empty) cs ≡ cellsRefused cs
+  unfolding isStopped readerAfter readerAfterByte numberAfter inCellCount
+  in-cell-count [] = no-cell-count [] (omega arith)
+  in-cell-count (a ∷ []) = no-cell-count (a ∷ []) (omega arith)
+  in-cell-count (a ∷ b ∷ []) = no-cell-count (a ∷ b ∷ []) (omega arith)
+  in-cell-count (a ∷ b ∷ c ∷ []) = no-cell-count (a ∷ b ∷ c ∷ []) (omega arith)
+  in-cell-count (a ∷ b ∷ c ∷ d ∷ xs) = rw (le-leb 4 (suc (suc (suc (suc (length xs))))) (omega arith)) (after-cell-count (fourBytes a b c d) xs)
+
+no-place-count : (file : List ℕ) → length file < 4 → false ≡ refusedAtOnce file
+unfolding refusedAtOnce
+no-place-count file h =
+    let l = length-drop 6 file in
+    rw (lt-leb 4 (length file) h) (no-cell-count (drop 6 file) (omega arith))
+
+in-place-count : (file : List ℕ) → stops (PlaceCount Empty) file ≡ refusedAtOnce file
+unfolding isStopped readerAfter readerAfterByte numberAfter inPlaceCount afterPlaceCount refusedAtOnce
+in-place-count [] = no-place-count [] (omega arith)
+in-place-count (a ∷ []) = no-place-count (a ∷ []) (omega arith)
+in-place-count (a ∷ b ∷ []) = no-place-count (a ∷ b ∷ []) (omega arith)
+in-place-count (a ∷ b ∷ c ∷ []) = no-place-count (a ∷ b ∷ c ∷ []) (omega arith)
+in-place-count (a ∷ b ∷ c ∷ d ∷ []) = go (eqb (fourBytes a b c d) 2)
+  where
+    go : (x : Bool) → isStopped (cond x Track (Stopped NoTrackFile)) ≡ (not x || cellsRefused [])
+    go true = no-cell-count [] (omega arith)
+    go false = refl
+in-place-count (a ∷ b ∷ c ∷ d ∷ t ∷ []) = go (eqb (fourBytes a b c d) 2)
+  where
+    go : (x : Bool) → isStopped (readerAfterByte (cond x Track (Stopped NoTrackFile)) t) ≡ (not x || cellsRefused [])
+    go true = no-cell-count [] (omega arith)
+    go false = refl
+in-place-count (a ∷ b ∷ c ∷ d ∷ t ∷ h ∷ cs) =
+    rw (le-leb 4 (suc (suc (suc (suc (suc (suc (length cs))))))) (omega arith)) (go (eqb (fourBytes a b c d) 2))
+  where
+    go : (x : Bool) → stops (cond x Track (Stopped NoTrackFile)) (t ∷ h ∷ cs) ≡ (not x || cellsRefused cs)
+    go true = in-cell-count (record { track = t; side = h }) cs
+    go false = stops-stopped NoTrackFile cs
+
+from-start : (room : ℕ) (file : List ℕ) → stops (startOf room) file ≡ (ltb room 16384 || refusedAtOnce file)
+unfolding startOf
+from-start room file = go (ltb room 16384)
+  where
+    go : (x : Bool) → stops (cond x (Stopped (NoRoomForCells 16384)) (PlaceCount Empty)) file ≡ (x || refusedAtOnce file)
+    go true = stops-stopped (NoRoomForCells 16384) file
+    go false = in-place-count file
+
+-- after a reader that is stopped nothing matters
+module _ (buffer file : List ℕ) (refusal : Refusal) (is : readerAfter (startOf (length buffer)) file ≡ Stopped refusal) (rest : List ℕ) where
+  abbrev start : Reader
+  start = startOf (length buffer)
+
+  still : readerAfter start (file ++ rest) ≡ readerAfter start file
+  still = reader-cut start file rest ∙ ap (λ (s : Reader). readerAfter s rest) is ∙ reader-stays refusal rest ∙ sym is
+
+  same-answer : fileAnswerIn (length buffer) (file ++ rest) ≡ fileAnswerIn (length buffer) file
+  same-answer = sym (whole-answer (length buffer) (file ++ rest)) ∙ ap finishAnswer still ∙ whole-answer (length buffer) file
+
+  same-buffer : fileBuffer buffer (file ++ rest) ≡ fileBuffer buffer file
+  same-buffer =
+      sym (whole-buffer buffer (file ++ rest))
+      ∙ ap (λ (s : Reader). leftAfter (finishAnswer s) (cellsAfter start (file ++ rest) (startCells buffer))) still
+      ∙ ap (leftAfter (ends start file))
+      (cells-cut start file rest (startCells buffer) ∙ ap (λ (s : Reader). cellsAfter s rest (cellsAfter start file (startCells buffer))) is
+      ∙ cells-stay refusal rest (cellsAfter start file (startCells buffer)))
+      ∙ whole-buffer buffer file
+
+-- all that `stopped` promises
+exactly-at-once : (reader : Reader) {answer : Bool} → answer ≡ isStopped reader → (buffer : List ℕ) (portions : List (List ℕ)) → reader ≡ readerThrough buffer portions
+    → answer ≡ (ltb (length buffer) 16384 || refusedAtOnce (wholeOf portions))
+exactly-at-once reader e buffer portions is =
+    e ∙ ap isStopped (is ∙ reader-joined (startOf (length buffer)) portions) ∙ from-start (length buffer) (wholeOf portions)
+
+pub is-stopped : (reader : Reader) {refusal : Refusal} → reader ≡ Stopped refusal → (true ≡ isStopped reader) × AtOnce reader true
+unfolding isStopped
+is-stopped reader {refusal} e =
+    let yes = ap isStopped (sym e) in (
+      yes,
+      record {
+        exactly = exactly-at-once reader yes;
+        settled = λ t buffer portions is rest.
+            let r = sym (reader-joined (startOf (length buffer)) portions) ∙ sym is ∙ e in
+            (same-answer buffer (wholeOf portions) refusal r rest, same-buffer buffer (wholeOf portions) refusal r rest);
+      },
+    )
+
+pub not-stopped : (reader a : Reader) → reader ≡ a → false ≡ isStopped a → (false ≡ isStopped reader) × AtOnce reader false
+not-stopped reader a e f =
+    let no = f ∙ ap isStopped (sym e) in
+    (no, record { exactly = exactly-at-once reader no; settled = λ t buffer portions is rest. absurd (differ t) })
+  where
+    differ : false ≡ true → ⊥
+    differ t = let z : _≡_ {A = ℕ} 0 1 = cc in omega arith

@@ -1,0 +1,56 @@
+-- `track_file::feed` meets its contract: after i turns what is left of the portion leads to the same end. Assumes nothing.
+use Prim.Native.Nat.{_-_}
+use native.Mathlib.Omega.{arith}
+use borrow.Author.Needs.{needs}
+use lib.ListN.{length}
+use Rattle.track_file.proofs.Portions.{Fed, none-fed, one-more-fed, all-fed}
+use Rattle.track_file.proofs.feed.Statement.{statement}
+use Rattle.track_file.proofs.feed.Tie as tie
+
+abbrev Inv-loop : tie.InvT-loop
+Inv-loop portion cells₀ at₀ i₀ cells at i = Fed portion cells₀ at₀ cells at i
+
+abbrev μ-loop : tie.MeasureT-loop
+μ-loop portion cells₀ at₀ i₀ cells at i = length portion - i
+
+loop-holds : tie.Need-loop-holds Inv-loop μ-loop
+loop-holds c = none-fed _ _ _
+
+shared-slice-read-feed-byte : tie.Need-shared-slice-read-feed-byte Inv-loop μ-loop
+shared-slice-read-feed-byte c = search needs
+
+feed-byte-requires : tie.Need-feed-byte-requires Inv-loop μ-loop
+feed-byte-requires c κs = search needs
+
+add-i : tie.Need-add-i Inv-loop μ-loop
+add-i c = search needs
+
+loop-less : tie.Need-loop-less Inv-loop μ-loop
+loop-less c = search needs
+
+loop-again : tie.Need-loop-again Inv-loop μ-loop
+loop-again c =
+    let b = c .before .before in
+    let l = b .before .before .before .before in
+    one-more-fed (l .loop .inv) (b .before .before .before .loop-test .taken) (b .feed-byte .ensures) (b .feed-byte .kept .1 .1 .0)
+
+same-length : tie.Need-same-length Inv-loop μ-loop
+same-length c = c .before .loop .inv .long
+
+returns : tie.Need-returns Inv-loop μ-loop
+returns c = all-fed (c .before .loop .inv) (omega arith)
+
+pub feed-spec : {M : Type 1} → statement M
+feed-spec =
+    tie.close
+    (tie.spec
+    Inv-loop
+    μ-loop
+    loop-holds
+    shared-slice-read-feed-byte
+    feed-byte-requires
+    add-i
+    loop-less
+    loop-again
+    same-length
+    returns)

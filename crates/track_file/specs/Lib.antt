@@ -1,0 +1,2 @@
+pub mod TrackFile
+pub mod Portions
