@@ -1,0 +1,27 @@
+-- `listing::whole_file::list_file` meets its contract. Assumes nothing.
+use borrow.Author.Needs.{needs}
+use Rattle.listing.proofs.Whole.{told-file}
+use Rattle.listing.proofs.whole_file.list_file.Statement.{statement}
+use Rattle.listing.proofs.whole_file.list_file.Tie as tie
+
+finish-requires : tie.Need-finish-requires
+finish-requires c κs = search needs
+
+list-read-requires : tie.Need-list-read-requires
+list-read-requires c κs = search needs
+
+same-length : tie.Need-same-length
+same-length c = search needs
+
+same-length-2 : tie.Need-same-length-2
+same-length-2 c = search needs
+
+returns : tie.Need-returns
+returns c =
+    let finish = c .before .before .before .before .before .before .before .finish .ensures in
+    let list = c .before .before .list-read .ensures in
+    told-file _ _ _ _ _ _ _ (finish .1 .1) list _ _ (finish .0) (finish .1 .0)
+
+pub list-file-spec : {M : Type 1} → statement M
+list-file-spec =
+    tie.close (tie.spec finish-requires list-read-requires same-length same-length-2 returns)
