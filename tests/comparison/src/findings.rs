@@ -1,7 +1,7 @@
 //! 01, "Findings": the list of a track's findings.
 
-use crate::library;
-use crate::report::{Group, Lent};
+use crate::library::{self, FindingRecord};
+use crate::report::{Element, Group, Lent};
 use second_program::cells;
 use second_program::findings::{self, Finding};
 use second_program::random::Random;
@@ -10,6 +10,24 @@ use second_program::track_builder::{odd_track, standard_track, turn, SectorPlan,
 /// Findings as the library's numbers, four for each.
 fn numbers(list: &[Finding]) -> Vec<u32> {
     list.iter().flat_map(|f| [f.kind, f.level, f.place as u32, f.detail as u32]).collect()
+}
+
+/// Findings as the library's records.
+fn records(list: &[Finding]) -> Vec<FindingRecord> {
+    list.iter()
+        .map(|f| FindingRecord {
+            kind: f.kind as u8,
+            level: f.level as u8,
+            place: f.place as u32,
+            detail: f.detail as u32,
+        })
+        .collect()
+}
+
+impl Element for FindingRecord {
+    fn from_pattern(pattern: u32) -> FindingRecord {
+        FindingRecord { kind: pattern as u8, level: (pattern >> 8) as u8, place: pattern, detail: !pattern }
+    }
 }
 
 /// One call: the answer, the list and the bytes afterwards. `room` counts numbers.
@@ -26,7 +44,21 @@ fn case(group: &mut Group, bytes: &[u8], n: usize, drive: (u32, u32), room: usiz
     );
 }
 
-/// A track with a list that is too short by one number, just long enough, and longer.
+/// As `case`, on a list of records. `room` counts records.
+fn record_case(group: &mut Group, bytes: &[u8], n: usize, drive: (u32, u32), room: usize) {
+    let input = bytes.to_vec();
+    let mut lent: Lent<FindingRecord> = Lent::new(room);
+    let ours = library::finding_records(&input, n, drive.0, drive.1, lent.part());
+    let second = findings::findings(drive.0, drive.1, bytes, n, room);
+    let written = second.as_ref().map(|list| records(list)).unwrap_or_default();
+    group.same(
+        ((ours, lent.into_all()), input.as_slice()),
+        ((second.map(|list| list.len()), Lent::expected(room, &written)), bytes),
+        || format!("n {n}, T {}, H {}, room for {room} records", drive.0, drive.1),
+    );
+}
+
+/// A track with a list that is too short by one number or record, just long enough, and longer.
 fn whole_track(group: &mut Group, seen: &mut [usize; 22], track_cells: &[u8], drive: (u32, u32)) {
     let bytes = cells::pack(track_cells);
     let n = track_cells.len();
@@ -35,12 +67,15 @@ fn whole_track(group: &mut Group, seen: &mut [usize; 22], track_cells: &[u8], dr
             for finding in &list {
                 seen[finding.kind as usize] += 1;
             }
-            4 * list.len()
+            list.len()
         }
         Err(_) => 0,
     };
-    for room in [needed, needed.saturating_sub(1), needed + 7] {
+    for room in [4 * needed, (4 * needed).saturating_sub(1), 4 * needed + 7] {
         case(group, &bytes, n, drive, room);
+    }
+    for room in [needed, needed.saturating_sub(1), needed + 2] {
+        record_case(group, &bytes, n, drive, room);
     }
 }
 

@@ -5,6 +5,16 @@
 
 use second_program::refusal::Refusal;
 
+/// A finding as the library lays it out for C.
+#[repr(C)]
+#[derive(Clone, Copy, Debug, PartialEq, Eq)]
+pub struct FindingRecord {
+    pub kind: u8,
+    pub level: u8,
+    pub place: u32,
+    pub detail: u32,
+}
+
 extern "C" {
     fn thikbromu_cell(bytes: *const u8, length: usize, n: usize, p: usize) -> u64;
     fn thikbromu_word(bytes: *const u8, length: usize, n: usize, p: usize, k: usize) -> u64;
@@ -77,6 +87,16 @@ extern "C" {
         track: u32,
         side: u32,
         list: *mut u32,
+        room: usize,
+        value: *mut usize,
+    ) -> u32;
+    fn thikbromu_finding_records(
+        bytes: *const u8,
+        length: usize,
+        n: usize,
+        track: u32,
+        side: u32,
+        list: *mut FindingRecord,
         room: usize,
         value: *mut usize,
     ) -> u32;
@@ -223,6 +243,7 @@ pub fn read_out(
             &mut value,
         )
     };
+    assert!(number == 0 || good == u32::MAX, "a refused call writes nothing");
     answer(number, value).map(|length| (length, good == 1))
 }
 
@@ -231,6 +252,30 @@ pub fn findings(bytes: &[u8], n: usize, track: u32, side: u32, list: &mut [u32])
     let mut value = usize::MAX;
     let number = unsafe {
         thikbromu_findings(bytes.as_ptr(), bytes.len(), n, track, side, list.as_mut_ptr(), list.len(), &mut value)
+    };
+    answer(number, value)
+}
+
+/// The findings in a list of records: their number, or the refusal.
+pub fn finding_records(
+    bytes: &[u8],
+    n: usize,
+    track: u32,
+    side: u32,
+    list: &mut [FindingRecord],
+) -> Result<usize, Refusal> {
+    let mut value = usize::MAX;
+    let number = unsafe {
+        thikbromu_finding_records(
+            bytes.as_ptr(),
+            bytes.len(),
+            n,
+            track,
+            side,
+            list.as_mut_ptr(),
+            list.len(),
+            &mut value,
+        )
     };
     answer(number, value)
 }

@@ -1,0 +1,262 @@
+//! 01, "Track file and listing": the program `track_listing` beside the second program, on whole files and on files that come in
+//! portions.
+
+use crate::report::Group;
+use second_program::flux_tracks::timings_of_cells;
+use second_program::listing::listing;
+use second_program::random::Random;
+use second_program::track_builder::{odd_track, standard_track};
+use second_program::track_file::at_once;
+use second_program::track_files::{self, NamedFile};
+use std::fs::File;
+use std::io::{ErrorKind, Read, Write};
+use std::os::fd::OwnedFd;
+use std::os::unix::net::UnixDatagram;
+use std::process::{Child, Command, Stdio};
+use std::time::{Duration, Instant};
+
+/// The program, as `rt ci` builds it.
+fn program() -> Command {
+    Command::new(concat!(env!("CARGO_MANIFEST_DIR"), "/../../target/bin/track_listing"))
+}
+
+fn started(input: Stdio) -> Child {
+    program().stdin(input).stdout(Stdio::piped()).spawn().expect("target/bin/track_listing")
+}
+
+/// What the program prints for a file that comes through a pipe.
+fn through_pipe(file: &[u8]) -> Vec<u8> {
+    let mut child = started(Stdio::piped());
+    let mut input = child.stdin.take().expect("a pipe");
+    // The program may stop reading before the end.
+    if let Err(error) = input.write_all(file) {
+        assert_eq!(error.kind(), ErrorKind::BrokenPipe);
+    }
+    drop(input);
+    printed(child)
+}
+
+/// What the program prints for a file that comes in these portions, none of them empty: each read gets one of them, since a
+/// datagram is read whole. An empty datagram is the end of the input.
+fn in_portions<'a>(portions: impl Iterator<Item = &'a [u8]>) -> Vec<u8> {
+    let (ours, theirs) = UnixDatagram::pair().expect("a pair of sockets");
+    let child = started(Stdio::from(OwnedFd::from(theirs)));
+    for portion in portions.chain([&[] as &[u8]]) {
+        // The program may stop reading before the end.
+        if let Err(error) = ours.send(portion) {
+            let kind = error.kind();
+            assert!(kind == ErrorKind::ConnectionRefused || kind == ErrorKind::ConnectionReset || kind == ErrorKind::BrokenPipe, "{error}");
+            break;
+        }
+    }
+    printed(child)
+}
+
+fn printed(child: Child) -> Vec<u8> {
+    child.wait_with_output().expect("the program's output").stdout
+}
+
+fn text(bytes: &[u8]) -> String {
+    String::from_utf8_lossy(bytes).into_owned()
+}
+
+/// The number of the kind of a finding's line; none of a header or a refusal.
+fn kind_of(line: &str) -> Option<usize> {
+    line.split(' ').next()?.parse().ok()
+}
+
+/// Every kind and every refusal that the program can give stands in some listing.
+struct Seen {
+    kinds: [usize; 22],
+    refusals: [usize; 16],
+}
+
+impl Seen {
+    fn note(&mut self, listing: &str) {
+        for line in listing.lines() {
+            if let Some(kind) = kind_of(line) {
+                self.kinds[kind] += 1;
+            }
+        }
+        if let Some(number) = listing.strip_prefix("refused ") {
+            self.refusals[number.trim().parse::<usize>().expect("a number")] += 1;
+        }
+    }
+}
+
+/// Many files, whole: sound and broken ones.
+pub fn whole_files(totals: &mut (usize, usize)) {
+    let mut group = Group::new("the program on whole files");
+    let mut seen = Seen { kinds: [0; 22], refusals: [0; 16] };
+    for file in track_files::files() {
+        let expected = text(&listing(&file.bytes));
+        seen.note(&expected);
+        group.same(text(&through_pipe(&file.bytes)), expected, || file.name.clone());
+    }
+    for kind in 1..=21 {
+        group.same(seen.kinds[kind] > 0, true, || format!("kind {kind} was reached"));
+    }
+    // 3 gives way to 15, 6 to 15, and there is always room: 5 and 10 do not arise. 11 to 14 are of other calls.
+    for number in [1, 2, 4, 7, 8, 9, 15] {
+        group.same(seen.refusals[number] > 0, true, || format!("refusal {number} was reached"));
+    }
+    group.close(totals);
+}
+
+/// Ten files for portions: cells and timings, sound, odd and broken.
+fn ten_files() -> Vec<NamedFile> {
+    let mut random = Random::new(61);
+    let mut files = Vec::new();
+    let mut add = |name: &str, bytes: Vec<u8>| files.push(NamedFile { name: name.to_string(), bytes });
+    let standard = standard_track(0, 0, 0xE5);
+    let odd = odd_track(&mut random, 33);
+    add("standard track", track_files::file_of_cells(0, 0, &standard));
+    add("standard track as timings", track_files::file_of_timings(0, 0, &timings_of_cells(&standard)));
+    add("odd track", track_files::file_of_cells(33, 1, &odd));
+    add("odd track as timings", track_files::file_of_timings(33, 1, &timings_of_cells(&odd)));
+    add("131,069 cells", track_files::file_of_cells(82, 0, &vec![1; 131_069]));
+    add("20,000 cells from four timings", track_files::file_of_timings(79, 0, &[10_000_000; 4]));
+    add("a timing out of range", track_files::file_of_timings(1, 0, &[4_000, 4_000, 10_000_001, 0, 4_000]));
+    add("too many cells", track_files::file_of_timings(1, 0, &[10_000_000; 30]));
+    let mut left_over = track_files::file_of_cells(2, 0, &vec![0; 20_001]);
+    left_over.extend([0; 70]);
+    add("bytes left over", left_over);
+    add("65,536 timings", track_files::file_of_timings(3, 0, &vec![4_000; 65_536]));
+    files
+}
+
+/// Files that come in portions, and the same files cut short.
+pub fn portions(totals: &mut (usize, usize)) {
+    let mut group = Group::new("the program on files in portions");
+    let mut random = Random::new(62);
+    for file in ten_files() {
+        let bytes = &file.bytes;
+        let expected = text(&listing(bytes));
+        for size in [1, 3, 7, 4_096, 65_535, 65_536] {
+            let given = || format!("{} in portions of {size}", file.name);
+            group.same(text(&in_portions(bytes.chunks(size))), expected.clone(), given);
+        }
+        let length = bytes.len();
+        let ends = (1..=64).chain(length.saturating_sub(64)..length);
+        let between = (0..40).map(|_| 1 + random.below(length as u64 - 1) as usize);
+        let places: Vec<usize> = ends.chain(between).filter(|&place| 0 < place && place < length).collect();
+        for place in places {
+            // A datagram holds at most the 65,536 bytes that one read takes.
+            let (front, back) = bytes.split_at(place);
+            let parts = front.chunks(65_536).chain(back.chunks(65_536));
+            group.same(text(&in_portions(parts)), expected.clone(), || format!("{} in two at {place}", file.name));
+            let short = text(&listing(front));
+            group.same(text(&through_pipe(front)), short, || format!("{} cut short at {place}", file.name));
+        }
+        for _ in 0..10 {
+            let mut parts = Vec::new();
+            let mut rest = bytes.as_slice();
+            while !rest.is_empty() {
+                let most = 1 << random.below(17);
+                let size = (1 + random.below(most) as usize).min(rest.len());
+                let (part, left) = rest.split_at(size);
+                parts.push(part);
+                rest = left;
+            }
+            let given = || format!("{} in {} portions", file.name, parts.len());
+            group.same(text(&in_portions(parts.iter().copied())), expected.clone(), given);
+        }
+    }
+    group.close(totals);
+}
+
+/// Waits until the program has ended, for at most so long; whether it has.
+fn ends_within(child: &mut Child, time: Duration) -> bool {
+    let start = Instant::now();
+    loop {
+        if child.try_wait().expect("the program's state").is_some() {
+            return true;
+        }
+        if start.elapsed() >= time {
+            return false;
+        }
+        std::thread::sleep(Duration::from_millis(2));
+    }
+}
+
+/// When the program stops reading, and inputs and outputs that fail.
+pub fn system(totals: &mut (usize, usize)) {
+    let mut group = Group::new("the program and the system");
+    // A refusal that is given at once does not wait for the end of the input; everything else does.
+    let place = [2, 0, 0, 0, 5, 0];
+    let number = |value: u32| value.to_le_bytes().to_vec();
+    let after_place = |more: &[Vec<u8>]| [place.to_vec(), more.concat()].concat();
+    let prefixes = [
+        ("place count 3", number(3)),
+        ("place count 2 to the power of 25", number(1 << 25)),
+        ("131,073 cells", after_place(&[number(131_073)])),
+        ("65,537 timings", after_place(&[number(0), number(65_537)])),
+        ("65,537 timings after cells", after_place(&[number(8), vec![0xAA], number(65_537)])),
+        ("three bytes", vec![9, 9, 9]),
+        ("131,072 cells", after_place(&[number(131_072)])),
+        ("65,536 timings", after_place(&[number(0), number(65_536)])),
+        ("both counts", after_place(&[number(8), vec![0xAA], number(1), number(4_000)])),
+        ("neither count", after_place(&[number(0), number(0)])),
+        ("bytes left over", after_place(&[number(8), vec![0xAA], number(0), vec![0]])),
+        ("a timing out of range", after_place(&[number(0), number(2), number(0)])),
+    ];
+    for (name, prefix) in prefixes {
+        let mut child = started(Stdio::piped());
+        let mut input = child.stdin.take().expect("a pipe");
+        input.write_all(&prefix).expect("the program reads");
+        let stops = at_once(&prefix).is_some();
+        let patience = Duration::from_millis(if stops { 20_000 } else { 100 });
+        group.same(ends_within(&mut child, patience), stops, || format!("{name}, the input still open"));
+        drop(input);
+        group.same(text(&printed(child)), text(&listing(&prefix)), || name.to_string());
+    }
+    // No input, or one that cannot be read: nothing is known of a file, and nothing is said.
+    let in_shell = |redirection: &str| {
+        let command = format!("\"$0\" {redirection}");
+        let mut shell = Command::new("sh");
+        shell.args(["-c", &command]).arg(program().get_program()).stdin(Stdio::null());
+        shell.output().expect("sh")
+    };
+    for redirection in ["<&-", "< /", "< /proc/self/mem"] {
+        let output = in_shell(redirection);
+        group.same((text(&output.stdout), output.status.success()), (String::new(), true), || redirection.to_string());
+    }
+    // An output that cannot be written: the program ends all the same.
+    for redirection in [">&-", "> /dev/full"] {
+        let output = in_shell(redirection);
+        group.same((text(&output.stderr), output.status.success()), (String::new(), true), || redirection.to_string());
+    }
+    // A reader that goes away before the listing is written: the program is ended by the system, or ends.
+    let mut child = started(Stdio::piped());
+    drop(child.stdout.take());
+    let mut input = child.stdin.take().expect("a pipe");
+    input.write_all(&track_files::file_of_cells(5, 0, &vec![1; 20_000])).expect("the program reads");
+    drop(input);
+    group.same(ends_within(&mut child, Duration::from_secs(20)), true, || "the output's reader has gone".to_string());
+    // An empty input is a short file; so is a file on the disk, read as such.
+    group.same(text(&through_pipe(&[])), "refused 15\n".to_string(), || "no bytes".to_string());
+    let mut own = Vec::new();
+    let path = std::env::current_exe().expect("a path");
+    File::open(&path).and_then(|mut file| file.read_to_end(&mut own)).expect("this program");
+    let child = started(Stdio::from(File::open(&path).expect("this program")));
+    group.same(text(&printed(child)), text(&listing(&own)), || "a file that is no track file".to_string());
+    group.close(totals);
+}
+
+/// The shipped samples: both programs give the listings beside them.
+pub fn samples(totals: &mut (usize, usize)) {
+    let mut group = Group::new("samples");
+    let folder = concat!(env!("CARGO_MANIFEST_DIR"), "/../../samples");
+    for entry in std::fs::read_dir(folder).expect("samples") {
+        let path = entry.expect("an entry").path();
+        if path.extension().is_some_and(|extension| extension == "track") {
+            let file = std::fs::read(&path).expect("a sample");
+            let expected = text(&std::fs::read(path.with_extension("listing")).expect("the sample's listing"));
+            let name = || path.display().to_string();
+            group.same(text(&listing(&file)), expected.clone(), name);
+            let child = started(Stdio::from(File::open(&path).expect("a sample")));
+            group.same(text(&printed(child)), expected, name);
+        }
+    }
+    group.close(totals);
+}
