@@ -4,7 +4,6 @@ use mathlib.Core.Path.{_≡_, refl, sym, _∙_, ap}
 use mathlib.Core.Bool.{Bool, true, false, cond}
 use mathlib.Core.List.{List, [], _∷_, _++_}
 use native.Mathlib.Decide.{ℕ-discrete}
-use native.Mathlib.Nat.{min-eq-left}
 use native.Mathlib.Numerals.{add-one}
 use native.Mathlib.Omega.{arith}
 use borrow.Author.Tests.{ltb-false, eqb-true, eqb-false}
@@ -13,15 +12,10 @@ use lib.IntN.{pos}
 use lib.ListN.{length, set, take, drop, replicate, length-drop, length-replicate}
 use lib.Seq.{sets, sets-eq, length-take-le}
 use Rattle.basis.specs.Lists.{writtenOver}
-use Rattle.cells.specs.CellsAndBytes.{bytesFor, packed, cleared}
-use Rattle.refusals.specs.RefusedCalls.{Answer}
-use Rattle.refusals.specs.RefusedCalls.Answer.{gives, refused}
-use Rattle.refusals.specs.declared.Refusal.{Refusal}
+use Rattle.cells.specs.CellsAndBytes.{bytesFor, packed}
+use Rattle.refusals.specs.RefusedCalls.Answer.{gives}
 use Rattle.refusals.specs.declared.Refusal.the-variants.{CellCount as CellsRefused, TooManyTimings, NotATrackFile as NoTrackFile}
-use Rattle.flux.specs.Separation.{cellsOf, firstOut, separation}
-use Rattle.flux.proofs.FirstOut.{out-within}
-use Rattle.flux.proofs.Lifted.{kept-none}
-use Rattle.flux.proofs.Writing.{front-cleared, front-whole}
+use Rattle.flux.specs.Separation.{cellsOf}
 use Rattle.track_file.specs.TrackFile.{fourBytes, number, numbers, Content, placed, fileCells}
 use Rattle.track_file.specs.Portions.{numberAfter, takenAfter, takenCells, afterPlaceCount, afterCellCount, afterFluxCount, inPlaceCount, inCellCount, inFluxCount, inTiming, inTimingCells, readerAfterByte, cellsAfterByte, readerAfter, cellsAfter, finishAnswer}
 use Rattle.track_file.specs.declared.Place.{Place}
@@ -30,60 +24,9 @@ use Rattle.track_file.specs.declared.TakenTimings.{TakenTimings}
 use Rattle.track_file.specs.declared.Reader.{Reader}
 use Rattle.track_file.specs.declared.Reader.the-variants.{PlaceCount, Track, CellCount, PackedCells, FluxCount, Timings, AllCells, NotATrackFile, Stopped}
 use Rattle.track_file.proofs.Sections.{more-bytes, last-byte}
-use Rattle.track_file.proofs.Taking.{cellsOver, tookWith, separation-is, taken-answer, over-cells}
+use Rattle.track_file.proofs.Taking.{cellsOver, tookWith, taken-answer}
+use Rattle.track_file.proofs.TimingCells.{never, zeros, accepted, timings-filled}
 use Rattle.track_file.proofs.Staged.{ends, ends-stopped, ends-no-file, length-numbers, some-of, next-timing, timings-whole, timings-not-whole, packed-end}
-
-pub never : {X : Type 0} {number value : ℕ} {content : Content} → _≡_ {A = Answer Content} (refused number value) (gives content) → X
-never e = let z : _≡_ {A = ℕ} 0 1 = cc in let y : ⊥ = omega arith in absurd y
-
-abbrev zeros : ℕ → List ℕ
-zeros room = replicate room 0
-
--- zeros are a buffer whose front is cleared
-zeros-split : (k room : ℕ) → k ≤ room → zeros room ≡ zeros k ++ drop k (zeros room)
-zeros-split zero room h = refl
-zeros-split (suc k) zero h = absurd (omega arith)
-zeros-split (suc k) (suc room) h = ap (λ (x : List ℕ). 0 ∷ x) (zeros-split k room (omega arith))
-
-zeros-cleared : (k room : ℕ) → k ≤ room → zeros room ≡ cleared k (zeros room)
-unfolding cleared
-zeros-cleared k room h = rw (length-replicate {A = ℕ} room 0, min-eq-left h, length-replicate {A = ℕ} k 0) (zeros-split k room h)
-
--- timings that the separator accepts
-record Accepted (ts : List ℕ) : Type 0 where
-  all : firstOut ts ≡ length ts
-  few : length (cellsOf ts) ≤ 131072
-
-accepted : (track side : ℕ) (ts : List ℕ) → (length ts ≡ 0 → ⊥) → length ts ≤ 65536 → {content : Content} → placed track side (separation ts 16384) ≡ gives content → Accepted ts
-accepted track side ts some small {content} e =
-    go (ltb (firstOut ts) (length ts)) (ltb 131072 (length (cellsOf ts))) refl refl
-    (ap (placed track side) (separation-is ts some small 16384 (omega arith)) ∙ e)
-  where
-    go : (x y : Bool) → ltb (firstOut ts) (length ts) ≡ x → ltb 131072 (length (cellsOf ts)) ≡ y
-        → placed track side (cond x (refused 8 (firstOut ts)) (cond y (refused 9 (length (cellsOf ts))) (gives (length (cellsOf ts))))) ≡ gives content → Accepted ts
-    go true y a b e = never e
-    go false true a b e = never e
-    go false false a b e =
-        let h = ltb-false (firstOut ts) (length ts) a in
-        record { all = omega (arith, out-within ts); few = ltb-false 131072 (length (cellsOf ts)) b }
-
--- the cells of accepted timings, from zeros
-timings-filled : (room : ℕ) → 16384 ≤ room → (ts : List ℕ) → length ts ≤ 65536 → Accepted ts
-    → cellsOver (tookWith 0 0 (pos 0)) ts (zeros room) ≡ writtenOver (packed (cellsOf ts)) (zeros room)
-timings-filled room big ts small ok =
-    let needed = bytesFor (length (cellsOf ts)) in
-    let k = ok .few in
-    let h : needed ≤ room = omega arith in
-    let l : length (zeros room) ≡ room = length-replicate room 0 in
-    ap (cellsOver (tookWith 0 0 (pos 0)) ts) (front-cleared needed (zeros room) (omega arith) (zeros-cleared needed room h))
-    ∙ over-cells needed (omega arith) (drop needed (zeros room)) ts 0 0 (pos 0) [] (kept-none 1000 (omega arith)) (omega arith) (omega arith) refl
-    (λ i. omega arith) (ok .all) (omega arith)
-    ∙ front-whole (cellsOf ts) needed (zeros room) refl
-
-stopped-stays : (refusal : Refusal) (bytes buffer : List ℕ) → cellsAfter (Stopped refusal) bytes buffer ≡ buffer
-unfolding cellsAfter readerAfterByte cellsAfterByte
-stopped-stays refusal [] buffer = refl
-stopped-stays refusal (byte ∷ bytes) buffer = stopped-stays refusal bytes buffer
 
 no-file-stays : (bytes buffer : List ℕ) → cellsAfter NotATrackFile bytes buffer ≡ buffer
 unfolding cellsAfter readerAfterByte cellsAfterByte

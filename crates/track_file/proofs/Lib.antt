@@ -4,10 +4,12 @@ pub mod Bytes
 pub mod Endings
 pub mod Portions
 pub mod Taking
+pub mod TimingCells
 pub mod Staged
 pub mod Judged
 pub mod Lengths
 pub mod Filling
 pub mod Whole
 pub mod Stopping
+pub mod Settling
 pub mod Laws

@@ -1,8 +1,8 @@
--- The reader is stopped exactly where a refusal is given at once, and then nothing that follows matters. Assumes nothing.
+-- The reader is stopped exactly where a refusal is given at once. Assumes nothing.
 use Prim.Native.Nat.{ℕ, zero, suc, _+_, _-_, _<_}
 use mathlib.Core.Path.{_≡_, refl, sym, _∙_, ap, subst}
 use mathlib.Core.Bool.{Bool, true, false, cond, not, _&&_, _||_}
-use mathlib.Core.List.{List, [], _∷_, _++_}
+use mathlib.Core.List.{List, [], _∷_}
 use native.Mathlib.Omega.{arith}
 use borrow.Author.Tests.{lt-leb, le-leb, eqb-true, eqb-false}
 use lib.Dec.{eqb, ltb}
@@ -11,8 +11,8 @@ use lib.ListN.{length, drop, length-drop}
 use Rattle.cells.specs.CellsAndBytes.{bytesFor}
 use Rattle.refusals.specs.declared.Refusal.{Refusal}
 use Rattle.refusals.specs.declared.Refusal.the-variants.{CellCount as CellsRefused, TooManyTimings, NoRoomForCells, NotATrackFile as NoTrackFile}
-use Rattle.track_file.specs.TrackFile.{fourBytes, number, hasCount, refusedAtOnce, fileAnswerIn, fileBuffer}
-use Rattle.track_file.specs.Portions.{startOf, startCells, numberAfter, takenAfter, afterPlaceCount, afterCellCount, afterFluxCount, afterTiming, inPlaceCount, inCellCount, inFluxCount, inTiming, readerAfterByte, readerAfter, cellsAfter, readerThrough, wholeOf, isStopped, finishAnswer, leftAfter, AtOnce}
+use Rattle.track_file.specs.TrackFile.{fourBytes, number, hasCount, refusedAtOnce}
+use Rattle.track_file.specs.Portions.{startOf, numberAfter, takenAfter, afterPlaceCount, afterCellCount, afterFluxCount, afterTiming, inPlaceCount, inCellCount, inFluxCount, inTiming, readerAfterByte, readerAfter, isStopped}
 use Rattle.track_file.specs.declared.Place.{Place}
 use Rattle.track_file.specs.declared.Number.{Number}
 use Rattle.track_file.specs.declared.Number.the-variants.{Empty, One, Two, Three}
@@ -20,14 +20,12 @@ use Rattle.track_file.specs.declared.TakenTimings.{TakenTimings}
 use Rattle.track_file.specs.declared.Reader.{Reader}
 use Rattle.track_file.specs.declared.Reader.the-variants.{PlaceCount, Track, CellCount, PackedCells, FluxCount, Timings, AllCells, AllTimings, NotATrackFile, Stopped}
 use Rattle.track_file.proofs.Sections.{more-bytes, last-byte}
-use Rattle.track_file.proofs.Endings.{reader-stays, cells-stay}
-use Rattle.track_file.proofs.Portions.{reader-cut, cells-cut, reader-joined}
+use Rattle.track_file.proofs.Endings.{reader-stays}
 use Rattle.track_file.proofs.Taking.{tookWith}
-use Rattle.track_file.proofs.Staged.{ends, no-file-stays, some-of}
-use Rattle.track_file.proofs.Whole.{whole-answer, whole-buffer}
+use Rattle.track_file.proofs.Staged.{no-file-stays, some-of}
 
 -- whether the reader is stopped after these bytes
-abbrev stops : Reader → List ℕ → Bool
+abbrev pub stops : Reader → List ℕ → Bool
 stops reader bytes = isStopped (readerAfter reader bytes)
 
 stops-stopped : (refusal : Refusal) (bytes : List ℕ) → stops (Stopped refusal) bytes ≡ true
@@ -161,57 +159,10 @@ in-place-count (a ∷ b ∷ c ∷ d ∷ t ∷ h ∷ cs) =
     go true = in-cell-count (record { track = t; side = h }) cs
     go false = stops-stopped NoTrackFile cs
 
-from-start : (room : ℕ) (file : List ℕ) → stops (startOf room) file ≡ (ltb room 16384 || refusedAtOnce file)
+pub from-start : (room : ℕ) (file : List ℕ) → stops (startOf room) file ≡ (ltb room 16384 || refusedAtOnce file)
 unfolding startOf
 from-start room file = go (ltb room 16384)
   where
     go : (x : Bool) → stops (cond x (Stopped (NoRoomForCells 16384)) (PlaceCount Empty)) file ≡ (x || refusedAtOnce file)
     go true = stops-stopped (NoRoomForCells 16384) file
     go false = in-place-count file
-
--- after a reader that is stopped nothing matters
-module _ (buffer file : List ℕ) (refusal : Refusal) (is : readerAfter (startOf (length buffer)) file ≡ Stopped refusal) (rest : List ℕ) where
-  abbrev start : Reader
-  start = startOf (length buffer)
-
-  still : readerAfter start (file ++ rest) ≡ readerAfter start file
-  still = reader-cut start file rest ∙ ap (λ (s : Reader). readerAfter s rest) is ∙ reader-stays refusal rest ∙ sym is
-
-  same-answer : fileAnswerIn (length buffer) (file ++ rest) ≡ fileAnswerIn (length buffer) file
-  same-answer = sym (whole-answer (length buffer) (file ++ rest)) ∙ ap finishAnswer still ∙ whole-answer (length buffer) file
-
-  same-buffer : fileBuffer buffer (file ++ rest) ≡ fileBuffer buffer file
-  same-buffer =
-      sym (whole-buffer buffer (file ++ rest))
-      ∙ ap (λ (s : Reader). leftAfter (finishAnswer s) (cellsAfter start (file ++ rest) (startCells buffer))) still
-      ∙ ap (leftAfter (ends start file))
-      (cells-cut start file rest (startCells buffer) ∙ ap (λ (s : Reader). cellsAfter s rest (cellsAfter start file (startCells buffer))) is
-      ∙ cells-stay refusal rest (cellsAfter start file (startCells buffer)))
-      ∙ whole-buffer buffer file
-
--- all that `stopped` promises
-exactly-at-once : (reader : Reader) {answer : Bool} → answer ≡ isStopped reader → (buffer : List ℕ) (portions : List (List ℕ)) → reader ≡ readerThrough buffer portions
-    → answer ≡ (ltb (length buffer) 16384 || refusedAtOnce (wholeOf portions))
-exactly-at-once reader e buffer portions is =
-    e ∙ ap isStopped (is ∙ reader-joined (startOf (length buffer)) portions) ∙ from-start (length buffer) (wholeOf portions)
-
-pub is-stopped : (reader : Reader) {refusal : Refusal} → reader ≡ Stopped refusal → (true ≡ isStopped reader) × AtOnce reader true
-unfolding isStopped
-is-stopped reader {refusal} e =
-    let yes = ap isStopped (sym e) in (
-      yes,
-      record {
-        exactly = exactly-at-once reader yes;
-        settled = λ t buffer portions is rest.
-            let r = sym (reader-joined (startOf (length buffer)) portions) ∙ sym is ∙ e in
-            (same-answer buffer (wholeOf portions) refusal r rest, same-buffer buffer (wholeOf portions) refusal r rest);
-      },
-    )
-
-pub not-stopped : (reader a : Reader) → reader ≡ a → false ≡ isStopped a → (false ≡ isStopped reader) × AtOnce reader false
-not-stopped reader a e f =
-    let no = f ∙ ap isStopped (sym e) in
-    (no, record { exactly = exactly-at-once reader no; settled = λ t buffer portions is rest. absurd (differ t) })
-  where
-    differ : false ≡ true → ⊥
-    differ t = let z : _≡_ {A = ℕ} 0 1 = cc in omega arith

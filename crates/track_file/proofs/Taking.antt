@@ -1,16 +1,14 @@
--- Timings taken one after another: their answer is the separator's on the list, and the buffer has its cells. Assumes nothing.
-use Prim.Native.Nat.{ℕ, zero, suc, _+_, _-_, _*_, _≤_, _<_}
+-- Timings taken one after another: their answer is the separator's on the list. Assumes nothing.
+use Prim.Native.Nat.{ℕ, suc, _+_, _*_, _≤_, _<_}
 use mathlib.Core.Path.{_≡_, refl, sym, _∙_, ap}
 use mathlib.Core.Bool.{Bool, true, false, cond}
-use mathlib.Core.List.{List, [], _∷_, _++_, append-assoc, append-nil}
+use mathlib.Core.List.{List, [], _∷_, _++_}
 use native.Mathlib.Omega.{arith}
 use borrow.Author.Tests.{lt-ltb, le-ltb, ne-eqb, ltb-false}
-use lib.Dec.{eqb, ltb, leb·suc-suc}
+use lib.Dec.{ltb, leb·suc-suc}
 use lib.IntN.{ℤ, pos}
 use lib.ListN.{length, length-append}
-use Rattle.cells.specs.CellsAndBytes.{bytesFor, withOne}
-use Rattle.cells.proofs.Packing.{Cells}
-use Rattle.cells.proofs.Zeros.{cells-append}
+use Rattle.cells.specs.CellsAndBytes.{bytesFor}
 use Rattle.refusals.specs.RefusedCalls.{Answer}
 use Rattle.refusals.specs.RefusedCalls.Answer.{gives, refused}
 use Rattle.flux.specs.Rule.{inRange, cellsAt, residualAfter, halfWindow}
@@ -19,8 +17,7 @@ use Rattle.flux.proofs.Lifted.{Kept, kept-none, kept-next}
 use Rattle.flux.proofs.Timing.{range-of}
 use Rattle.flux.proofs.MachineStep.{cells-small}
 use Rattle.flux.proofs.Stepping.{step-refused, step-answers, step-leaves}
-use Rattle.flux.proofs.Walk.{length-for, cells-for, cellsFrom}
-use Rattle.flux.proofs.Writing.{frontOf, front-with-timing}
+use Rattle.flux.proofs.Walk.{length-for, cellsFrom}
 use Rattle.track_file.specs.Portions.{timingCells, takenStep, takenAfter, stepCells, takenCells, timingsAnswer}
 use Rattle.track_file.specs.declared.TakenTimings.{TakenTimings}
 use Rattle.track_file.specs.declared.TakenTimings.the-variants.{InRange, OutOfRange}
@@ -41,15 +38,15 @@ tookWith i at r = InRange i at (record { residual = r })
 
 -- one timing in range
 module _ (i at : ℕ) (r : ℤ) (t : ℕ) (kept : Kept halfWindow r) (ranged : inRange t ≡ true) (small : at ≤ 5000 * i) (few : i < 65536) where
-  n-small : cellsAt halfWindow r t ≤ 5000
+  pub n-small : cellsAt halfWindow r t ≤ 5000
   n-small = cells-small t (range-of t ranged .1) r kept
 
-  one-taken : takenAfter (tookWith i at r) t ≡ tookWith (i + 1) (at + cellsAt halfWindow r t) (residualAfter halfWindow r t)
+  pub one-taken : takenAfter (tookWith i at r) t ≡ tookWith (i + 1) (at + cellsAt halfWindow r t) (residualAfter halfWindow r t)
   unfolding takenAfter takenStep
   one-taken =
       rw (step-answers r t kept ranged, step-leaves r t kept ranged, ← count-more i 1 (omega arith), ← count-more at (cellsAt halfWindow r t) (omega arith))
 
-  one-cells : (buffer : List ℕ) → takenCells (tookWith i at r) t buffer ≡ timingCells at (cellsAt halfWindow r t) buffer
+  pub one-cells : (buffer : List ℕ) → takenCells (tookWith i at r) t buffer ≡ timingCells at (cellsAt halfWindow r t) buffer
   unfolding takenCells stepCells
   one-cells buffer = rw (step-answers r t kept ranged)
 
@@ -69,11 +66,11 @@ inAll n = cond (ltb 131072 n) (refused 9 n) (gives n)
 abbrev told : ℕ → ℕ → ℕ → ℕ → Answer ℕ
 told i first count n = cond (ltb first count) (refused 8 (i + first)) (inAll n)
 
-first-later : (t : ℕ) (ts : List ℕ) → inRange t ≡ true → firstOut (t ∷ ts) ≡ suc (firstOut ts)
+pub first-later : (t : ℕ) (ts : List ℕ) → inRange t ≡ true → firstOut (t ∷ ts) ≡ suc (firstOut ts)
 unfolding firstOut
 first-later t ts e = rw e
 
-first-here : (t : ℕ) (ts : List ℕ) → inRange t ≡ false → firstOut (t ∷ ts) ≡ 0
+pub first-here : (t : ℕ) (ts : List ℕ) → inRange t ≡ false → firstOut (t ∷ ts) ≡ 0
 unfolding firstOut
 first-here t ts e = rw e
 
@@ -81,7 +78,7 @@ cells-more : (r : ℤ) (t : ℕ) (ts : List ℕ) → cellsFrom r (t ∷ ts) ≡ 
 unfolding windowsFrom cellsIn
 cells-more r t ts = refl
 
-length-more : (r : ℤ) (t : ℕ) (ts : List ℕ) → length (cellsFrom r (t ∷ ts)) ≡ cellsAt halfWindow r t + length (cellsFrom (residualAfter halfWindow r t) ts)
+pub length-more : (r : ℤ) (t : ℕ) (ts : List ℕ) → length (cellsFrom r (t ∷ ts)) ≡ cellsAt halfWindow r t + length (cellsFrom (residualAfter halfWindow r t) ts)
 length-more r t ts =
     ap length (cells-more r t ts) ∙ length-append (cellsFor (cellsAt halfWindow r t)) (cellsFrom (residualAfter halfWindow r t) ts)
     ∙ ap (λ (m : ℕ). m + length (cellsFrom (residualAfter halfWindow r t) ts)) (length-for (cellsAt halfWindow r t))
@@ -135,38 +132,3 @@ module _ (ts : List ℕ) (some : length ts ≡ 0 → ⊥) (few : length ts ≤ 6
       let i : 0 + firstOut ts ≡ firstOut ts = omega arith in
       let n : 0 + length (cellsOf ts) ≡ length (cellsOf ts) = omega arith in
       over-answer ts 0 0 (pos 0) (kept-none 1000 (omega arith)) (omega arith) (omega arith) ∙ rw (i, n) (separation-is 16384 (omega arith))
-
--- the cells of a timing within 131,072 cells
-within-most : (at n : ℕ) (buffer : List ℕ) → at + n ≤ 131072 → timingCells at n buffer ≡ cond (eqb n 0) buffer (withOne buffer (at + (n - 1)))
-unfolding timingCells
-within-most at zero buffer h = refl
-within-most at (suc k) buffer h = rw (← count-more at (suc k - 1) (omega arith), lt-ltb (at + (suc k - 1)) 131072 (omega arith))
-
-module _ (needed : ℕ) (most : needed ≤ 16384) (rest : List ℕ) where
-  abbrev pub OverCells : List ℕ → Type 0
-  OverCells ts =
-      (i at : ℕ) (r : ℤ) (q : List ℕ) → Kept halfWindow r → i + length ts ≤ 65536 → at ≤ 5000 * i → length q ≡ at → Cells q → firstOut ts ≡ length ts
-      → at + length (cellsFrom r ts) ≤ 8 * needed → cellsOver (tookWith i at r) ts (frontOf q needed rest) ≡ frontOf (q ++ cellsFrom r ts) needed rest
-
-  pub over-cells : (ts : List ℕ) → OverCells ts
-  unfolding windowsFrom cellsIn
-  over-cells [] i at r q kept few small long bits all fits = ap (λ (x : List ℕ). frontOf x needed rest) (sym (append-nil q))
-  over-cells (t ∷ ts) i at r q kept few small long bits all fits = go (inRange t) refl (over-cells ts)
-    where
-      go : (x : Bool) → inRange t ≡ x → OverCells ts
-          → cellsOver (takenAfter (tookWith i at r) t) ts (takenCells (tookWith i at r) t (frontOf q needed rest)) ≡ frontOf (q ++ cellsFrom r (t ∷ ts)) needed rest
-      go true e more =
-          let n = cellsAt halfWindow r t in
-          let r′ = residualAfter halfWindow r t in
-          let l = n-small i at r t kept e small (omega arith) in
-          let m = length-more r t ts in
-          let f = first-later t ts e in
-          ap (λ (x : TakenTimings). cellsOver x ts (takenCells (tookWith i at r) t (frontOf q needed rest))) (one-taken i at r t kept e small (omega arith))
-          ∙ ap (cellsOver (tookWith (i + 1) (at + n) r′) ts)
-          (one-cells i at r t kept e small (omega arith) (frontOf q needed rest) ∙ within-most at n (frontOf q needed rest) (omega arith)
-          ∙ front-with-timing q bits needed rest at n long (omega arith))
-          ∙ more (i + 1) (at + n) r′ (q ++ cellsFor n) (kept-next 1000 (omega arith) r t kept) (omega arith) (omega arith)
-          (length-append q (cellsFor n) ∙ ap (λ (x : ℕ). x + length (cellsFor n)) long ∙ ap (λ (x : ℕ). at + x) (length-for n))
-          (cells-append q (cellsFor n) bits (cells-for n)) (omega arith) (omega arith)
-          ∙ ap (λ (x : List ℕ). frontOf x needed rest) (append-assoc q (cellsFor n) (cellsFrom r′ ts))
-      go false e more = let z : ⊥ = omega (arith, first-here t ts e) in absurd z

@@ -1,7 +1,7 @@
 -- `track_file::stopped` meets its contract. Assumes nothing.
 use mathlib.Core.Path.{refl}
 use Rattle.track_file.specs.Portions.{isStopped}
-use Rattle.track_file.proofs.Stopping.{is-stopped, not-stopped}
+use Rattle.track_file.proofs.Settling.{is-stopped, not-stopped}
 use borrow.Author.Needs.{needs}
 use Rattle.track_file.proofs.stopped.Statement.{statement}
 use Rattle.track_file.proofs.stopped.Tie as tie
