@@ -1,8 +1,9 @@
-pub mod Places
-pub mod Words
-pub mod Standing
-pub mod Packing
-pub mod Ones
-pub mod Zeros
 pub mod Appending
+pub mod Eight
 pub mod InBytes
+pub mod Ones
+pub mod Packing
+pub mod Places
+pub mod Standing
+pub mod Words
+pub mod Zeros

@@ -1,1 +1,2 @@
 pub mod CellsAndBytes
+pub mod Inner

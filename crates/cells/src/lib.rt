@@ -1,9 +1,10 @@
 // The cells of a track, packed eight to a byte, highest bit first; the track is circular.
 ghost use mathlib.Core.Path.{_≡_};
-ghost use Prim.Native.Nat.{_<_, _≤_, _*_, _+_, _-_, _%_, _^_, min};
-ghost use mathlib.Core.Bool.{cond};
+ghost use Prim.Native.Nat.{ℕ, _<_, _≤_, _*_, _+_, _-_, _/_, _%_, _^_, min};
+ghost use mathlib.Core.Bool.{true, false, cond};
 ghost use lib.Dec.{eqb};
-ghost use lib.ListN.{length};
+ghost use lib.ListN.{length, getD};
+ghost use Rattle.cells.specs.Inner.{Skipped};
 ghost use Rattle.cells.specs.CellsAndBytes.{cellAt, cell, word, wordAt, leastPlace, cleared, withOne};
 
 // Cell i of packed bytes, 0 or 1; past their end 0.
@@ -94,7 +95,8 @@ fn find_in_turn(bytes: &[u8], n: usize, x: u64, k: usize, from: usize, to: usize
     if p < turn { p } else { to }
 }
 
-// The search of find_word, of a word of 1 to 64 cells. The last cells are carried along: each place costs one cell more.
+// The search of find_word, of a word of 1 to 64 cells. The last cells are carried along: each place costs one cell more, and eight
+// places one byte where it lies whole on the track and the word stands at none of them.
 fn find_in_range(bytes: &[u8], n: usize, x: u64, k: usize, from: usize, to: usize) -> usize
     requires { ⌜ (0 < n) × (1 ≤ k) × (k ≤ 64) × (from ≤ to) ⌝ }
     ensures { λ r. ⌜ r ≡ leastPlace (now (bytes .entry)) n k x from to ⌝ }
@@ -104,14 +106,85 @@ fn find_in_range(bytes: &[u8], n: usize, x: u64, k: usize, from: usize, to: usiz
     let mut at = place_after(from, k, n);
     let mut p = from;
     while p < to {
-        if cells & mask == x {
-            return p;
+        if skips_eight(bytes, n, at, cells, k, x, to - p) {
+            cells = append_byte(cells, byte_at(bytes, at / 8));
+            at = next_byte(at, n);
+            p += 8;
+        } else {
+            if cells & mask == x {
+                return p;
+            }
+            cells = append(cells, cell_at(bytes, at));
+            at = next_place(at, n);
+            p += 1;
         }
-        cells = append(cells, cell_at(bytes, at));
-        at = next_place(at, n);
-        p += 1;
     }
     to
+}
+
+// Whether the next eight cells are a whole byte, eight places are left to look at, and the word x of k cells stands at none of them.
+fn skips_eight(bytes: &[u8], n: usize, at: usize, cells: u64, k: usize, x: u64, left: usize) -> bool
+    requires { ⌜ (at < n) × (1 ≤ k) × (k ≤ 64) ⌝ }
+    ensures { λ r. ⌜ (r ≡ true → Skipped (now (bytes .entry)) n at cells k x left) ⌝ }
+{
+    if 56 < k {
+        return false;
+    }
+    if left < 8 {
+        return false;
+    }
+    if 0 < at % 8 {
+        return false;
+    }
+    if n - at < 8 {
+        return false;
+    }
+    !stands_in(append_byte(cells, byte_at(bytes, at / 8)), k, x)
+}
+
+// Whether the word x of k cells ends at one of the last nine cells but the very last.
+fn stands_in(cells: u64, k: usize, x: u64) -> bool
+    requires { ⌜ (1 ≤ k) × (k ≤ 64) ⌝ }
+    ensures { λ r. ⌜ (r ≡ false → (j : ℕ) → j < 8 → cells / 2 ^ (8 - j) % 2 ^ k ≡ x → ⊥) ⌝ }
+{
+    let mask = 0xFFFF_FFFF_FFFF_FFFF >> (64 - k);
+    let mut j: u64 = 0;
+    while j < 8 {
+        if (cells >> (8 - j)) & mask == x {
+            return true;
+        }
+        j += 1;
+    }
+    false
+}
+
+// Byte i; past the end 0.
+fn byte_at(bytes: &[u8], i: usize) -> u64
+    ensures { λ r. ⌜ (r ≡ getD (now (bytes .entry)) i 0) × (r < 256) ⌝ }
+{
+    if i < bytes.len() { wide(bytes[i]) } else { 0 }
+}
+
+fn wide(byte: u8) -> u64
+    ensures { λ r. ⌜ (r ≡ byte) × (r < 256) ⌝ }
+{
+    byte as u64
+}
+
+// The cells so far, of which only the last 64 are kept, and those of a byte more.
+fn append_byte(cells: u64, byte: u64) -> u64
+    requires { ⌜ byte < 256 ⌝ }
+    ensures { λ r. ⌜ r ≡ (cells * 256 + byte) % 2 ^ 64 ⌝ }
+{
+    (cells % 0x0100_0000_0000_0000) * 256 + byte
+}
+
+// The place eight after `at`, where that is at most n, round a track of n cells.
+fn next_byte(at: usize, n: usize) -> usize
+    requires { ⌜ (at < n) × (at + 8 ≤ n) ⌝ }
+    ensures { λ r. ⌜ r ≡ (at + 8) % n ⌝ }
+{
+    if at + 8 == n { 0 } else { at + 8 }
 }
 
 // As find_in_range, where every word is 0: on a track without cells, or of a word without cells.
