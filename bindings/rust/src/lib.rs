@@ -1,0 +1,51 @@
+//! Reads one track of an Atari ST floppy disk, as flux timings or as MFM cells: its cells, its sectors with their check results, and a
+//! list of copy-protection findings.
+//!
+//! This is a thin, safe layer over the verified library. "01" in these pages is its scope paper, `docs/01-scope.md`. Each function gives
+//! what 01 says, or one of its [refusals](Refusal), judged in the order in which the function names them. Nothing is asked of the values
+//! passed: every number and every slice has an answer, and no function panics.
+//!
+//! A track of 100,000 cells, every second one a one:
+//!
+//! ```
+//! use thikbromu::{Kind, Track};
+//!
+//! let cells = [0xAA; 12_500];
+//! let track = Track::new(&cells, 100_000, 5, 0);
+//! assert_eq!(track.sectors()?.len(), 0);
+//! for finding in track.findings()? {
+//!     println!("{finding}");
+//! }
+//! assert_eq!(track.findings()?[1].kind, Kind::Tnf);
+//! # Ok::<(), thikbromu::Refusal>(())
+//! ```
+#![deny(unsafe_code, clippy::undocumented_unsafe_blocks)]
+#![warn(missing_docs)]
+
+// The one module with unsafe code.
+#[allow(unsafe_code)]
+mod boundary;
+mod coding;
+mod finding;
+mod flux;
+mod refusal;
+mod sector;
+mod track;
+#[cfg(feature = "file_exports")]
+mod track_file;
+
+pub use coding::{
+    check_word, check_word_from, decode, decode_to_vec, encode, encode_to_vec, MOST_BYTES_TO_CODE, MOST_BYTES_TO_DECODE,
+};
+pub use finding::{Finding, Kind, NotAKind, MOST_FINDINGS};
+pub use flux::{
+    histogram, separate, separate_to_vec, Cells, Separator, Stepped, HISTOGRAM_COUNTS, LONGEST_TIMING, MOST_TIMINGS,
+    SHORTEST_TIMING,
+};
+pub use refusal::{NotARefusal, Refusal};
+pub use sector::{ReadOut, Sector, SectorData, Sectors, LONGEST_SECTOR};
+pub use track::{
+    clear, put_one, Track, FEWEST_CELLS, HIGHEST_SIDE, HIGHEST_TRACK, MOST_CELLS, MOST_CELL_BYTES, MOST_SECTORS,
+};
+#[cfg(feature = "file_exports")]
+pub use track_file::{TrackCells, TrackFile};

@@ -1,0 +1,166 @@
+//! 01's refusals.
+
+use std::error::Error;
+use std::fmt;
+
+/// Why a call was refused: a row of 01's table "Refused calls", with what it gives also.
+#[derive(Clone, Copy, Debug, PartialEq, Eq, Hash)]
+pub enum Refusal {
+    /// 1: the track is above 83 or the side above 1.
+    TrackOrSide,
+    /// 2: the number of cells, below 20,000 or above 131,072.
+    CellCount(usize),
+    /// 3: the bytes that the cells need, where fewer are there.
+    TooFewBytes(usize),
+    /// 4: the sectors on the track, more than 64.
+    TooManySectors(usize),
+    /// 5: the findings, more than the list holds.
+    ListTooShort(usize),
+    /// 6: there are no timings.
+    NoTimings,
+    /// 7: the timings, more than 65,536.
+    TooManyTimings(usize),
+    /// 8: the index of the first timing outside 1 to 10,000,000.
+    TimingOutOfRange(usize),
+    /// 9: the cells in all, more than 131,072.
+    TooManyCells(usize),
+    /// 10: the bytes that the cells need, where there is too little room.
+    NoRoomForCells(usize),
+    /// 11: the sectors, none of which has the index asked for.
+    NoSuchSector(usize),
+    /// 12: the sector has no data read.
+    NoDataRead,
+    /// 13: the bytes needed, where there is too little room.
+    NoRoomForBytes(usize),
+    /// 14: the bytes given, more than 8,192 to code or 16,384 to decode.
+    TooManyBytes(usize),
+    /// 15: not a track file.
+    NotATrackFile,
+}
+
+impl Refusal {
+    /// The number in 01's table, 1 to 15.
+    pub const fn number(self) -> u32 {
+        match self {
+            Refusal::TrackOrSide => 1,
+            Refusal::CellCount(_) => 2,
+            Refusal::TooFewBytes(_) => 3,
+            Refusal::TooManySectors(_) => 4,
+            Refusal::ListTooShort(_) => 5,
+            Refusal::NoTimings => 6,
+            Refusal::TooManyTimings(_) => 7,
+            Refusal::TimingOutOfRange(_) => 8,
+            Refusal::TooManyCells(_) => 9,
+            Refusal::NoRoomForCells(_) => 10,
+            Refusal::NoSuchSector(_) => 11,
+            Refusal::NoDataRead => 12,
+            Refusal::NoRoomForBytes(_) => 13,
+            Refusal::TooManyBytes(_) => 14,
+            Refusal::NotATrackFile => 15,
+        }
+    }
+
+    /// What the refusal gives also; 0 where it gives nothing.
+    pub const fn value(self) -> usize {
+        match self {
+            Refusal::CellCount(value)
+            | Refusal::TooFewBytes(value)
+            | Refusal::TooManySectors(value)
+            | Refusal::ListTooShort(value)
+            | Refusal::TooManyTimings(value)
+            | Refusal::TimingOutOfRange(value)
+            | Refusal::TooManyCells(value)
+            | Refusal::NoRoomForCells(value)
+            | Refusal::NoSuchSector(value)
+            | Refusal::NoRoomForBytes(value)
+            | Refusal::TooManyBytes(value) => value,
+            Refusal::TrackOrSide | Refusal::NoTimings | Refusal::NoDataRead | Refusal::NotATrackFile => 0,
+        }
+    }
+}
+
+/// A number that 01's table of refusals does not have.
+#[derive(Clone, Copy, Debug, PartialEq, Eq)]
+pub struct NotARefusal(pub u32);
+
+/// The refusal of a number and a value. Where a refusal gives 0, the value is not looked at.
+impl TryFrom<(u32, usize)> for Refusal {
+    type Error = NotARefusal;
+
+    fn try_from((number, value): (u32, usize)) -> Result<Refusal, NotARefusal> {
+        Ok(match number {
+            1 => Refusal::TrackOrSide,
+            2 => Refusal::CellCount(value),
+            3 => Refusal::TooFewBytes(value),
+            4 => Refusal::TooManySectors(value),
+            5 => Refusal::ListTooShort(value),
+            6 => Refusal::NoTimings,
+            7 => Refusal::TooManyTimings(value),
+            8 => Refusal::TimingOutOfRange(value),
+            9 => Refusal::TooManyCells(value),
+            10 => Refusal::NoRoomForCells(value),
+            11 => Refusal::NoSuchSector(value),
+            12 => Refusal::NoDataRead,
+            13 => Refusal::NoRoomForBytes(value),
+            14 => Refusal::TooManyBytes(value),
+            15 => Refusal::NotATrackFile,
+            _ => return Err(NotARefusal(number)),
+        })
+    }
+}
+
+impl fmt::Display for Refusal {
+    fn fmt(&self, out: &mut fmt::Formatter<'_>) -> fmt::Result {
+        write!(out, "refused {}: ", self.number())?;
+        match self {
+            Refusal::TrackOrSide => write!(out, "the track is above 83 or the side above 1"),
+            Refusal::CellCount(cells) => write!(out, "{cells} cells, not 20,000 to 131,072"),
+            Refusal::TooFewBytes(needed) => write!(out, "the cells need {needed} bytes"),
+            Refusal::TooManySectors(sectors) => write!(out, "{sectors} sectors, more than 64"),
+            Refusal::ListTooShort(findings) => write!(out, "{findings} findings, more than the list holds"),
+            Refusal::NoTimings => write!(out, "no timings"),
+            Refusal::TooManyTimings(timings) => write!(out, "{timings} timings, more than 65,536"),
+            Refusal::TimingOutOfRange(index) => write!(out, "the timing of index {index} is not 1 to 10,000,000"),
+            Refusal::TooManyCells(cells) => write!(out, "{cells} cells in all, more than 131,072"),
+            Refusal::NoRoomForCells(needed) => write!(out, "the cells need room for {needed} bytes"),
+            Refusal::NoSuchSector(sectors) => write!(out, "no sector of that index among {sectors}"),
+            Refusal::NoDataRead => write!(out, "the sector has no data read"),
+            Refusal::NoRoomForBytes(needed) => write!(out, "room is needed for {needed} bytes"),
+            Refusal::TooManyBytes(given) => write!(out, "{given} bytes, more than 8,192 to code or 16,384 to decode"),
+            Refusal::NotATrackFile => write!(out, "not a track file"),
+        }
+    }
+}
+
+impl Error for Refusal {}
+
+impl fmt::Display for NotARefusal {
+    fn fmt(&self, out: &mut fmt::Formatter<'_>) -> fmt::Result {
+        write!(out, "{} is not the number of a refusal", self.0)
+    }
+}
+
+impl Error for NotARefusal {}
+
+#[cfg(test)]
+mod tests {
+    use super::*;
+
+    #[test]
+    fn numbers_and_values_are_those_of_the_table() {
+        // The rows whose column "gives also" is 0.
+        let without_value = [1, 6, 12, 15];
+        for number in 1..=15 {
+            let refusal = Refusal::try_from((number, 7)).unwrap();
+            assert_eq!(refusal.number(), number);
+            assert_eq!(refusal.value(), if without_value.contains(&number) { 0 } else { 7 });
+        }
+    }
+
+    #[test]
+    fn other_numbers_are_no_refusals() {
+        for number in [0, 16, u32::MAX] {
+            assert_eq!(Refusal::try_from((number, 0)), Err(NotARefusal(number)));
+        }
+    }
+}

@@ -1,0 +1,122 @@
+//! The sectors of a track.
+
+use crate::boundary::SECTOR_NUMBERS;
+use crate::track::Track;
+
+/// The longest data of a sector, in bytes.
+pub const LONGEST_SECTOR: usize = 1_024;
+
+/// A sector's record, in the order of 01.
+#[derive(Clone, Copy, Debug, PartialEq, Eq, Hash)]
+pub struct Sector {
+    /// The cell of the ID mark.
+    pub place: u32,
+    /// The byte of the ID mark, FC to FF.
+    pub mark: u8,
+    /// The track that the ID names.
+    pub track: u8,
+    /// The side that the ID names.
+    pub side: u8,
+    /// The sector's number.
+    pub number: u8,
+    /// The size code: 0, 1, 2, 3 for 128, 256, 512, 1,024 bytes; one above 3 has no length.
+    pub size_code: u8,
+    /// Whether the ID's check is good.
+    pub id_check_good: bool,
+    /// The cell of the data mark, counted on past the index; 0 where there is none.
+    pub data_place: u32,
+    /// The byte of the data mark, F8 to FB; 0 where there is none.
+    pub data_mark: u8,
+    /// The bytes of data; 0 where no data is read.
+    pub data_length: usize,
+    /// Whether the data's check is good; no where no data is read.
+    pub data_check_good: bool,
+}
+
+impl Sector {
+    /// The record of its eleven numbers. The library gives bytes, checks of 0 and 1 and lengths up to 1,024, so that nothing is cut off.
+    pub(crate) fn from_numbers(numbers: [u32; SECTOR_NUMBERS]) -> Sector {
+        let [place, mark, track, side, number, size_code, id_check, data_place, data_mark, data_length, data_check] =
+            numbers;
+        Sector {
+            place,
+            mark: mark as u8,
+            track: track as u8,
+            side: side as u8,
+            number: number as u8,
+            size_code: size_code as u8,
+            id_check_good: id_check == 1,
+            data_place,
+            data_mark: data_mark as u8,
+            data_length: data_length as usize,
+            data_check_good: data_check == 1,
+        }
+    }
+
+    /// Whether a data mark was found.
+    pub const fn has_data_mark(&self) -> bool {
+        self.data_mark != 0
+    }
+
+    /// Whether data is read, so that it can be read out.
+    pub const fn has_data(&self) -> bool {
+        self.data_length != 0
+    }
+}
+
+/// The sectors of a track, in the order of their places.
+///
+/// Each is looked up by its index, for which the library goes over the whole track.
+#[derive(Clone, Debug)]
+pub struct Sectors<'a> {
+    track: Track<'a>,
+    next: usize,
+    count: usize,
+}
+
+impl<'a> Sectors<'a> {
+    pub(crate) fn new(track: Track<'a>, count: usize) -> Sectors<'a> {
+        Sectors { track, next: 0, count }
+    }
+}
+
+impl Iterator for Sectors<'_> {
+    type Item = Sector;
+
+    fn next(&mut self) -> Option<Sector> {
+        if self.next == self.count {
+            return None;
+        }
+        // The track was accepted and is lent unchanged, so that an index below its sectors is not refused.
+        let sector = self.track.sector(self.next).ok()?;
+        self.next += 1;
+        Some(sector)
+    }
+
+    fn size_hint(&self) -> (usize, Option<usize>) {
+        let left = self.count - self.next;
+        (left, Some(left))
+    }
+}
+
+impl ExactSizeIterator for Sectors<'_> {}
+
+impl std::iter::FusedIterator for Sectors<'_> {}
+
+/// What reading out gives, beside the bytes.
+#[derive(Clone, Copy, Debug, PartialEq, Eq)]
+pub struct ReadOut {
+    /// The bytes read out.
+    pub length: usize,
+    /// Whether their check is good.
+    pub check_good: bool,
+}
+
+/// A sector's data.
+#[derive(Clone, Debug, PartialEq, Eq)]
+pub struct SectorData {
+    /// The bytes.
+    pub bytes: Vec<u8>,
+    /// Whether their check is good.
+    pub check_good: bool,
+}

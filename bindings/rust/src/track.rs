@@ -1,0 +1,196 @@
+//! A track of packed cells.
+
+use crate::boundary::{self, FindingRecord};
+use crate::finding::{Finding, Kind, MOST_FINDINGS};
+use crate::refusal::Refusal;
+use crate::sector::{ReadOut, Sector, SectorData, Sectors, LONGEST_SECTOR};
+
+/// The highest track of a drive.
+pub const HIGHEST_TRACK: u32 = 83;
+
+/// The highest side of a drive.
+pub const HIGHEST_SIDE: u32 = 1;
+
+/// The fewest cells of a track.
+pub const FEWEST_CELLS: usize = 20_000;
+
+/// The most cells of a track.
+pub const MOST_CELLS: usize = 131_072;
+
+/// The bytes of [`MOST_CELLS`].
+pub const MOST_CELL_BYTES: usize = MOST_CELLS / 8;
+
+/// The most sectors of a track.
+pub const MOST_SECTORS: usize = 64;
+
+/// A track: cells that are packed eight to a byte, highest bit first, and the track and side of the drive. It is circular: the cell after
+/// the last is cell 0, the index.
+///
+/// Nothing is judged when it is made. The calls on sectors and findings judge it, and each refuses
+/// [`TrackOrSide`](Refusal::TrackOrSide), [`CellCount`](Refusal::CellCount), [`TooFewBytes`](Refusal::TooFewBytes) and
+/// [`TooManySectors`](Refusal::TooManySectors), in this order, before what it names itself.
+#[derive(Clone, Copy, Debug)]
+pub struct Track<'a> {
+    packed: &'a [u8],
+    cells: usize,
+    track: u32,
+    side: u32,
+}
+
+impl<'a> Track<'a> {
+    /// A track of `cells` cells at the front of `packed`; what stands behind them is not looked at.
+    pub const fn new(packed: &'a [u8], cells: usize, track: u32, side: u32) -> Track<'a> {
+        Track { packed, cells, track, side }
+    }
+
+    /// The number of cells.
+    pub const fn cells(&self) -> usize {
+        self.cells
+    }
+
+    /// The drive's track.
+    pub const fn track(&self) -> u32 {
+        self.track
+    }
+
+    /// The drive's side.
+    pub const fn side(&self) -> u32 {
+        self.side
+    }
+
+    /// Whether cell `place`, counted on past the index, is a one. Cells past the bytes are zeros.
+    pub fn cell(&self, place: usize) -> bool {
+        boundary::cell(self.packed, self.cells, place) == 1
+    }
+
+    /// The word of `length` cells from `place`, the first of them its highest bit; a length above 64 counts as 64.
+    pub fn word(&self, place: usize, length: usize) -> u64 {
+        boundary::word(self.packed, self.cells, place, length)
+    }
+
+    /// The least place from `from` and before `to`, counted on past the index, at which the word of `length` cells stands.
+    pub fn find_word(&self, word: u64, length: usize, from: usize, to: usize) -> Option<usize> {
+        // Where there is none, the library gives the greater of the ends.
+        let place = boundary::find_word(self.packed, self.cells, word, length, from, to);
+        (place < to).then_some(place)
+    }
+
+    /// The sector of an index, from 0, in the order of their places. Refuses [`NoSuchSector`](Refusal::NoSuchSector).
+    pub fn sector(&self, index: usize) -> Result<Sector, Refusal> {
+        let (numbers, _) = boundary::sector(self.packed, self.cells, self.track, self.side, index)?;
+        Ok(Sector::from_numbers(numbers))
+    }
+
+    /// The number of sectors.
+    pub fn sector_count(&self) -> Result<usize, Refusal> {
+        match boundary::sector(self.packed, self.cells, self.track, self.side, 0) {
+            Ok((_, sectors)) | Err(Refusal::NoSuchSector(sectors)) => Ok(sectors),
+            Err(refusal) => Err(refusal),
+        }
+    }
+
+    /// The sectors, in the order of their places.
+    pub fn sectors(&self) -> Result<Sectors<'a>, Refusal> {
+        Ok(Sectors::new(*self, self.sector_count()?))
+    }
+
+    /// Reads out the sector of an index to the front of `buffer`. A bad check does not refuse the call.
+    ///
+    /// Refuses [`NoSuchSector`](Refusal::NoSuchSector), [`NoDataRead`](Refusal::NoDataRead),
+    /// [`NoRoomForBytes`](Refusal::NoRoomForBytes).
+    pub fn read_out(&self, index: usize, buffer: &mut [u8]) -> Result<ReadOut, Refusal> {
+        let (length, check_good) = boundary::read_out(self.packed, self.cells, self.track, self.side, index, buffer)?;
+        Ok(ReadOut { length, check_good })
+    }
+
+    /// As [`read_out`](Track::read_out), into a vector that has room for the longest sector.
+    pub fn read_out_to_vec(&self, index: usize) -> Result<SectorData, Refusal> {
+        let mut bytes = vec![0; LONGEST_SECTOR];
+        let ReadOut { length, check_good } = self.read_out(index, &mut bytes)?;
+        bytes.truncate(length);
+        Ok(SectorData { bytes, check_good })
+    }
+
+    /// The findings, ordered by kind, then place. The list has room for all that a track can bring, so that
+    /// [`ListTooShort`](Refusal::ListTooShort) is never given.
+    pub fn findings(&self) -> Result<Vec<Finding>, Refusal> {
+        let mut records = vec![FindingRecord::default(); MOST_FINDINGS];
+        let count = boundary::finding_records(self.packed, self.cells, self.track, self.side, &mut records)?;
+        Ok(records[..count].iter().map(finding_of).collect())
+    }
+
+    /// The listing: a header and a line for each finding, or "refused" and a number.
+    #[cfg(feature = "file_exports")]
+    pub fn listing(&self) -> String {
+        crate::track_file::listing_of(|out| {
+            boundary::files::listing(self.packed, self.cells, self.track, self.side, out)
+        })
+    }
+}
+
+/// The finding of a record that the library filled. Its level is the kind's.
+fn finding_of(record: &FindingRecord) -> Finding {
+    Finding {
+        kind: Kind::try_from(record.kind).expect("the library gives the kinds of 01's table alone"),
+        place: record.place,
+        detail: record.detail,
+    }
+}
+
+/// Sets the first `count` bytes, or all where there are fewer, to 0.
+pub fn clear(packed: &mut [u8], count: usize) {
+    boundary::clear(packed, count);
+}
+
+/// Puts a one at cell `place`, where the bytes have such a cell.
+pub fn put_one(packed: &mut [u8], place: usize) {
+    boundary::put_one(packed, place);
+}
+
+#[cfg(test)]
+mod tests {
+    use super::*;
+
+    /// Zeros at track 80: NOS and NFA.
+    const ZEROS: [u8; 12_500] = [0; 12_500];
+
+    #[test]
+    fn a_record_has_twelve_bytes() {
+        assert_eq!(size_of::<FindingRecord>(), 12);
+        assert_eq!(std::mem::offset_of!(FindingRecord, level), 1);
+        assert_eq!(std::mem::offset_of!(FindingRecord, place), 4);
+        assert_eq!(std::mem::offset_of!(FindingRecord, detail), 8);
+    }
+
+    #[test]
+    fn records_have_the_level_of_their_kind() {
+        let mut records = [FindingRecord::default(); 2];
+        assert_eq!(boundary::finding_records(&ZEROS, 100_000, 80, 0, &mut records), Ok(2));
+        for record in records {
+            assert_eq!(record.level, finding_of(&record).level());
+        }
+    }
+
+    #[test]
+    fn records_and_numbers_are_the_same_findings() {
+        let mut records = [FindingRecord::default(); 2];
+        let mut numbers = [0; 8];
+        assert_eq!(boundary::finding_records(&ZEROS, 100_000, 80, 0, &mut records), Ok(2));
+        assert_eq!(boundary::findings(&ZEROS, 100_000, 80, 0, &mut numbers), Ok(2));
+        let record_numbers =
+            records.map(|record| [record.kind.into(), record.level.into(), record.place, record.detail]);
+        assert_eq!(record_numbers.concat(), numbers);
+    }
+
+    #[test]
+    fn a_list_too_short_is_refused_and_kept() {
+        let kept = FindingRecord { kind: 9, level: 9, place: 9, detail: 9 };
+        let mut records = [kept];
+        let answer = boundary::finding_records(&ZEROS, 100_000, 80, 0, &mut records);
+        assert_eq!(answer, Err(Refusal::ListTooShort(2)));
+        assert_eq!(records, [kept]);
+        let mut numbers = [9; 7];
+        assert_eq!(boundary::findings(&ZEROS, 100_000, 80, 0, &mut numbers), Err(Refusal::ListTooShort(2)));
+        assert_eq!(numbers, [9; 7]);
+    }
+}

@@ -1,0 +1,49 @@
+//! The samples' listings, printed from the crate's findings.
+
+use std::fs;
+use std::path::{Path, PathBuf};
+use thikbromu::{separate_to_vec, Cells, Track};
+
+fn number_at(file: &[u8], place: usize) -> usize {
+    u32::from_le_bytes(file[place..place + 4].try_into().unwrap()) as usize
+}
+
+/// The cells of a whole track file, which are there or come from its timings.
+fn cells_of(file: &[u8]) -> Cells {
+    let count = number_at(file, 6);
+    if count != 0 {
+        return Cells { packed: file[10..10 + count.div_ceil(8)].to_vec(), count };
+    }
+    let timings: Vec<u32> = (0..number_at(file, 10)).map(|index| number_at(file, 14 + 4 * index) as u32).collect();
+    separate_to_vec(&timings).unwrap()
+}
+
+fn listing_of(file: &[u8]) -> String {
+    let cells = cells_of(file);
+    let (track, side) = (file[4], file[5]);
+    let read = Track::new(&cells.packed, cells.count, track.into(), side.into());
+    let findings = read.findings().unwrap();
+    let sectors = read.sector_count().unwrap();
+    let mut listing =
+        format!("T{track:02} H{side} cells {} sectors {sectors} findings {}\n", cells.count, findings.len());
+    for finding in findings {
+        listing += &format!("{finding}\n");
+    }
+    listing
+}
+
+#[test]
+fn every_sample() {
+    let folder = Path::new(env!("CARGO_MANIFEST_DIR")).join("../../samples");
+    let entries = fs::read_dir(folder).unwrap().map(|entry| entry.unwrap().path());
+    let files: Vec<PathBuf> =
+        entries.filter(|path| path.extension().is_some_and(|extension| extension == "track")).collect();
+    assert!(!files.is_empty());
+    for path in files {
+        let listing = fs::read_to_string(path.with_extension("listing")).unwrap();
+        // What is no track file has no cells to list.
+        if listing != "refused 15\n" {
+            assert_eq!(listing_of(&fs::read(&path).unwrap()), listing, "{}", path.display());
+        }
+    }
+}
