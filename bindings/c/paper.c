@@ -1,0 +1,303 @@
+/*
+ * The numbers that 01 prints, through include/thikbromu.h: every routine is called, and every refusal but 15 is given. The argument is
+ * samples/standard.track. It compiles as C99 and as C++.
+ */
+#include "thikbromu.h"
+
+#include <stdio.h>
+#include <string.h>
+
+#define TRACK_CELLS 100000
+#define TRACK_BYTES 12500
+/* The file's bytes before its cells. */
+#define BEFORE_CELLS 10
+
+static int passed = 0;
+static int failed = 0;
+
+static void expect(int holds, int line, const char *text)
+{
+    if (holds) {
+        passed++;
+    } else {
+        failed++;
+        printf("line %d: %s\n", line, text);
+    }
+}
+
+#define EXPECT(condition) expect((condition) ? 1 : 0, __LINE__, #condition)
+
+/* An answer and the value beside it. */
+#define GIVES(call, expected) EXPECT((value = 77, (call) == 0 && value == (expected)))
+#define REFUSES(call, name, expected) EXPECT((value = 77, (call) == THIKBROMU_REFUSED_##name && value == (expected)))
+
+static size_t value;
+static uint8_t room[THIKBROMU_MOST_CELL_BYTES];
+static uint32_t timings[THIKBROMU_MOST_TIMINGS + 1];
+static const uint8_t nothing[1] = {0};
+
+static uint32_t coded(uint8_t byte, bool before)
+{
+    uint8_t cells[2] = {0, 0};
+    uint32_t refusal = thikbromu_encode(&byte, 1, before, cells, 2, &value);
+    return refusal == 0 && value == 2 ? (uint32_t)cells[0] << 8 | cells[1] : 0;
+}
+
+static void test_cells(void)
+{
+    uint8_t cells[3] = {0x44, 0x89, 0xFF};
+    EXPECT(thikbromu_cell(cells, 3, 16, 1) == 1);
+    EXPECT(thikbromu_cell(cells, 3, 16, 17) == 1);
+    EXPECT(thikbromu_cell(cells, 3, 16, 18) == 0);
+    EXPECT(thikbromu_word(cells, 3, 16, 0, 16) == 0x4489);
+    EXPECT(thikbromu_word(cells, 3, 16, 8, 16) == 0x8944);
+    EXPECT(thikbromu_find_word(cells, 3, 16, 0x8944, 16, 0, 16) == 8);
+    EXPECT(thikbromu_find_word(cells, 3, 16, 0x8945, 16, 0, 16) == 16);
+    EXPECT(thikbromu_find_word(cells, 3, 16, 0x8944, 16, 20, 9) == 20);
+    thikbromu_clear(cells, 3, 2);
+    EXPECT(cells[0] == 0 && cells[1] == 0 && cells[2] == 0xFF);
+    thikbromu_put_one(cells, 3, 9);
+    thikbromu_put_one(cells, 3, 24);
+    EXPECT(cells[0] == 0 && cells[1] == 0x40 && cells[2] == 0xFF);
+}
+
+static void test_coding(void)
+{
+    EXPECT(coded(0x4E, false) == 0x9254);
+    EXPECT(coded(0x00, false) == 0xAAAA);
+    EXPECT(coded(0x00, true) == 0x2AAA);
+    EXPECT(coded(0xFF, false) == 0x5555);
+    EXPECT(coded(0xA1, false) == 0x44A9);
+    EXPECT(coded(0xC2, false) == 0x52A4);
+
+    const uint8_t syncs[5] = {0x44, 0x89, 0x52, 0x24, 0xFF};
+    uint8_t bytes[3] = {7, 7, 7};
+    GIVES(thikbromu_decode(syncs, 5, bytes, 3, &value), 2);
+    EXPECT(bytes[0] == 0xA1 && bytes[1] == 0xC2 && bytes[2] == 7);
+    REFUSES(thikbromu_decode(syncs, 5, bytes, 1, &value), NO_ROOM_FOR_BYTES, 2);
+    REFUSES(thikbromu_encode(syncs, 5, false, bytes, 3, &value), NO_ROOM_FOR_BYTES, 10);
+    EXPECT(bytes[0] == 0xA1 && bytes[1] == 0xC2 && bytes[2] == 7);
+    GIVES(thikbromu_encode(nothing, 0, true, bytes, 0, &value), 0);
+    REFUSES(thikbromu_encode(room, THIKBROMU_MOST_BYTES_TO_CODE + 1, false, bytes, 0, &value), TOO_MANY_BYTES, 8193);
+    static const uint8_t many[THIKBROMU_MOST_BYTES_TO_DECODE + 1] = {0};
+    REFUSES(thikbromu_decode(many, sizeof many, bytes, 0, &value), TOO_MANY_BYTES, 16385);
+
+    const uint8_t mark[4] = {0xA1, 0xA1, 0xA1, 0xFE};
+    const uint8_t data_mark[1] = {0xFB};
+    EXPECT(thikbromu_check_word(mark, 3) == 0xCDB4);
+    EXPECT(thikbromu_check_word(mark, 4) == 0xB230);
+    EXPECT(thikbromu_check_word_from(0xCDB4, data_mark, 1) == 0xE295);
+}
+
+/* A row of 01's table, from a residual. */
+static void test_step(int32_t residual, uint32_t timing, size_t cells, int32_t after)
+{
+    GIVES(thikbromu_step(residual, timing, &value), cells);
+    EXPECT(thikbromu_residual_after(residual, timing) == after);
+    GIVES(thikbromu_step_lent(residual, timing, &value), cells);
+    EXPECT(thikbromu_residual_after_lent(residual, timing) == after);
+}
+
+static void test_separator(void)
+{
+    test_step(0, 4900, 2, 450);
+    test_step(450, 4000, 2, 225);
+    test_step(0, 4999, 2, 499);
+    test_step(0, 5000, 3, -500);
+    test_step(-500, 5000, 2, 250);
+    test_step(0, 5001, 3, -499);
+    test_step(0, 500, 0, 250);
+    test_step(250, 3500, 2, -125);
+    test_step(0, 10000000, 5000, 0);
+    test_step(500, 4900, 2, 450);
+    REFUSES(thikbromu_step(3, 0, &value), TIMING_OUT_OF_RANGE, 0);
+    EXPECT(thikbromu_residual_after(3, 0) == 3);
+    REFUSES(thikbromu_step_lent(700, 10000001, &value), TIMING_OUT_OF_RANGE, 0);
+    EXPECT(thikbromu_residual_after_lent(700, 10000001) == 700);
+
+    const uint32_t two[2] = {5000, 5000};
+    uint8_t cells[2] = {7, 7};
+    GIVES(thikbromu_separate(two, 2, cells, 2, &value), 5);
+    EXPECT(cells[0] == 0x28 && cells[1] == 7);
+    REFUSES(thikbromu_separate(two, 0, cells, 2, &value), NO_TIMINGS, 0);
+    REFUSES(thikbromu_separate(two, 2, cells, 0, &value), NO_ROOM_FOR_CELLS, 1);
+    EXPECT(cells[0] == 0x28 && cells[1] == 7);
+    for (size_t i = 0; i <= THIKBROMU_MOST_TIMINGS; i++) {
+        timings[i] = 6000;
+    }
+    REFUSES(thikbromu_separate(timings, THIKBROMU_MOST_TIMINGS + 1, cells, 2, &value), TOO_MANY_TIMINGS, 65537);
+    REFUSES(thikbromu_separate(timings, THIKBROMU_MOST_TIMINGS, cells, 2, &value), TOO_MANY_CELLS, 196608);
+    timings[9] = 0;
+    REFUSES(thikbromu_separate(timings, THIKBROMU_MOST_TIMINGS, cells, 2, &value), TIMING_OUT_OF_RANGE, 9);
+}
+
+static void test_histogram(void)
+{
+    const uint32_t some[5] = {1, 99, 100, 25500, 10000000};
+    uint32_t counts[THIKBROMU_HISTOGRAM_COUNTS];
+    GIVES(thikbromu_histogram(some, 5, counts, THIKBROMU_HISTOGRAM_COUNTS, &value), 5);
+    EXPECT(counts[0] == 2 && counts[1] == 1 && counts[2] == 0 && counts[254] == 0 && counts[255] == 2);
+    REFUSES(thikbromu_histogram(some, 0, counts, THIKBROMU_HISTOGRAM_COUNTS, &value), NO_TIMINGS, 0);
+    EXPECT(counts[0] == 0 && counts[1] == 0 && counts[255] == 0);
+}
+
+static void test_standard_track(const uint8_t *cells)
+{
+    uint32_t sector[THIKBROMU_SECTOR_NUMBERS];
+    for (size_t index = 0; index < 9; index++) {
+        uint32_t place = 1152 + 9824 * (uint32_t)index;
+        const uint32_t expected[THIKBROMU_SECTOR_NUMBERS] = {
+            place, 0xFE, 0, 0, (uint32_t)index + 1, 2, 1, place + 704, 0xFB, 512, 1};
+        GIVES(thikbromu_sector(cells, TRACK_BYTES, TRACK_CELLS, 0, 0, index, sector, THIKBROMU_SECTOR_NUMBERS, &value), 9);
+        EXPECT(memcmp(sector, expected, sizeof expected) == 0);
+    }
+    const uint32_t zeros[THIKBROMU_SECTOR_NUMBERS] = {0};
+    REFUSES(thikbromu_sector(cells, TRACK_BYTES, TRACK_CELLS, 0, 0, 9, sector, THIKBROMU_SECTOR_NUMBERS, &value),
+            NO_SUCH_SECTOR, 9);
+    EXPECT(memcmp(sector, zeros, sizeof zeros) == 0);
+
+    uint8_t data[THIKBROMU_LONGEST_SECTOR] = {0};
+    uint8_t decoded[512];
+    uint32_t good = 77;
+    data[512] = 7;
+    GIVES(thikbromu_read_out(cells, TRACK_BYTES, TRACK_CELLS, 0, 0, 0, data, sizeof data, &good, &value), 512);
+    EXPECT(good == 1 && data[512] == 7);
+    GIVES(thikbromu_decode(cells + (1152 + 704 + 64) / 8, 1024, decoded, sizeof decoded, &value), 512);
+    EXPECT(memcmp(data, decoded, sizeof decoded) == 0);
+    good = 77;
+    REFUSES(thikbromu_read_out(cells, TRACK_BYTES, TRACK_CELLS, 0, 0, 0, data, 511, &good, &value), NO_ROOM_FOR_BYTES, 512);
+    EXPECT(good == 77);
+
+    /* With the syncs of the first data mark spoilt, its ID has no data; all other sectors keep theirs. */
+    memcpy(room, cells, TRACK_BYTES);
+    thikbromu_clear(room + (1152 + 704) / 8, 6, 6);
+    REFUSES(thikbromu_read_out(room, TRACK_BYTES, TRACK_CELLS, 0, 0, 0, data, sizeof data, &good, &value), NO_DATA_READ, 0);
+}
+
+static void test_findings(const uint8_t *cells)
+{
+    EXPECT(sizeof(struct thikbromu_finding) == 12);
+    EXPECT(offsetof(struct thikbromu_finding, level) == 1);
+    EXPECT(offsetof(struct thikbromu_finding, place) == 4);
+    EXPECT(offsetof(struct thikbromu_finding, detail) == 8);
+
+    static struct thikbromu_finding records[THIKBROMU_MOST_FINDINGS];
+    uint32_t numbers[2 * THIKBROMU_FINDING_NUMBERS];
+    GIVES(thikbromu_finding_records(cells, TRACK_BYTES, TRACK_CELLS, 0, 0, records, THIKBROMU_MOST_FINDINGS, &value), 0);
+
+    /* All bytes AA, at track 5. */
+    memset(room, 0xAA, TRACK_BYTES);
+    GIVES(thikbromu_finding_records(room, TRACK_BYTES, TRACK_CELLS, 5, 0, records, THIKBROMU_MOST_FINDINGS, &value), 2);
+    EXPECT(records[0].kind == THIKBROMU_KIND_NOS && records[0].level == 3);
+    EXPECT(records[1].kind == THIKBROMU_KIND_TNF && records[1].level == 2);
+
+    /* All zero cells, at track 80. */
+    memset(room, 0, TRACK_BYTES);
+    const uint32_t expected[8] = {THIKBROMU_KIND_NOS, 3, 0, 0, THIKBROMU_KIND_NFA, 1, 0, 100000};
+    GIVES(thikbromu_findings(room, TRACK_BYTES, TRACK_CELLS, 80, 0, numbers, 8, &value), 2);
+    EXPECT(memcmp(numbers, expected, sizeof expected) == 0);
+    REFUSES(thikbromu_findings(room, TRACK_BYTES, TRACK_CELLS, 80, 0, numbers, 7, &value), LIST_TOO_SHORT, 2);
+    REFUSES(thikbromu_finding_records(room, TRACK_BYTES, TRACK_CELLS, 80, 0, records, 1, &value), LIST_TOO_SHORT, 2);
+
+    REFUSES(thikbromu_findings(room, 0, 0, 84, 0, numbers, 0, &value), TRACK_OR_SIDE, 0);
+    REFUSES(thikbromu_findings(room, 0, 19999, 83, 1, numbers, 0, &value), CELL_COUNT, 19999);
+    REFUSES(thikbromu_findings(room, 0, 131073, 83, 1, numbers, 0, &value), CELL_COUNT, 131073);
+    REFUSES(thikbromu_findings(room, 2499, 20000, 83, 1, numbers, 0, &value), TOO_FEW_BYTES, 2500);
+}
+
+/* An ID mark every 40 bytes of cells, 65 in all. */
+static void test_too_many_sectors(void)
+{
+    const uint8_t mark[8] = {0x44, 0x89, 0x44, 0x89, 0x44, 0x89, 0x55, 0x54};
+    memset(room, 0xAA, sizeof room);
+    for (size_t sector = 0; sector < 65; sector++) {
+        memcpy(room + 40 * sector, mark, sizeof mark);
+    }
+    uint32_t numbers[4];
+    REFUSES(thikbromu_findings(room, 65 * 40, 65 * 320, 0, 0, numbers, 4, &value), TOO_MANY_SECTORS, 65);
+}
+
+#ifdef THIKBROMU_FILE_EXPORTS
+static uint64_t state[THIKBROMU_FILE_NUMBERS];
+
+/* The end of a file of which this is all. */
+static uint32_t finish(const uint8_t *file, size_t length, uint32_t *place)
+{
+    thikbromu_file_start(state, THIKBROMU_FILE_NUMBERS, room, sizeof room);
+    thikbromu_file_feed(state, THIKBROMU_FILE_NUMBERS, file, length, room, sizeof room);
+    return thikbromu_file_finish(state, THIKBROMU_FILE_NUMBERS, room, sizeof room, place, THIKBROMU_PLACE_NUMBERS, &value);
+}
+
+static void test_files(const uint8_t *file, size_t length)
+{
+    static const char listing[] = "T00 H0 cells 100000 sectors 9 findings 0\n";
+    static const char refused[] = "refused 15\n";
+    uint8_t out[64];
+    uint32_t place[THIKBROMU_PLACE_NUMBERS] = {77, 77};
+
+    GIVES(finish(file, length, place), TRACK_CELLS);
+    EXPECT(place[0] == 0 && place[1] == 0);
+    EXPECT(memcmp(room, file + BEFORE_CELLS, TRACK_BYTES) == 0);
+    EXPECT(thikbromu_listing(room, sizeof room, TRACK_CELLS, 0, 0, out, sizeof out) == sizeof listing - 1);
+    EXPECT(memcmp(out, listing, sizeof listing - 1) == 0);
+
+    /* Byte by byte, to its listing. */
+    thikbromu_file_start(state, THIKBROMU_FILE_NUMBERS, room, sizeof room);
+    uint32_t stopped = 0;
+    for (size_t i = 0; i < length; i++) {
+        stopped |= thikbromu_file_feed(state, THIKBROMU_FILE_NUMBERS, file + i, 1, room, sizeof room);
+    }
+    EXPECT(stopped == 0);
+    memset(out, 7, sizeof out);
+    EXPECT(thikbromu_file_listing(state, THIKBROMU_FILE_NUMBERS, room, sizeof room, out, sizeof out) == sizeof listing - 1);
+    EXPECT(memcmp(out, listing, sizeof listing - 1) == 0 && out[sizeof listing - 1] == 7);
+
+    /* Cut short, it is refused at its end, and the cells are cleared. */
+    REFUSES(finish(file, length - 1, place), NOT_A_TRACK_FILE, 0);
+    EXPECT(thikbromu_word(room, sizeof room, TRACK_CELLS, 1152, 48) == 0);
+    EXPECT(thikbromu_file_listing(state, THIKBROMU_FILE_NUMBERS, room, sizeof room, out, sizeof out) == sizeof refused - 1);
+    EXPECT(memcmp(out, refused, sizeof refused - 1) == 0);
+
+    /* The refusals that are given at once. */
+    const uint8_t other_place_count[4] = {3, 0, 0, 0};
+    const uint8_t many_cells[10] = {2, 0, 0, 0, 0, 0, 1, 0, 2, 0};
+    const uint8_t many_timings[14] = {2, 0, 0, 0, 0, 0, 0, 0, 0, 0, 1, 0, 1, 0};
+    REFUSES(finish(other_place_count, 4, place), NOT_A_TRACK_FILE, 0);
+    EXPECT(thikbromu_file_feed(state, THIKBROMU_FILE_NUMBERS, file, 1, room, sizeof room) == 1);
+    REFUSES(finish(many_cells, 10, place), CELL_COUNT, 131073);
+    EXPECT(thikbromu_file_feed(state, THIKBROMU_FILE_NUMBERS, file, 1, room, sizeof room) == 1);
+    REFUSES(finish(many_timings, 14, place), TOO_MANY_TIMINGS, 65537);
+    EXPECT(thikbromu_file_feed(state, THIKBROMU_FILE_NUMBERS, file, 1, room, sizeof room) == 1);
+
+    /* Too little room for the cells. */
+    size_t less = sizeof room - 1;
+    thikbromu_file_start(state, THIKBROMU_FILE_NUMBERS, room, less);
+    EXPECT(thikbromu_file_feed(state, THIKBROMU_FILE_NUMBERS, file, length, room, less) == 1);
+    REFUSES(thikbromu_file_finish(state, THIKBROMU_FILE_NUMBERS, room, less, place, THIKBROMU_PLACE_NUMBERS, &value),
+            NO_ROOM_FOR_CELLS, 16384);
+}
+#endif
+
+int main(int count, char **arguments)
+{
+    static uint8_t file[BEFORE_CELLS + TRACK_BYTES + 4];
+    FILE *input = count == 2 ? fopen(arguments[1], "rb") : NULL;
+    if (input == NULL || fread(file, 1, sizeof file, input) != sizeof file) {
+        fprintf(stderr, "usage: paper samples/standard.track\n");
+        return 2;
+    }
+    fclose(input);
+
+    test_cells();
+    test_coding();
+    test_separator();
+    test_histogram();
+    test_standard_track(file + BEFORE_CELLS);
+    test_findings(file + BEFORE_CELLS);
+    test_too_many_sectors();
+#ifdef THIKBROMU_FILE_EXPORTS
+    test_files(file, sizeof file);
+#endif
+    printf("%d passed, %d failed\n", passed, failed);
+    return failed == 0 ? 0 : 1;
+}
