@@ -87,8 +87,8 @@ enum thikbromu_kind {
     THIKBROMU_KIND_SBD = 15,  /* 1: data read, check bad; detail number */
     THIKBROMU_KIND_DOI = 16,  /* 1: data read, q below N, its end above N; detail end - N */
     THIKBROMU_KIND_DBI = 17,  /* 1: data mark with q at least N; detail q - N */
-    THIKBROMU_KIND_SWS = 18,  /* 1: p lies within another sector's data; detail number */
-    THIKBROMU_KIND_SID = 19,  /* 3: 4489 within the ID or the data, any phase; detail how many */
+    THIKBROMU_KIND_SWS = 18,  /* 1: p, or p + N, lies at or after q and before the end of another sector's data; detail number */
+    THIKBROMU_KIND_SID = 19,  /* 3: 4489 lies between p+64 and p+160 or between q+64 and the data end, any phase; detail how many */
     THIKBROMU_KIND_MTV = 20,  /* 3: a one whose next one is 1 or more than 4 cells on; place the first such, detail how many */
     THIKBROMU_KIND_NFA = 21   /* 1: the longest run of zeros has 1,000 or more; place its start, detail its length */
 };
@@ -198,6 +198,7 @@ uint32_t thikbromu_findings(const uint8_t *bytes, size_t length, size_t n, uint3
 uint32_t thikbromu_finding_records(const uint8_t *bytes, size_t length, size_t n, uint32_t track, uint32_t side,
                                    struct thikbromu_finding *list, size_t room, size_t *value);
 
+/* Declared for an archive that has them. */
 #ifdef THIKBROMU_FILE_EXPORTS
 /*
  * A track file, taken in portions that are cut anywhere between two bytes: start, then feed for each portion, then finish or listing. The

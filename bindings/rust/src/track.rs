@@ -43,6 +43,11 @@ impl<'a> Track<'a> {
         Track { packed, cells, track, side }
     }
 
+    /// The bytes that the cells are packed in.
+    pub const fn packed(&self) -> &'a [u8] {
+        self.packed
+    }
+
     /// The number of cells.
     pub const fn cells(&self) -> usize {
         self.cells

@@ -67,6 +67,7 @@ impl TrackFile {
     /// [`TooManyCells`](Refusal::TooManyCells). What else a track can be refused for is judged by the calls on it.
     pub fn finish(mut self) -> Result<TrackCells, Refusal> {
         let (cells, [track, side]) = files::file_finish(&self.state, &mut self.packed)?;
+        self.packed.truncate(cells.div_ceil(8));
         Ok(TrackCells { packed: self.packed, cells, track, side })
     }
 
