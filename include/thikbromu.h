@@ -2,7 +2,7 @@
  * The library's routines for C and C++. Link target/staticlib/libthikbromu.a, which `rt staticlib thikbromu` writes.
  *
  * "01" is the scope paper, docs/01-scope.md. What each routine gives is proved; the statements are the `ensures` clauses in
- * crates/thikbromu/src/lib.rt, which these declarations follow.
+ * crates/thikbromu/src/lib.rt. That these declarations are its own is not proved: .ci/bindings compares the names and calls every routine.
  *
  * Answers. A routine that 01 refuses some calls of returns 0 where it accepts the call, else the refusal's number
  * (enum thikbromu_refusal). At `value` it stores what the call gives, or what the refusal gives also. Beside a refusal nothing else is

@@ -1,4 +1,5 @@
-//! The library's exports, as include/thikbromu.h declares them, behind safe functions. All unsafe code of the crate is here.
+//! The library's exports, as include/thikbromu.h declares them, behind safe functions. All unsafe code of the crate is here. Nothing
+//! compares the types of these declarations with those of crates/thikbromu/src/lib.rt: keep them alike.
 //!
 //! The boundary asks three things of a caller, which safe Rust gives:
 //! - each address is valid for its length. A slice's is; that of an empty slice may dangle, but it is not null and is aligned, which is
