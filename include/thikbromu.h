@@ -47,6 +47,9 @@ extern "C" {
 #define THIKBROMU_FINDING_NUMBERS 4
 #define THIKBROMU_MOST_FINDINGS 901 /* no track of 64 sectors brings more */
 #define THIKBROMU_LONGEST_SECTOR 1024
+#define THIKBROMU_FILE_NUMBERS 16
+#define THIKBROMU_PLACE_NUMBERS 2
+#define THIKBROMU_LONGEST_LISTING 65536
 
 /* 01's refusals, by their numbers; behind each, what it gives also. */
 enum thikbromu_refusal {
@@ -198,8 +201,6 @@ uint32_t thikbromu_findings(const uint8_t *bytes, size_t length, size_t n, uint3
 uint32_t thikbromu_finding_records(const uint8_t *bytes, size_t length, size_t n, uint32_t track, uint32_t side,
                                    struct thikbromu_finding *list, size_t room, size_t *value);
 
-/* Declared for an archive that has them. */
-#ifdef THIKBROMU_FILE_EXPORTS
 /*
  * A track file, taken in portions that are cut anywhere between two bytes: start, then feed for each portion, then finish or listing. The
  * caller keeps the state, sixteen numbers, and the cells, 16,384 bytes or more, from call to call, and lends both to each; nothing is
@@ -209,10 +210,6 @@ uint32_t thikbromu_finding_records(const uint8_t *bytes, size_t length, size_t n
  * the place count is not 2; 2 at once for a cell count above 131,072; 7 at once for a flux count above 65,536. Otherwise 15 is judged over
  * the whole file, then 8, 9. The track, the side and fewer than 20,000 cells are not judged here: the routines on a track do that.
  */
-#define THIKBROMU_FILE_NUMBERS 16
-#define THIKBROMU_PLACE_NUMBERS 2
-#define THIKBROMU_LONGEST_LISTING 65536
-
 /* The beginning, before any byte: clears the cells. */
 void thikbromu_file_start(uint64_t *state, size_t numbers, uint8_t *cells, size_t room);
 
@@ -230,7 +227,6 @@ size_t thikbromu_file_listing(const uint64_t *state, size_t numbers, uint8_t *ce
 
 /* The listing of a track, in the same way. */
 size_t thikbromu_listing(const uint8_t *bytes, size_t length, size_t n, uint32_t track, uint32_t side, uint8_t *out, size_t out_room);
-#endif
 
 #ifdef __cplusplus
 }

@@ -1,5 +1,5 @@
 /*
- * The numbers that 01 prints, through include/thikbromu.h: every routine is called, and every refusal but 15 is given. The argument is
+ * The numbers that 01 prints, through include/thikbromu.h: every routine is called, and every refusal is given. The argument is
  * samples/standard.track. It compiles as C99 and as C++.
  */
 #include "thikbromu.h"
@@ -217,7 +217,6 @@ static void test_too_many_sectors(void)
     REFUSES(thikbromu_findings(room, 65 * 40, 65 * 320, 0, 0, numbers, 4, &value), TOO_MANY_SECTORS, 65);
 }
 
-#ifdef THIKBROMU_FILE_EXPORTS
 static uint64_t state[THIKBROMU_FILE_NUMBERS];
 
 /* The end of a file of which this is all. */
@@ -276,7 +275,6 @@ static void test_files(const uint8_t *file, size_t length)
     REFUSES(thikbromu_file_finish(state, THIKBROMU_FILE_NUMBERS, room, less, place, THIKBROMU_PLACE_NUMBERS, &value),
             NO_ROOM_FOR_CELLS, 16384);
 }
-#endif
 
 int main(int count, char **arguments)
 {
@@ -295,9 +293,7 @@ int main(int count, char **arguments)
     test_standard_track(file + BEFORE_CELLS);
     test_findings(file + BEFORE_CELLS);
     test_too_many_sectors();
-#ifdef THIKBROMU_FILE_EXPORTS
     test_files(file, sizeof file);
-#endif
     printf("%d passed, %d failed\n", passed, failed);
     return failed == 0 ? 0 : 1;
 }

@@ -299,7 +299,6 @@ pub fn finding_records(
 }
 
 /// The exports on track files and listings.
-#[cfg(feature = "file_exports")]
 pub mod files {
     use super::answer;
     use crate::refusal::Refusal;

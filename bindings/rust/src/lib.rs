@@ -31,7 +31,6 @@ mod flux;
 mod refusal;
 mod sector;
 mod track;
-#[cfg(feature = "file_exports")]
 mod track_file;
 
 pub use coding::{
@@ -47,5 +46,4 @@ pub use sector::{ReadOut, Sector, SectorData, Sectors, LONGEST_SECTOR};
 pub use track::{
     clear, put_one, Track, FEWEST_CELLS, HIGHEST_SIDE, HIGHEST_TRACK, MOST_CELLS, MOST_CELL_BYTES, MOST_SECTORS,
 };
-#[cfg(feature = "file_exports")]
 pub use track_file::{TrackCells, TrackFile};

@@ -125,7 +125,6 @@ impl<'a> Track<'a> {
     }
 
     /// The listing: a header and a line for each finding, or "refused" and a number.
-    #[cfg(feature = "file_exports")]
     pub fn listing(&self) -> String {
         crate::track_file::listing_of(|out| {
             boundary::files::listing(self.packed, self.cells, self.track, self.side, out)

@@ -1,5 +1,4 @@
 //! Track files in portions, and their listings.
-#![cfg(feature = "file_exports")]
 
 use std::fs;
 use std::io::{self, Read};
