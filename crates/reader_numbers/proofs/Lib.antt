@@ -1,0 +1,4 @@
+mod Rows
+mod Fronts
+mod Residuals
+pub mod Laws
