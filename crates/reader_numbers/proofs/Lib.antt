@@ -1,4 +1,5 @@
 mod Rows
 mod Fronts
 mod Residuals
+pub mod Held
 pub mod Laws
