@@ -61,4 +61,3 @@ Held (Stopped refusal) = Unit
 abbrev pub Bytes : List ℕ → Type 0
 Bytes [] = Unit
 Bytes (byte ∷ bytes) = (byte < 256) × Bytes bytes
-

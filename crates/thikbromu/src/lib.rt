@@ -6,6 +6,13 @@
 //
 // What the boundary asks of a caller in another language: each address is valid for its length, lent memory does not
 // overlap what else is passed, and a bool is 0 or 1. The routines ask nothing of the values.
+mod files;
+
+pub use files::thikbromu_file_feed;
+pub use files::thikbromu_file_finish;
+pub use files::thikbromu_file_listing;
+pub use files::thikbromu_file_start;
+pub use files::thikbromu_listing;
 use findings::Finding;
 use findings::Found;
 use flux::Counted;
