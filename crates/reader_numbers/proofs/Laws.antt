@@ -6,12 +6,15 @@ use mathlib.Core.List.{List, [], _∷_, _++_}
 use native.Mathlib.Nat.{mod-eq-of-lt}
 use native.Mathlib.Omega.{arith}
 use borrow.Author.Tests.{lt-ltb, le-ltb, eq-eqb, eqb-true}
-use lib.Dec.{T, eqb}
+use lib.Dec.{T, eqb, ltb}
 use lib.IntN.{ℤ}
-use lib.ListN.{length, drop, length-append}
+use lib.ListN.{length, drop, length-append, length-drop}
 use Rattle.refusals.specs.RefusedCalls.{numberOf, valueOf}
 use Rattle.refusals.specs.declared.Refusal.{Refusal}
 use Rattle.refusals.specs.declared.Refusal.the-variants.{TrackOrSide, CellCount as CellsRefused, TooFewBytes, TooManySectors, ListTooShort, NoTimings, TooManyTimings, TimingOutOfRange, TooManyCells, NoRoomForCells, NoSuchSector, NoDataRead, NoRoomForBytes, TooManyBytes, NotATrackFile as NoTrackFile}
+use Rattle.track_file.specs.Portions.{startOf, startCells, readerAfter, cellsAfter, readerAfterAll, cellsAfterAll, readerThrough, cellsThrough, wholeOf, finishAnswer, leftAfter}
+use Rattle.track_file.specs.TrackFile.{fileAnswerIn, fileBuffer}
+use Rattle.track_file.proofs.Whole.{finished}
 use Rattle.track_file.specs.declared.Place.{Place}
 use Rattle.track_file.specs.declared.Number.{Number}
 use Rattle.track_file.specs.declared.Number.the-variants.{Empty, One, Two, Three}
@@ -20,7 +23,7 @@ use Rattle.track_file.specs.declared.TakenTimings.the-variants.{InRange, OutOfR
 use Rattle.track_file.specs.declared.Reader.{Reader}
 use Rattle.track_file.specs.declared.Reader.the-variants.{PlaceCount, Track, Side, CellCount, PackedCells, FluxCount, Timings, AllCells, AllTimings, NotATrackFile, Stopped}
 use Rattle.reader_numbers.specs.Numbers.{kindOf, firstByte, secondByte, thirdByte, lowered, raised, takenKind, takenCount, takenCells, takenResidual, row, noPlace, stateOf, numberFrom, takenFrom, lowRefusal, highRefusal, refusalFrom, earlyFrom, lateFrom, readerFrom, decoded, atFront, readerOf, stateAfter}
-use Rattle.reader_numbers.proofs.Held.{HeldPlace, HeldNumber, HeldTaken, Held}
+use Rattle.reader_numbers.proofs.Held.{HeldPlace, HeldNumber, HeldTaken, Held, Bytes, Portions, held-start, held-after}
 use Rattle.reader_numbers.proofs.Residuals.{raised-small, lowered-raised}
 
 -- each part
@@ -119,3 +122,74 @@ read-back reader h rest = rw (le-ltb (length (stateOf reader ++ rest)) 13 (long 
   where
     long : (reader : Reader) (rest : List ℕ) → 13 ≤ length (stateOf reader ++ rest)
     long reader rest = rw (length-append (stateOf reader) rest, state-long reader) (omega arith)
+
+-- so a reader that is kept where there is room for its numbers is read back
+pub kept-back : (reader : Reader) → Held reader → (state : List ℕ) → 13 ≤ length state → readerOf (stateAfter reader state) ≡ reader
+unfolding stateAfter
+kept-back reader h state enough = rw (le-ltb (length state) 13 enough) (read-back reader h (drop (length (stateOf reader)) state))
+
+pub kept-long : (reader : Reader) (state : List ℕ) → 13 ≤ length state → length (stateAfter reader state) ≡ length state
+unfolding stateAfter
+kept-long reader state enough =
+    rw (le-ltb (length state) 13 enough, length-append (stateOf reader) (drop (length (stateOf reader)) state), length-drop (length (stateOf reader)) state, state-long reader)
+    (omega (arith, enough))
+
+-- what is no reader's, or too short, gives no reader
+pub too-short : (state : List ℕ) → length state < 13 → readerOf state ≡ NotATrackFile
+unfolding readerOf
+too-short state h = rw (lt-ltb (length state) 13 h)
+
+pub no-reader : (state : List ℕ) → ((reader : Reader) (rest : List ℕ) → state ≡ stateOf reader ++ rest → ⊥) → readerOf state ≡ NotATrackFile
+unfolding readerOf
+no-reader state none = go (ltb (length state) 13) (atFront (stateOf (decoded state)) state) refl
+  where
+    go : (a b : Bool) → atFront (stateOf (decoded state)) state ≡ b → cond a NotATrackFile (cond b (decoded state) NotATrackFile) ≡ NotATrackFile
+    go true b e = refl
+    go false true e = absurd (none (decoded state) (drop (length (stateOf (decoded state))) state) (front-is (stateOf (decoded state)) state e))
+    go false false e = refl
+
+-- a file in portions: the numbers and the cell buffer after `feed` on each of them
+abbrev pub stateAfterAll : List ℕ → List (List ℕ) → List ℕ
+stateAfterAll state [] = state
+stateAfterAll state (portion ∷ portions) = stateAfterAll (stateAfter (readerAfter (readerOf state) portion) state) portions
+
+abbrev pub cellsFed : List ℕ → List (List ℕ) → List ℕ → List ℕ
+cellsFed state [] buffer = buffer
+cellsFed state (portion ∷ portions) buffer = cellsFed (stateAfter (readerAfter (readerOf state) portion) state) portions (cellsAfter (readerOf state) portion buffer)
+
+fed : (reader : Reader) → Held reader → (state : List ℕ) → 13 ≤ length state → readerOf state ≡ reader → (portions : List (List ℕ)) → Portions portions
+    → (buffer : List ℕ)
+    → (readerOf (stateAfterAll state portions) ≡ readerAfterAll reader portions) × (cellsFed state portions buffer ≡ cellsAfterAll reader portions buffer)
+unfolding readerAfterAll cellsAfterAll
+fed reader h state enough is [] b buffer = (is, refl)
+fed reader h state enough is (portion ∷ portions) b buffer =
+    let next = held-after reader portion h (b .0) in
+    rw is
+    (fed (readerAfter reader portion) next (stateAfter (readerAfter reader portion) state) (rw (kept-long (readerAfter reader portion) state enough) enough)
+    (kept-back (readerAfter reader portion) next state enough)
+    portions
+    (b .1)
+    (cellsAfter reader portion buffer))
+
+-- from the start: the numbers are those of the reader that the portions lead to, and the buffer holds the cells that they put there. So
+-- `WholeFile` and `WholeListing` hold of what the last call gives
+module _ (state : List ℕ) (enough : 13 ≤ length state) (buffer : List ℕ) (portions : List (List ℕ)) (bytes : Portions portions) where
+  abbrev pub stateThrough : List ℕ
+  stateThrough = stateAfterAll (stateAfter (startOf (length buffer)) state) portions
+
+  abbrev pub cellsLeft : List ℕ
+  cellsLeft = cellsFed (stateAfter (startOf (length buffer)) state) portions (startCells buffer)
+
+  pub through : (readerOf stateThrough ≡ readerThrough buffer portions) × (cellsLeft ≡ cellsThrough buffer portions)
+  through =
+      let start = startOf (length buffer) in
+      fed start (held-start (length buffer)) (stateAfter start state) (rw (kept-long start state enough) enough)
+      (kept-back start (held-start (length buffer)) state enough)
+      portions
+      bytes
+      (startCells buffer)
+
+  -- the end gives what the whole file gives
+  pub whole-file : (finishAnswer (readerOf stateThrough) ≡ fileAnswerIn (length buffer) (wholeOf portions))
+      × (leftAfter (finishAnswer (readerOf stateThrough)) cellsLeft ≡ fileBuffer buffer (wholeOf portions))
+  whole-file = finished (readerOf stateThrough) cellsLeft _ refl refl .1 .1 .whole buffer portions (through .0) (through .1)
