@@ -17,10 +17,10 @@ abbrev nfa : Finding
 nfa = record { kind = 21; level = 1; place = 0; detail = 100000 }
 
 -- "Whole listing for T 5, H 0, 100,000 cells, all bytes AA": no sectors, and the findings NOS and TNF
-pub whole-listing : headerOf 5 0 100000 0 2 ++ linesOf (nos ∷ tnf ∷ [])
+pub lines-of-findings : headerOf 5 0 100000 0 2 ++ linesOf (nos ∷ tnf ∷ [])
     ≡ bytesOf "T05 H0 cells 100000 sectors 0 findings 2\n3 NOS level 3 place 0 detail 0\n4 TNF level 2 place 0 detail 0\n"
 unfolding headerOf twoDigits linesOf findingLine nameOf names decimalOf digitsWithin digit bytesOf
-whole-listing = refl
+lines-of-findings = refl
 
 -- "At T 80 line 4 is absent and the header says findings 1."
 pub listing-80 : headerOf 80 0 100000 0 1 ++ linesOf (nos ∷ [])

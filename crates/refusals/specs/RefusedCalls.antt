@@ -1,5 +1,5 @@
 -- 01, "Refused calls": the number of each refusal, what it gives also, and what a call leaves in a lent buffer. A refused call leaves
--- it as it was. Assumes nothing.
+-- it as it was; the reader of a track file clears its cell buffer instead. Assumes nothing.
 use Prim.Native.Nat.{ℕ}
 use mathlib.Core.List.{List}
 use Rattle.basis.specs.Lists.{writtenOver}

@@ -170,8 +170,8 @@ unfoldable pub wholeOf : List (List ℕ) → List ℕ
 wholeOf [] = []
 wholeOf (portion ∷ portions) = portion ++ wholeOf portions
 
--- the reader is stopped: a refusal is given at once, or there is too little room. The other 15 are "judged over the whole file", though the
--- reader may know them before its end
+-- the reader is stopped: a refusal is given at once, or there is too little room. The other cases of 15 are "judged over the whole
+-- file", though the reader may know them before its end
 unfoldable pub isStopped : Reader → Bool
 isStopped (PlaceCount number) = false
 isStopped Track = false

@@ -56,7 +56,7 @@ pub enum Reader {
     AllTimings(Place, TakenTimings),
     // 15, where it is judged over the whole file: more bytes may come, and none changes it.
     NotATrackFile,
-    // A refusal that is given at once.
+    // A refusal that is given at once, or too little room.
     Stopped(Refusal),
 }
 
