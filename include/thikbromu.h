@@ -47,7 +47,7 @@ extern "C" {
 #define THIKBROMU_FINDING_NUMBERS 4
 #define THIKBROMU_MOST_FINDINGS 901 /* no track of 64 sectors brings more */
 #define THIKBROMU_LONGEST_SECTOR 1024
-#define THIKBROMU_FILE_NUMBERS 16
+#define THIKBROMU_FILE_NUMBERS 13
 #define THIKBROMU_PLACE_NUMBERS 2
 #define THIKBROMU_LONGEST_LISTING 65536
 
@@ -203,8 +203,9 @@ uint32_t thikbromu_finding_records(const uint8_t *bytes, size_t length, size_t n
 
 /*
  * A track file, taken in portions that are cut anywhere between two bytes: start, then feed for each portion, then finish or listing. The
- * caller keeps the state, sixteen numbers, and the cells, 16,384 bytes or more, from call to call, and lends both to each; nothing is
- * asked of what they hold.
+ * caller keeps the state, thirteen numbers or more, and the cells, 16,384 bytes or more, from call to call, and lends both to each; nothing
+ * is asked of what they hold. A state of fewer numbers is not written, and counts, as one that no call leaves, as a file that is refused
+ * with 15.
  *
  * Refusals of a file: 10 (with 16,384) at once where the cells have too little room, and then nothing is written to them; 15 at once where
  * the place count is not 2; 2 at once for a cell count above 131,072; 7 at once for a flux count above 65,536. Otherwise 15 is judged over
@@ -217,7 +218,7 @@ void thikbromu_file_start(uint64_t *state, size_t numbers, uint8_t *cells, size_
 uint32_t thikbromu_file_feed(uint64_t *state, size_t numbers, const uint8_t *portion, size_t length, uint8_t *cells, size_t room);
 
 /* The end of the file. Gives the number of cells, which stand packed in `cells`, and stores the track and the side at the front of
- * `place`. Beside a refusal the cells are cleared. */
+ * `place`, or as many of the two as there is room for. Beside a refusal `place` is kept and the cells are cleared. */
 uint32_t thikbromu_file_finish(const uint64_t *state, size_t numbers, uint8_t *cells, size_t room, uint32_t *place, size_t places,
                                size_t *value);
 

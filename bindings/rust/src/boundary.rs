@@ -304,7 +304,7 @@ pub mod files {
     use crate::refusal::Refusal;
 
     /// The numbers that hold any state of a reader.
-    pub const FILE_NUMBERS: usize = 16;
+    pub const FILE_NUMBERS: usize = 13;
 
     extern "C" {
         fn thikbromu_file_start(state: *mut u64, numbers: usize, cells: *mut u8, room: usize);
