@@ -1,6 +1,6 @@
 //! The library's routines, as its archive exports them, behind safe functions.
 //!
-//! Nothing checks these declarations against crates/thikbromu/src/lib.rt: keep the two alike. A slice passes as its address
+//! Nothing checks these declarations against crates/thikbromu/src: keep the two alike. A slice passes as its address
 //! and its length; safe Rust ensures what the boundary asks of the two.
 
 use second_program::refusal::Refusal;
@@ -107,6 +107,41 @@ extern "C" {
         room: usize,
         value: *mut usize,
     ) -> u32;
+    fn thikbromu_file_start(state: *mut u64, numbers: usize, cells: *mut u8, room: usize);
+    fn thikbromu_file_feed(
+        state: *mut u64,
+        numbers: usize,
+        portion: *const u8,
+        length: usize,
+        cells: *mut u8,
+        room: usize,
+    ) -> u32;
+    fn thikbromu_file_finish(
+        state: *const u64,
+        numbers: usize,
+        cells: *mut u8,
+        room: usize,
+        place: *mut u32,
+        place_room: usize,
+        value: *mut usize,
+    ) -> u32;
+    fn thikbromu_file_listing(
+        state: *const u64,
+        numbers: usize,
+        cells: *mut u8,
+        room: usize,
+        out: *mut u8,
+        out_room: usize,
+    ) -> usize;
+    fn thikbromu_listing(
+        bytes: *const u8,
+        length: usize,
+        n: usize,
+        track: u32,
+        side: u32,
+        out: *mut u8,
+        room: usize,
+    ) -> usize;
 }
 
 pub fn cell(bytes: &[u8], n: usize, p: usize) -> u64 {
@@ -278,4 +313,64 @@ pub fn finding_records(
         )
     };
     answer(number, value)
+}
+
+/// How many numbers hold any reader of a track file.
+pub const FILE_NUMBERS: usize = 13;
+
+/// The beginning of a track file.
+pub fn file_start(state: &mut [u64], cells: &mut [u8]) {
+    unsafe { thikbromu_file_start(state.as_mut_ptr(), state.len(), cells.as_mut_ptr(), cells.len()) }
+}
+
+/// A portion more of a track file: whether a refusal is given at once.
+pub fn file_feed(state: &mut [u64], portion: &[u8], cells: &mut [u8]) -> bool {
+    let stopped = unsafe {
+        thikbromu_file_feed(
+            state.as_mut_ptr(),
+            state.len(),
+            portion.as_ptr(),
+            portion.len(),
+            cells.as_mut_ptr(),
+            cells.len(),
+        )
+    };
+    assert!(stopped < 2, "1 for yes and 0 for no");
+    stopped == 1
+}
+
+/// The end of a track file: the number of its cells, or the refusal.
+pub fn file_finish(state: &[u64], cells: &mut [u8], place: &mut [u32]) -> Result<usize, Refusal> {
+    let mut value = usize::MAX;
+    let number = unsafe {
+        thikbromu_file_finish(
+            state.as_ptr(),
+            state.len(),
+            cells.as_mut_ptr(),
+            cells.len(),
+            place.as_mut_ptr(),
+            place.len(),
+            &mut value,
+        )
+    };
+    answer(number, value)
+}
+
+/// The end of a track file and its listing: the bytes of the whole listing.
+pub fn file_listing(state: &[u64], cells: &mut [u8], out: &mut [u8]) -> usize {
+    unsafe {
+        thikbromu_file_listing(
+            state.as_ptr(),
+            state.len(),
+            cells.as_mut_ptr(),
+            cells.len(),
+            out.as_mut_ptr(),
+            out.len(),
+        )
+    }
+}
+
+/// The listing of a track: its bytes.
+pub fn listing(bytes: &[u8], n: usize, track: u32, side: u32, out: &mut [u8]) -> usize {
+    unsafe { thikbromu_listing(bytes.as_ptr(), bytes.len(), n, track, side, out.as_mut_ptr(), out.len()) }
 }

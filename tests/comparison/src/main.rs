@@ -4,6 +4,7 @@
 //! An argument names the groups to run, by their module; without one all run. The last line is 'N passed, M failed'; the exit status is 1 where something failed.
 
 mod coding;
+mod files;
 mod findings;
 mod flux;
 mod library;
@@ -15,7 +16,7 @@ mod track_cells;
 type Part = fn(&mut (usize, usize));
 
 /// The groups of cases, by their module.
-const PARTS: [(&str, Part); 24] = [
+const PARTS: [(&str, Part); 26] = [
     ("track_cells", track_cells::reading),
     ("track_cells", track_cells::finding),
     ("track_cells", track_cells::marks),
@@ -36,6 +37,8 @@ const PARTS: [(&str, Part); 24] = [
     ("sectors", sectors::any_tracks),
     ("findings", findings::edges),
     ("findings", findings::any_tracks),
+    ("files", files::portions),
+    ("files", files::states),
     ("program", program::samples),
     ("program", program::whole_files),
     ("program", program::portions),

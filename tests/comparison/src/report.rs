@@ -64,7 +64,14 @@ impl Element for u32 {
     }
 }
 
+impl Element for u64 {
+    fn from_pattern(pattern: u32) -> u64 {
+        u64::from(pattern) * 0x1_0000_0001
+    }
+}
+
 /// A buffer to lend, with elements around it that no call may touch. All are filled with a pattern first.
+#[derive(Clone)]
 pub struct Lent<T> {
     all: Vec<T>,
     room: usize,
