@@ -22,8 +22,8 @@ use Rattle.track_file.specs.declared.TakenTimings.{TakenTimings}
 use Rattle.track_file.specs.declared.TakenTimings.the-variants.{InRange, OutOfRange}
 use Rattle.track_file.specs.declared.Reader.{Reader}
 use Rattle.track_file.specs.declared.Reader.the-variants.{PlaceCount, Track, Side, CellCount, PackedCells, FluxCount, Timings, AllCells, AllTimings, NotATrackFile, Stopped}
-use Rattle.reader_numbers.specs.Numbers.{kindOf, firstByte, secondByte, thirdByte, lowered, raised, takenKind, takenCount, takenCells, takenResidual, row, noPlace, stateOf, numberFrom, takenFrom, lowRefusal, highRefusal, refusalFrom, earlyFrom, lateFrom, readerFrom, decoded, atFront, readerOf, stateAfter}
-use Rattle.reader_numbers.proofs.Held.{HeldPlace, HeldNumber, HeldTaken, Held, Bytes, Portions, held-start, held-after}
+use Rattle.reader_numbers.specs.Numbers.{kindOf, firstByte, secondByte, thirdByte, lowered, takenKind, takenCount, takenCells, takenResidual, row, stateOf, numberFrom, takenFrom, lowRefusal, highRefusal, refusalFrom, earlyFrom, lateFrom, readerFrom, decoded, atFront, readerOf, stateAfter}
+use Rattle.reader_numbers.proofs.Held.{HeldPlace, HeldNumber, HeldTaken, Held, Portions, held-start, held-after}
 use Rattle.reader_numbers.proofs.Residuals.{raised-small, lowered-raised}
 
 -- each part

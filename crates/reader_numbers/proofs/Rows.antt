@@ -1,11 +1,11 @@
 -- Each branch of the code that makes numbers of a reader, or a reader of numbers. Assumes nothing.
 use Prim.Native.Nat.{ℕ, _%_, _≤_, _<_}
-use mathlib.Core.Path.{_≡_, refl, sym, _∙_, ap}
+use mathlib.Core.Path.{_≡_, sym, _∙_, ap}
 use mathlib.Core.Bool.{Bool, true, false}
-use mathlib.Core.List.{List, [], _∷_, _++_}
+use mathlib.Core.List.{List, [], _∷_}
 use borrow.Author.Tests.{lt-ltb, le-ltb, eq-eqb, ne-eqb}
 use lib.IntN.{ℤ}
-use lib.ListN.{length, getD, drop}
+use lib.ListN.{length, getD}
 use Rattle.basis.specs.Lists.{writtenOver}
 use Rattle.refusals.specs.RefusedCalls.{numberOf, valueOf}
 use Rattle.refusals.specs.declared.Refusal.{Refusal}

@@ -8,7 +8,6 @@ use track_file::Place;
 use track_file::Reader;
 use track_file::TakenTimings;
 ghost use mathlib.Core.Path.{_≡_};
-ghost use mathlib.Core.Bool.{cond};
 ghost use Prim.Native.Nat.{_%_, _≤_};
 ghost use lib.ListN.{length};
 ghost use Rattle.reader_numbers.specs.Numbers.{lowered, numberFrom, takenFrom, lowRefusal, highRefusal, refusalFrom, earlyFrom, lateFrom, readerFrom, decoded, atFront, readerOf};

@@ -1,6 +1,5 @@
 // From a reader to its numbers.
 use crate::NUMBERS;
-use refusals::Refusal;
 use track_file::Number;
 use track_file::Place;
 use track_file::Reader;

@@ -1,5 +1,4 @@
 -- `reader_numbers::reading::reader_of` meets its contract. Assumes nothing.
-use native.Mathlib.Omega.{arith}
 use Rattle.reader_numbers.proofs.Rows.{too-few, a-state, no-state}
 use borrow.Author.Needs.{needs}
 use Rattle.reader_numbers.proofs.reading.reader_of.Statement.{statement}

@@ -1,6 +1,5 @@
 -- `thikbromu::files::thikbromu_file_start` meets its contract. Assumes nothing.
 use mathlib.Core.Path.{ap, _∙_}
-use denote.Ref.{now}
 use Rattle.reader_numbers.specs.Numbers.{stateAfter}
 use Rattle.track_file.specs.declared.Reader.{Reader}
 use borrow.Author.Needs.{needs}
