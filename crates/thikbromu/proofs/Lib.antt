@@ -1,1 +1,2 @@
 mod Portions
+pub mod Laws
