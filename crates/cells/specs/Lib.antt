@@ -1,2 +1,2 @@
 pub mod CellsAndBytes
-pub mod Inner
+pub mod PrivateContracts

@@ -4,7 +4,7 @@ ghost use Prim.Native.Nat.{ℕ, _<_, _≤_, _*_, _+_, _-_, _/_, _%_, _^_, min};
 ghost use mathlib.Core.Bool.{true, false, cond};
 ghost use lib.Dec.{eqb};
 ghost use lib.ListN.{length, getD};
-ghost use Rattle.cells.specs.Inner.{Skipped};
+ghost use Rattle.cells.specs.PrivateContracts.{Skipped};
 ghost use Rattle.cells.specs.CellsAndBytes.{cellAt, cell, word, wordAt, leastPlace, cleared, withOne};
 
 // Cell i of packed bytes, 0 or 1; past their end 0.

@@ -13,7 +13,7 @@ use Rattle.basis.specs.Search.{most}
 use Rattle.basis.proofs.Search.{least-high, count-few}
 use Rattle.cells.specs.CellsAndBytes.{cell}
 use Rattle.findings.specs.Cells.{violation, zerosFrom, runFrom, longestRun, longestStart, syncsBetween, syncsInside}
-use Rattle.findings.specs.Inner.{Near, On, sectorsIn, GapsOn}
+use Rattle.findings.specs.PrivateContracts.{BoundedSector, BoundedTrack, sectorsIn, GapsOn}
 use Rattle.findings.specs.declared.cell_rules.Gaps.{Gaps}
 use Rattle.findings.proofs.Runs.{zeros-few}
 use Rattle.findings.proofs.Syncs.{syncs-few}
@@ -24,11 +24,11 @@ use Rattle.sectors.proofs.Kept.{kept-at}
 use Rattle.sectors.proofs.Places.{length-most, sector-of-mark}
 
 -- a record's place and length of data
-near-record : (f : ℕ → ℕ) (p : ℕ) → p ≤ 131072 → Near (sectorAt f p)
+near-record : (f : ℕ → ℕ) (p : ℕ) → p ≤ 131072 → BoundedSector (sectorAt f p)
 unfolding sectorAt dataLength
 near-record f p h = go (dataFound f p) refl
   where
-    go : (b : Bool) → dataFound f p ≡ b → Near (sectorAt f p)
+    go : (b : Bool) → dataFound f p ≡ b → BoundedSector (sectorAt f p)
     go true e = record { data-place = rw e (omega (arith, leb-true (leastData f p) (p + reach) e)); data-length = rw e (length-most (idByte f p 3)) }
     go false e = record { data-place = rw e (omega arith); data-length = rw e (omega arith) }
 
@@ -40,7 +40,7 @@ module _ (bytes : List ℕ) (n : ℕ) (ss : Sectors) (are : ss ≡ kept (sectors
       let xs = sectorsOf bytes n in
       rw (are, take-take (length xs) 64 (xs ++ replicate 64 noSector) few) (take-at xs (replicate 64 noSector) (length xs) refl)
 
-  pub sectors-on : n ≤ 131072 → On n ss
+  pub sectors-on : n ≤ 131072 → BoundedTrack n ss
   unfolding kept
   sectors-on short = rw are record { few = record { few = few; long = full }; near = near; short = short }
     where
@@ -49,7 +49,7 @@ module _ (bytes : List ℕ) (n : ℕ) (ss : Sectors) (are : ss ≡ kept (sectors
           let xs = sectorsOf bytes n in
           length-take-le 64 (xs ++ replicate 64 noSector) (omega (arith, length-append xs (replicate 64 noSector), length-replicate 64 noSector))
 
-      near : (i : ℕ) → i < length (sectorsOf bytes n) → Near (getD (kept (sectorsOf bytes n) .all) i noSector)
+      near : (i : ℕ) → i < length (sectorsOf bytes n) → BoundedSector (getD (kept (sectorsOf bytes n) .all) i noSector)
       near i h =
           let s = sector-of-mark bytes n i h in
           rw (kept-at (sectorsOf bytes n) i (omega arith), s .made) (near-record (cell bytes n) _ (omega (arith, s .below)))
@@ -78,7 +78,7 @@ gaps-few f n gaps on h = (
 )
 
 -- the syncs inside a sector
-pub inside-few : (f : ℕ → ℕ) (s : Sector) → Near s → syncsInside f s ≤ 20000
+pub inside-few : (f : ℕ → ℕ) (s : Sector) → BoundedSector s → syncsInside f s ≤ 20000
 unfolding syncsInside
 inside-few f s near =
     omega (arith, syncs-few f (s .place + markLength) (s .place + idLength), go (ltb 0 (s .«data_length»)))

@@ -25,7 +25,7 @@ use lib.ListN.{length, getD}
 use Rattle.basis.specs.Lists.{joined}
 use Rattle.cells.specs.CellsAndBytes.{cell}
 use Rattle.findings.specs.Findings.{nth, levels, found, findingOf, ofKind, findingsOf}
-use Rattle.findings.specs.Inner.{kinds}
+use Rattle.findings.specs.PrivateContracts.{kinds}
 use Rattle.findings.specs.Rules.{Hit, when}
 use Rattle.findings.specs.declared.Finding.{Finding}
 use Rattle.findings.proofs.Members.{joined-from, joined-has, map-image, no-members, Ordered, ordered-joined, ordered-map, ordered-at}

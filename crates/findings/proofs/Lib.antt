@@ -1,5 +1,5 @@
 pub mod Bounds
-pub mod Few
+pub mod MostFindings
 pub mod Laws
 pub mod Lending
 pub mod Members

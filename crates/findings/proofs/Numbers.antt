@@ -10,7 +10,7 @@ use lib.Seq.{length-sets, sets-eq, take-at, length-take-le, paste-suc}
 use Rattle.basis.specs.Lists.{joined}
 use Rattle.basis.proofs.Joined.{joined-none, joined-more, joined-grows}
 use Rattle.findings.specs.Calls.{numbersOf}
-use Rattle.findings.specs.Inner.{mostFindings, Room, Added}
+use Rattle.findings.specs.PrivateContracts.{mostFindings, Room, Added}
 use Rattle.findings.specs.declared.Finding.{Finding}
 
 pub numbers-append : (xs ys : List Finding) → numbersOf (xs ++ ys) ≡ numbersOf xs ++ numbersOf ys

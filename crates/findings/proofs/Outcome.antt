@@ -12,10 +12,10 @@ use Rattle.basis.specs.Lists.{joined}
 use Rattle.cells.specs.CellsAndBytes.{cell, bytesFor}
 use Rattle.findings.specs.Calls.{findingsAnswer, written, numbersOf}
 use Rattle.findings.specs.Findings.{levels, found, ofKind, findingsOf}
-use Rattle.findings.specs.Inner.{kinds, sectorsIn, Added}
+use Rattle.findings.specs.PrivateContracts.{kinds, sectorsIn, Added}
 use Rattle.findings.specs.declared.Finding.{Finding}
 use Rattle.findings.proofs.Bounds.{sectors-kept}
-use Rattle.findings.proofs.Few.{few-findings}
+use Rattle.findings.proofs.MostFindings.{few-findings}
 use Rattle.findings.proofs.Numbers.{length-numbers}
 use Rattle.refusals.specs.RefusedCalls.{Answer, bufferAfter}
 use Rattle.refusals.specs.RefusedCalls.Answer.{gives, refused}

@@ -17,7 +17,7 @@ use Rattle.refusals.specs.RefusedCalls.{Answer, bufferAfter}
 use Rattle.refusals.specs.RefusedCalls.Answer.{gives, refused}
 use Rattle.findings.specs.Calls.{findingsAnswer, listAfter, numbersOf, written}
 use Rattle.findings.specs.Findings.{levels, findingOf, ofKind, findingsOf}
-use Rattle.findings.specs.Inner.{findingAt}
+use Rattle.findings.specs.PrivateContracts.{findingAt}
 use Rattle.findings.specs.Rules.{Hit}
 use Rattle.findings.specs.declared.Finding.{Finding}
 use Rattle.findings.proofs.Outcome.{findings-follow}

@@ -7,8 +7,8 @@ use lib.ListN.{length, getD, List·getD-eq-default, List·getD-append}
 use lib.Seq.{getD-append-add}
 use Rattle.basis.specs.Lists.{listed, joined}
 use Rattle.basis.proofs.Lists.{length-listed, getD-listed}
-use Rattle.findings.specs.Findings.{atSector, atLater, each, found, findingOf, ofKind}
-use Rattle.findings.specs.Inner.{trackRules, idRules, dataRules, sectorRule, gapRules, GapsOn}
+use Rattle.findings.specs.Findings.{atSector, duplicateAt, atEachSector, found, findingOf, ofKind}
+use Rattle.findings.specs.PrivateContracts.{trackRules, idRules, dataRules, sectorRule, gapRules, GapsOn}
 use Rattle.findings.specs.Rules.{Hit, mtv, nfa}
 use Rattle.findings.specs.declared.cell_rules.Gaps.{Gaps}
 use Rattle.sectors.specs.declared.Sector.{Sector}
@@ -24,10 +24,10 @@ of-row rows k hits e = ap (map (findingOf k)) e
 
 module _ (f : ℕ → ℕ) (N T : ℕ) (xs : List Sector) where
   sector-hits : ℕ → List Hit
-  sector-hits j = each (sectorRule f N T xs j) xs
+  sector-hits j = atEachSector (sectorRule f N T xs j) xs
 
   front : List (List Hit)
-  front = trackRules N (length xs) T ++ (joined (atLater xs) (length xs) ∷ [])
+  front = trackRules N (length xs) T ++ (joined (duplicateAt xs) (length xs) ∷ [])
 
   -- one equation for the whole table
   rows-are : found f N T xs ≡ front ++ (listed sector-hits 13 ++ (mtv f N ∷ nfa f N ∷ []))
@@ -40,13 +40,13 @@ module _ (f : ℕ → ℕ) (N T : ℕ) (xs : List Sector) where
       ap (λ (m : ℕ). getD (trackRules N m T) k []) (sym e)
       ∙ rw rows-are
       (sym (List·getD-append front (listed sector-hits 13 ++ (mtv f N ∷ nfa f N ∷ [])) [] k (omega arith)
-      ∙ List·getD-append (trackRules N (length xs) T) (joined (atLater xs) (length xs) ∷ []) [] k (omega arith)))
+      ∙ List·getD-append (trackRules N (length xs) T) (joined (duplicateAt xs) (length xs) ∷ []) [] k (omega arith)))
 
-  later-row : joined (atLater xs) (length xs) ≡ getD (found f N T xs) 5 []
+  later-row : joined (duplicateAt xs) (length xs) ≡ getD (found f N T xs) 5 []
   unfolding found
   later-row = refl
 
-  sector-row : (k : ℕ) → 6 ≤ k → k < 19 → each (sectorRule f N T xs (k - 6)) xs ≡ getD (found f N T xs) k []
+  sector-row : (k : ℕ) → 6 ≤ k → k < 19 → atEachSector (sectorRule f N T xs (k - 6)) xs ≡ getD (found f N T xs) k []
   unfolding front sector-hits trackRules
   sector-row k h l =
       let e : 6 + (k - 6) ≡ k = omega arith in
@@ -73,11 +73,11 @@ module _ (f : ℕ → ℕ) (N T : ℕ) (xs : List Sector) where
       → map (findingOf k) hits ≡ ofKind (found f N T xs) k
   track-kind sectors k hits e h are = of-row (found f N T xs) k hits (are ∙ track-row sectors e k h)
 
-  pub later-kind : (k : ℕ) → k ≡ 5 → map (findingOf 5) (joined (atLater xs) (length xs)) ≡ ofKind (found f N T xs) k
-  later-kind k e = rw e (of-row (found f N T xs) 5 (joined (atLater xs) (length xs)) later-row)
+  pub later-kind : (k : ℕ) → k ≡ 5 → map (findingOf 5) (joined (duplicateAt xs) (length xs)) ≡ ofKind (found f N T xs) k
+  later-kind k e = rw e (of-row (found f N T xs) 5 (joined (duplicateAt xs) (length xs)) later-row)
 
-  pub sector-kind : (k : ℕ) → 6 ≤ k → k < 19 → map (findingOf k) (each (sectorRule f N T xs (k - 6)) xs) ≡ ofKind (found f N T xs) k
-  sector-kind k h l = of-row (found f N T xs) k (each (sectorRule f N T xs (k - 6)) xs) (sector-row k h l)
+  pub sector-kind : (k : ℕ) → 6 ≤ k → k < 19 → map (findingOf k) (atEachSector (sectorRule f N T xs (k - 6)) xs) ≡ ofKind (found f N T xs) k
+  sector-kind k h l = of-row (found f N T xs) k (atEachSector (sectorRule f N T xs (k - 6)) xs) (sector-row k h l)
 
   pub gap-kind : (gaps : Gaps) (k : ℕ) (hits : List Hit) → GapsOn f N gaps → 19 ≤ k → hits ≡ getD (gapRules gaps) (k - 19) []
       → map (findingOf k) hits ≡ ofKind (found f N T xs) k

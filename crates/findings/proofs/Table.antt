@@ -12,9 +12,9 @@ use lib.Seq.{getD-append-add}
 use Rattle.basis.specs.Lists.{joined}
 use Rattle.basis.specs.Search.{count, least}
 use Rattle.findings.specs.Cells.{violation, longestRun, longestStart, syncsInside}
-use Rattle.findings.specs.Findings.{nth, atSector, atLater, found}
-use Rattle.findings.specs.Inner.{kinds}
-use Rattle.findings.specs.Rules.{Hit, when, someSector, sameNumber, inData, marked, isRead, endOf}
+use Rattle.findings.specs.Findings.{nth, atSector, duplicateAt, found}
+use Rattle.findings.specs.PrivateContracts.{kinds}
+use Rattle.findings.specs.Rules.{Hit, when, someSector, sameNumber, startsInData, hasDataMark, dataIsRead, endOfData}
 use Rattle.sectors.specs.declared.Sector.{Sector}
 
 -- a kind on the whole track: its test, place and detail
@@ -81,19 +81,19 @@ module _ (f : ℕ → ℕ) (N T : ℕ) (ss : List Sector) where
       ∷ onRecord (λ s. ltb 83 (s .track) || (ltb 1 (s .side) || ltb 3 (s .«size_code»))) (λ s. s .side)
       ∷ onRecord (λ s. not (eqb (s .«size_code») 2) && not (eqb (s .«size_code») 3)) (λ s. s .«size_code»)
       ∷ onRecord (λ s. not (eqb (s .mark) 0xFE)) (λ s. s .mark)
-      ∷ onRecord (λ s. marked s && (not (eqb (s .«data_mark») 0xF8) && not (eqb (s .«data_mark») 0xFB))) (λ s. s .«data_mark»)
+      ∷ onRecord (λ s. hasDataMark s && (not (eqb (s .«data_mark») 0xF8) && not (eqb (s .«data_mark») 0xFB))) (λ s. s .«data_mark»)
       ∷ onRecord (λ s. not (s .«id_check_good»)) (λ s. s .number)
-      ∷ onRecord (λ s. s .«id_check_good» && not (marked s)) (λ s. s .number)
-      ∷ onRecord (λ s. isRead s && not (s .«data_check_good»)) (λ s. s .number)
-      ∷ onRecord (λ s. isRead s && (ltb (s .«data_place») N && ltb N (endOf s))) (λ s. endOf s - N)
-      ∷ onRecord (λ s. marked s && leb N (s .«data_place»)) (λ s. s .«data_place» - N)
-      ∷ onRecord (λ s. someSector (inData N s) ss) (λ s. s .number)
+      ∷ onRecord (λ s. s .«id_check_good» && not (hasDataMark s)) (λ s. s .number)
+      ∷ onRecord (λ s. dataIsRead s && not (s .«data_check_good»)) (λ s. s .number)
+      ∷ onRecord (λ s. dataIsRead s && (ltb (s .«data_place») N && ltb N (endOfData s))) (λ s. endOfData s - N)
+      ∷ onRecord (λ s. hasDataMark s && leb N (s .«data_place»)) (λ s. s .«data_place» - N)
+      ∷ onRecord (λ s. someSector (startsInData N s) ss) (λ s. s .number)
       ∷ onRecord (λ s. ltb 0 (syncsInside f s)) (λ s. syncsInside f s)
       ∷ []
 
   -- one equation for the whole table
   pub table-is : found f N T ss ≡ map trackHits firstKinds ++ (map (sectorHits ss) sectorKinds ++ map trackHits lastKinds)
-  unfolding found firstKinds sectorKinds lastKinds atSector atLater
+  unfolding found firstKinds sectorKinds lastKinds atSector duplicateAt
   table-is = refl
 
   -- the row of a kind, from 0, in each part of the table

@@ -21,12 +21,12 @@ nth ss i = getD ss i noSector
 unfoldable pub atSector : (Sector → List Hit) → List Sector → ℕ → List Hit
 atSector rule ss i = rule (nth ss i)
 
-unfoldable pub atLater : List Sector → ℕ → List Hit
-atLater ss i = dsn (take i ss) (nth ss i)
+unfoldable pub duplicateAt : List Sector → ℕ → List Hit
+duplicateAt ss i = dsn (take i ss) (nth ss i)
 
 -- a rule at each sector, in order
-abbrev pub each : (Sector → List Hit) → List Sector → List Hit
-each rule ss = joined (atSector rule ss) (length ss)
+abbrev pub atEachSector : (Sector → List Hit) → List Sector → List Hit
+atEachSector rule ss = joined (atSector rule ss) (length ss)
 
 -- what each kind finds on a track of N cells f with the sectors ss, from kind 1 on
 unfoldable pub found : (ℕ → ℕ) → (N T : ℕ) → List Sector → List (List Hit)
@@ -36,20 +36,20 @@ found f N T ss =
     ∷ nos (length ss)
     ∷ tnf (length ss) T
     ∷ ext (length ss) T
-    ∷ joined (atLater ss) (length ss)
-    ∷ each isn ss
-    ∷ each (itn T) ss
-    ∷ each iif ss
-    ∷ each ssz ss
-    ∷ each nsi ss
-    ∷ each nsd ss
-    ∷ each sbi ss
-    ∷ each snd ss
-    ∷ each sbd ss
-    ∷ each (doi N) ss
-    ∷ each (dbi N) ss
-    ∷ each (sws N ss) ss
-    ∷ each (sid f) ss
+    ∷ joined (duplicateAt ss) (length ss)
+    ∷ atEachSector isn ss
+    ∷ atEachSector (itn T) ss
+    ∷ atEachSector iif ss
+    ∷ atEachSector ssz ss
+    ∷ atEachSector nsi ss
+    ∷ atEachSector nsd ss
+    ∷ atEachSector sbi ss
+    ∷ atEachSector snd ss
+    ∷ atEachSector sbd ss
+    ∷ atEachSector (doi N) ss
+    ∷ atEachSector (dbi N) ss
+    ∷ atEachSector (sws N ss) ss
+    ∷ atEachSector (sid f) ss
     ∷ mtv f N
     ∷ nfa f N
     ∷ []

@@ -24,15 +24,15 @@ someSector test [] = false
 someSector test (s ∷ ss) = test s || someSector test ss
 
 -- a data mark was found; data is read
-abbrev pub marked : Sector → Bool
-marked s = not (eqb (s .«data_mark») 0)
+abbrev pub hasDataMark : Sector → Bool
+hasDataMark s = not (eqb (s .«data_mark») 0)
 
-abbrev pub isRead : Sector → Bool
-isRead s = ltb 0 (s .«data_length»)
+abbrev pub dataIsRead : Sector → Bool
+dataIsRead s = ltb 0 (s .«data_length»)
 
 -- the end of its data
-abbrev pub endOf : Sector → ℕ
-endOf s = dataEnd (s .«data_place») (s .«data_length»)
+abbrev pub endOfData : Sector → ℕ
+endOfData s = dataEnd (s .«data_place») (s .«data_length»)
 
 -- 1 LGT: N above 103,000
 abbrev pub lgt : ℕ → List Hit
@@ -83,7 +83,7 @@ nsi s = when (not (eqb (s .mark) 0xFE)) (s .place) (s .mark)
 
 -- 12 NSD: a data mark found, neither F8 nor FB
 abbrev pub nsd : Sector → List Hit
-nsd s = when (marked s && (not (eqb (s .«data_mark») 0xF8) && not (eqb (s .«data_mark») 0xFB))) (s .place) (s .«data_mark»)
+nsd s = when (hasDataMark s && (not (eqb (s .«data_mark») 0xF8) && not (eqb (s .«data_mark») 0xFB))) (s .place) (s .«data_mark»)
 
 -- 13 SBI: ID check bad
 abbrev pub sbi : Sector → List Hit
@@ -91,29 +91,29 @@ sbi s = when (not (s .«id_check_good»)) (s .place) (s .number)
 
 -- 14 SND: ID check good, no data mark
 abbrev pub snd : Sector → List Hit
-snd s = when (s .«id_check_good» && not (marked s)) (s .place) (s .number)
+snd s = when (s .«id_check_good» && not (hasDataMark s)) (s .place) (s .number)
 
 -- 15 SBD: data read, check bad
 abbrev pub sbd : Sector → List Hit
-sbd s = when (isRead s && not (s .«data_check_good»)) (s .place) (s .number)
+sbd s = when (dataIsRead s && not (s .«data_check_good»)) (s .place) (s .number)
 
 -- 16 DOI: data read, q below N, end above N; end - N
 abbrev pub doi : ℕ → Sector → List Hit
-doi N s = when (isRead s && (ltb (s .«data_place») N && ltb N (endOf s))) (s .place) (endOf s - N)
+doi N s = when (dataIsRead s && (ltb (s .«data_place») N && ltb N (endOfData s))) (s .place) (endOfData s - N)
 
 -- 17 DBI: data mark with q at least N; q - N
 abbrev pub dbi : ℕ → Sector → List Hit
-dbi N s = when (marked s && leb N (s .«data_place»)) (s .place) (s .«data_place» - N)
+dbi N s = when (hasDataMark s && leb N (s .«data_place»)) (s .place) (s .«data_place» - N)
 
 -- 18 SWS: this p, or p + N, lies at or after q and before the end of another sector's data
-abbrev pub lies : ℕ → Sector → Bool
-lies x other = leb (other .«data_place») x && ltb x (endOf other)
+abbrev pub isInData : ℕ → Sector → Bool
+isInData x other = leb (other .«data_place») x && ltb x (endOfData other)
 
-unfoldable pub inData : ℕ → Sector → Sector → Bool
-inData N s other = (not (eqb (other .place) (s .place)) && isRead other) && (lies (s .place) other || lies (s .place + N) other)
+unfoldable pub startsInData : ℕ → Sector → Sector → Bool
+startsInData N s other = (not (eqb (other .place) (s .place)) && dataIsRead other) && (isInData (s .place) other || isInData (s .place + N) other)
 
 abbrev pub sws : ℕ → List Sector → Sector → List Hit
-sws N sectors s = when (someSector (inData N s) sectors) (s .place) (s .number)
+sws N sectors s = when (someSector (startsInData N s) sectors) (s .place) (s .number)
 
 -- 19 SID: 4489 lies wholly between p+64 and p+160, or between q+64 and the data end, any phase; how many such cells
 abbrev pub sid : (ℕ → ℕ) → Sector → List Hit

@@ -14,7 +14,7 @@ ghost use mathlib.Core.List.{_++_};
 ghost use lib.ListN.{length, take, drop};
 ghost use Rattle.findings.specs.Calls.{foundAnswer, findingsAnswer, written, numbersOf, numbersAfter};
 ghost use Rattle.findings.specs.Findings.{findingsOf};
-ghost use Rattle.findings.specs.Inner.{findingAt};
+ghost use Rattle.findings.specs.PrivateContracts.{findingAt};
 
 // A finding: its kind from 1 to 21, the kind's level, its place in cells, and its detail.
 #[repr(C)]

@@ -7,8 +7,8 @@ ghost use mathlib.Core.Path.{_≡_};
 ghost use mathlib.Core.List.{[]};
 ghost use Prim.Native.Nat.{_-_, _<_, _≤_};
 ghost use lib.ListN.{getD};
-ghost use Rattle.findings.specs.Rules.{endOf, lies, inData, someSector};
-ghost use Rattle.findings.specs.Inner.{hitsOf, trackRules, idRules, dataRules, gapRules, Near, Few, sectorsIn};
+ghost use Rattle.findings.specs.Rules.{endOfData, isInData, startsInData, someSector};
+ghost use Rattle.findings.specs.PrivateContracts.{hitsOf, trackRules, idRules, dataRules, gapRules, BoundedSector, AtMost64, sectorsIn};
 
 // What a rule saw: whether it finds something, and if so at which place and with which detail.
 pub struct Seen {
@@ -152,7 +152,7 @@ pub fn id_rule(k: usize, track: u32, s: Sector) -> Seen
 
 // Kinds 13 to 17, on a sector's checks and its data, on a track of n cells.
 pub(crate) fn data_rule(k: usize, n: usize, s: Sector) -> Seen
-    requires { ⌜ Near s ⌝ }
+    requires { ⌜ BoundedSector s ⌝ }
     ensures { λ r. ⌜ hitsOf r ≡ getD (dataRules n s) k [] ⌝ }
 {
     match k {
@@ -192,14 +192,14 @@ pub(crate) fn data_rule(k: usize, n: usize, s: Sector) -> Seen
 
 // SWS: does the sector s start in the data of another?
 pub(crate) fn overwritten(n: usize, ss: Sectors, s: Sector) -> bool
-    requires { ⌜ Few ss × (n ≤ 131072) ⌝ }
-    ensures { λ r. ⌜ r ≡ someSector (inData n s) (sectorsIn ss) ⌝ }
+    requires { ⌜ AtMost64 ss × (n ≤ 131072) ⌝ }
+    ensures { λ r. ⌜ r ≡ someSector (startsInData n s) (sectorsIn ss) ⌝ }
 {
     let count = ss.count;
     let mut j: usize = 0;
     while j < count {
         let other = ss.all[j];
-        if in_data(n, s, other) {
+        if starts_in_data(n, s, other) {
             return true;
         }
         j += 1;
@@ -230,24 +230,24 @@ pub(crate) fn gap_rule(k: usize, gaps: Gaps) -> Seen
 }
 
 // Does the sector s start in the data of e?
-fn in_data(n: usize, s: Sector, e: Sector) -> bool
+fn starts_in_data(n: usize, s: Sector, e: Sector) -> bool
     requires { ⌜ n ≤ 131072 ⌝ }
-    ensures { λ r. ⌜ r ≡ inData n s e ⌝ }
+    ensures { λ r. ⌜ r ≡ startsInData n s e ⌝ }
 {
     let place = s.place as usize;
-    ((e.place != s.place) & (0 < e.data_length)) & (lies(place, e) | lies(place + n, e))
+    ((e.place != s.place) & (0 < e.data_length)) & (is_in_data(place, e) | is_in_data(place + n, e))
 }
 
 // Does x lie from the data mark of e up to and without its data end?
-fn lies(x: usize, e: Sector) -> bool
-    ensures { λ r. ⌜ r ≡ lies x e ⌝ }
+fn is_in_data(x: usize, e: Sector) -> bool
+    ensures { λ r. ⌜ r ≡ isInData x e ⌝ }
 {
     ((e.data_place as usize) <= x) & (x < data_end(e))
 }
 
 // Where the data of a sector ends.
 fn data_end(s: Sector) -> usize
-    ensures { λ r. ⌜ r ≡ endOf s ⌝ }
+    ensures { λ r. ⌜ r ≡ endOfData s ⌝ }
 {
     s.data_place as usize + MARK + 16 * (s.data_length as usize) + CHECK
 }

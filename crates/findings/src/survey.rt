@@ -11,8 +11,8 @@ ghost use Prim.Native.Nat.{_+_, _-_, _*_, _<_, _≤_};
 ghost use lib.ListN.{length, getD};
 ghost use Rattle.basis.specs.Lists.{joined};
 ghost use Rattle.cells.specs.CellsAndBytes.{cell};
-ghost use Rattle.findings.specs.Findings.{levels, atLater, each, found, findingOf, ofKind};
-ghost use Rattle.findings.specs.Inner.{hitsOf, kinds, mostFindings, sectorRule, Near, Few, On, GapsOn, sectorsIn, Added, Room};
+ghost use Rattle.findings.specs.Findings.{levels, duplicateAt, atEachSector, found, findingOf, ofKind};
+ghost use Rattle.findings.specs.PrivateContracts.{hitsOf, kinds, mostFindings, sectorRule, BoundedSector, AtMost64, BoundedTrack, GapsOn, sectorsIn, Added, Room};
 
 // The numbers of the most findings that there can be, four for each: with 64 sectors there are at most 901.
 pub(crate) const NUMBERS: usize = 3604;
@@ -65,7 +65,7 @@ pub(crate) fn survey(
     track: u32,
     ss: Sectors,
 ) -> usize
-    requires { ⌜ On n ss ⌝ }
+    requires { ⌜ BoundedTrack n ss ⌝ }
     ensures { λ r. ⌜ Added [] 0 (joined (ofKind (found (cell (now (bytes .entry)) n) n track (sectorsIn ss))) kinds) (now (numbers .exit)) r ⌝ }
 {
     clear(numbers);
@@ -90,7 +90,7 @@ fn one_kind(
     k: usize,
     at: usize,
 ) -> usize
-    requires { ⌜ On n ss ⌝ }
+    requires { ⌜ BoundedTrack n ss ⌝ }
     requires { ⌜ GapsOn (cell (now bytes) n) n gaps ⌝ }
     requires { ⌜ (k < kinds) × Room (now numbers) at (ofKind (found (cell (now bytes) n) n track (sectorsIn ss)) k) ⌝ }
     ensures { λ r. ⌜ Added (now (numbers .entry)) at (ofKind (found (cell (now (bytes .entry)) n) n track (sectorsIn ss)) k) (now (numbers .exit)) r ⌝ }
@@ -114,8 +114,8 @@ fn one_kind(
 
 // DSN: nested loops over the pairs of sectors, left by label at the first earlier sector with the same number.
 fn duplicates(numbers: &mut [u32; NUMBERS], ss: Sectors, at: usize) -> usize
-    requires { ⌜ Few ss × Room (now numbers) at (map (findingOf 5) (joined (atLater (sectorsIn ss)) (length (sectorsIn ss)))) ⌝ }
-    ensures { λ r. ⌜ Added (now (numbers .entry)) at (map (findingOf 5) (joined (atLater (sectorsIn ss)) (length (sectorsIn ss)))) (now (numbers .exit)) r ⌝ }
+    requires { ⌜ AtMost64 ss × Room (now numbers) at (map (findingOf 5) (joined (duplicateAt (sectorsIn ss)) (length (sectorsIn ss)))) ⌝ }
+    ensures { λ r. ⌜ Added (now (numbers .entry)) at (map (findingOf 5) (joined (duplicateAt (sectorsIn ss)) (length (sectorsIn ss)))) (now (numbers .exit)) r ⌝ }
 {
     let count = ss.count;
     let mut to = at;
@@ -156,9 +156,9 @@ fn each_sector(
     k: usize,
     at: usize,
 ) -> usize
-    requires { ⌜ On n ss ⌝ }
-    requires { ⌜ (6 ≤ k) × (k < 19) × Room (now numbers) at (map (findingOf k) (each (sectorRule (cell (now bytes) n) n track (sectorsIn ss) (k - 6)) (sectorsIn ss))) ⌝ }
-    ensures { λ r. ⌜ Added (now (numbers .entry)) at (map (findingOf k) (each (sectorRule (cell (now (bytes .entry)) n) n track (sectorsIn ss) (k - 6)) (sectorsIn ss))) (now (numbers .exit)) r ⌝ }
+    requires { ⌜ BoundedTrack n ss ⌝ }
+    requires { ⌜ (6 ≤ k) × (k < 19) × Room (now numbers) at (map (findingOf k) (atEachSector (sectorRule (cell (now bytes) n) n track (sectorsIn ss) (k - 6)) (sectorsIn ss))) ⌝ }
+    ensures { λ r. ⌜ Added (now (numbers .entry)) at (map (findingOf k) (atEachSector (sectorRule (cell (now (bytes .entry)) n) n track (sectorsIn ss) (k - 6)) (sectorsIn ss))) (now (numbers .exit)) r ⌝ }
 {
     let count = ss.count;
     let mut to = at;
@@ -178,7 +178,7 @@ fn each_sector(
 
 // What a kind on sectors sees at the sector s, k being its place among these kinds.
 fn sector_rule(bytes: &[u8], n: usize, track: u32, ss: Sectors, k: usize, s: Sector) -> Seen
-    requires { ⌜ On n ss × Near s ⌝ }
+    requires { ⌜ BoundedTrack n ss × BoundedSector s ⌝ }
     ensures { λ r. ⌜ hitsOf r ≡ sectorRule (cell (now (bytes .entry)) n) n track (sectorsIn ss) k s ⌝ }
 {
     if k < DATA_RULES {

@@ -8,7 +8,7 @@ use borrow.Author.Tests.{lt-ltb, le-ltb, ltb-true, ltb-false}
 use lib.Dec.{ltb}
 use lib.ListN.{length, length-append}
 use Rattle.listing.specs.Listing.{digit, digitsWithin, decimalOf, twoDigits}
-use Rattle.listing.specs.Inner.{Wrote}
+use Rattle.listing.specs.PrivateContracts.{Wrote}
 use Rattle.listing.proofs.Writing.{_then_}
 
 -- any number of digits that is enough gives the same

@@ -9,7 +9,7 @@ use Rattle.basis.proofs.Joined.{joined-more}
 use Rattle.findings.specs.Calls.{numbersOf}
 use Rattle.findings.specs.declared.Finding.{Finding}
 use Rattle.listing.specs.Listing.{linesOf}
-use Rattle.listing.specs.Inner.{Wrote, lineAt}
+use Rattle.listing.specs.PrivateContracts.{Wrote, lineAt}
 use Rattle.listing.proofs.Writing.{_then_}
 
 -- a joined list from its first part on

@@ -8,7 +8,7 @@ use lib.ListN.{length, getD, take, drop, length-take, List·getD-map, List·getD
 use Rattle.basis.specs.Lists.{listed}
 use Rattle.basis.proofs.Lists.{getD-listed}
 use Rattle.listing.specs.Listing.{bytesOf, names, nameOf}
-use Rattle.listing.specs.Inner.{Wrote}
+use Rattle.listing.specs.PrivateContracts.{Wrote}
 use Rattle.listing.proofs.Writing.{none}
 
 -- the code's row of names, four bytes for each

@@ -15,7 +15,7 @@ use Rattle.sectors.specs.Calls.{sectorsAnswer}
 use Rattle.sectors.specs.Sectors.{sectorsOf}
 use Rattle.sectors.proofs.Calls.{list-accepted}
 use Rattle.listing.specs.Listing.{headerOf, refusedLine, linesOf, printed, listingOf, outAfter}
-use Rattle.listing.specs.Inner.{Wrote, lineAt}
+use Rattle.listing.specs.PrivateContracts.{Wrote, lineAt}
 use Rattle.listing.proofs.Lengths.{header-few, refused-few}
 use Rattle.listing.proofs.Lines.{lines-are}
 use Rattle.listing.proofs.Writing.{_then_, wrote-few, wrote-front}

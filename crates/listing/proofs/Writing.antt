@@ -9,7 +9,7 @@ use lib.ListN.{length, getD, take, drop, set, length-append}
 use lib.Seq.{sets, set-out, drop-cons}
 use Rattle.basis.specs.Lists.{writtenOver}
 use Rattle.listing.specs.Listing.{outAfter}
-use Rattle.listing.specs.Inner.{Wrote}
+use Rattle.listing.specs.PrivateContracts.{Wrote}
 
 sets-more : (l : List ℕ) (i : ℕ) (xs ys : List ℕ) → sets (sets l i xs) (i + length xs) ys ≡ sets l i (xs ++ ys)
 sets-more l i [] ys = rw (add-zero i)

@@ -14,7 +14,7 @@ ghost use Rattle.findings.specs.Calls.{foundAnswer};
 ghost use Rattle.refusals.specs.RefusedCalls.Answer.{gives};
 ghost use Rattle.sectors.specs.Calls.{sectorsAnswer};
 ghost use Rattle.listing.specs.Listing.{digit, decimalOf, twoDigits, nameOf, headerOf, findingLine, refusedLine, listingOf, outAfter};
-ghost use Rattle.listing.specs.Inner.{Wrote, lineAt};
+ghost use Rattle.listing.specs.PrivateContracts.{Wrote, lineAt};
 
 // The whole listing of a track of n cells, packed in `bytes`; `track` and `side` are the drive's. A buffer of 65,536 bytes holds any.
 pub fn list_track(bytes: &[u8], n: usize, track: u32, side: u32, out: &mut [u8]) -> usize

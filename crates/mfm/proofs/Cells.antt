@@ -11,7 +11,7 @@ use lib.Seq.{getD-append-add}
 use Rattle.basis.specs.Lists.{listed}
 use Rattle.basis.proofs.Lists.{length-listed, getD-listed}
 use Rattle.cells.specs.CellsAndBytes.{bitOf}
-use Rattle.mfm.specs.Coding.{dataBits, clock, cellsOf}
+use Rattle.mfm.specs.Coding.{dataBits, clock, bitCells}
 
 pub bit-lt : (before : Bool) → cond before 1 0 < 2
 bit-lt true = omega arith
@@ -31,14 +31,14 @@ length-bits [] = refl
 length-bits (byte ∷ bytes) =
     omega (arith, length-append (listed (bitOf byte) 8) (dataBits bytes), length-listed (bitOf byte) 8, length-bits bytes)
 
-pub length-cells : (before : ℕ) (bits : List ℕ) → length (cellsOf before bits) ≡ 2 * length bits
-unfolding cellsOf
+pub length-cells : (before : ℕ) (bits : List ℕ) → length (bitCells before bits) ≡ 2 * length bits
+unfolding bitCells
 length-cells before [] = refl
 length-cells before (bit ∷ bits) = omega (arith, length-cells bit bits)
 
 -- the cells of bits are 0 or 1
-pub cells-are : (before : ℕ) (bits : List ℕ) → ((i : ℕ) → getD bits i 0 < 2) → (i : ℕ) → getD (cellsOf before bits) i 0 < 2
-unfolding cellsOf
+pub cells-are : (before : ℕ) (bits : List ℕ) → ((i : ℕ) → getD bits i 0 < 2) → (i : ℕ) → getD (bitCells before bits) i 0 < 2
+unfolding bitCells
 cells-are before [] h i = omega arith
 cells-are before (bit ∷ bits) h zero = clock-lt before bit
 cells-are before (bit ∷ bits) h (suc zero) = h 0
@@ -67,8 +67,8 @@ bits-are [] i = omega arith
 bits-are (byte ∷ bytes) i = joined (listed (bitOf byte) 8) (dataBits bytes) (of-byte byte) (bits-are bytes) i
 
 -- the data cell of a bit is the bit
-pub data-cell : (before : ℕ) (bits : List ℕ) (i : ℕ) → getD (cellsOf before bits) (2 * i + 1) 0 ≡ getD bits i 0
-unfolding cellsOf
+pub data-cell : (before : ℕ) (bits : List ℕ) (i : ℕ) → getD (bitCells before bits) (2 * i + 1) 0 ≡ getD bits i 0
+unfolding bitCells
 data-cell before [] i = refl
 data-cell before (bit ∷ bits) zero = refl
 data-cell before (bit ∷ bits) (suc i) =
@@ -92,8 +92,8 @@ abbrev pub lastBit : ℕ → List ℕ → ℕ
 lastBit before [] = before
 lastBit before (bit ∷ bits) = lastBit bit bits
 
-pub cells-append : (before : ℕ) (xs ys : List ℕ) → cellsOf before (xs ++ ys) ≡ cellsOf before xs ++ cellsOf (lastBit before xs) ys
-unfolding cellsOf
+pub cells-append : (before : ℕ) (xs ys : List ℕ) → bitCells before (xs ++ ys) ≡ bitCells before xs ++ bitCells (lastBit before xs) ys
+unfolding bitCells
 cells-append before [] ys = refl
 cells-append before (x ∷ xs) ys = rw (cells-append x xs ys)
 

@@ -16,7 +16,7 @@ use Rattle.basis.proofs.Tables.{belowBoth, passes-both}
 use Rattle.cells.specs.CellsAndBytes.{bitOf, word, listCell, packedByte, packed}
 use Rattle.cells.proofs.Packing.{packed-append}
 use Rattle.cells.proofs.Words.{word-split, word-lt}
-use Rattle.mfm.specs.Coding.{dataBits, clock, cellsOf, encoded, byteCells}
+use Rattle.mfm.specs.Coding.{dataBits, clock, bitCells, encoded, byteCells}
 use Rattle.mfm.proofs.RoundTrip.{length-encoded}
 use Rattle.mfm.proofs.Cells.{length-cells, cells-are, cells-append, last-of-byte, of-byte}
 
@@ -50,7 +50,7 @@ same-cells : ℕ → ℕ → Bool
 same-cells before byte = eqb (cellsFrom 8 before byte 0) (byteCells before byte)
 
 all-same : T (belowBoth same-cells 2 256)
-unfolding same-cells cellsFrom byteCells word cellsOf listed
+unfolding same-cells cellsFrom byteCells word bitCells listed
 all-same = tt
 
 pub by-bits : (before byte : ℕ) → before < 2 → byte < 256 → cellsFrom 8 before byte 0 ≡ byteCells before byte
@@ -60,7 +60,7 @@ by-bits before byte h l = eqb→eq _ _ (passes-both same-cells 2 256 all-same be
 -- a byte at a time: two bytes of cells, and the rest after its lowest bit
 module _ (before byte : ℕ) where
   abbrev ofByte : List ℕ
-  ofByte = cellsOf before (listed (bitOf byte) 8)
+  ofByte = bitCells before (listed (bitOf byte) 8)
 
   cells-of-byte : (i : ℕ) → getD ofByte i 0 < 2
   cells-of-byte = cells-are before (listed (bitOf byte) 8) (of-byte byte)
@@ -78,10 +78,10 @@ module _ (before byte : ℕ) where
   pub encoded-more : (bytes : List ℕ) → encoded before (byte ∷ bytes) ≡ byteCells before byte / 256 ∷ byteCells before byte % 256 ∷ encoded (byte % 2) bytes
   unfolding encoded dataBits
   encoded-more bytes =
-      rw (cells-append before (listed (bitOf byte) 8) (dataBits bytes), last-of-byte before byte, packed-append 2 ofByte (cellsOf (byte % 2) (dataBits bytes)) sixteen-cells, two-bytes)
+      rw (cells-append before (listed (bitOf byte) 8) (dataBits bytes), last-of-byte before byte, packed-append 2 ofByte (bitCells (byte % 2) (dataBits bytes)) sixteen-cells, two-bytes)
 
 pub encoded-none : (before : ℕ) → encoded before [] ≡ []
-unfolding encoded dataBits cellsOf packed listed
+unfolding encoded dataBits bitCells packed listed
 encoded-none before = refl
 
 -- the bit before the next byte, as the code keeps it

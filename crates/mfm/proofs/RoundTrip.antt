@@ -12,15 +12,15 @@ use Rattle.cells.proofs.Packing.{length-packed, cell-packed, word-bits}
 use Rattle.cells.proofs.Words.{word-same}
 use Rattle.refusals.specs.RefusedCalls.{Answer, bufferAfter}
 use Rattle.refusals.specs.RefusedCalls.Answer.{gives}
-use Rattle.mfm.specs.Coding.{dataBits, cellsOf, encoded, dataCell, byteOn, decodedByte, decoded}
-use Rattle.mfm.specs.Calls.{codingAnswer, decodingAnswer, cellsAfter, bytesAfter}
+use Rattle.mfm.specs.Coding.{dataBits, bitCells, encoded, dataCell, byteOn, decodedByte, decoded}
+use Rattle.mfm.specs.Calls.{codingAnswer, decodingAnswer, encodedAfter, decodedAfter}
 use Rattle.mfm.proofs.Calls.{in-room}
 use Rattle.mfm.proofs.Cells.{length-bits, length-cells, cells-are, bits-are, data-cell, data-bit}
 
 pub length-encoded : (before : ℕ) (bytes : List ℕ) → length (encoded before bytes) ≡ 2 * length bytes
 unfolding encoded
 length-encoded before bytes =
-    omega (arith, length-packed (cellsOf before (dataBits bytes)), length-cells before (dataBits bytes), length-bits bytes)
+    omega (arith, length-packed (bitCells before (dataBits bytes)), length-cells before (dataBits bytes), length-bits bytes)
 
 pub length-decoded : (cells : List ℕ) → length (decoded cells) ≡ length cells / 2
 unfolding decoded
@@ -34,13 +34,13 @@ byte-again : (before : ℕ) (bytes : List ℕ) → ((i : ℕ) → getD bytes i 0
     → decodedByte (encoded before bytes) i ≡ getD bytes i 0
 unfolding decodedByte byteOn encoded
 byte-again before bytes small i h =
-    word-same (dataCell (cellAt (packed (cellsOf before (dataBits bytes)))) (16 * i)) (bitOf (getD bytes i 0)) 8 0 0 (λ j l. one j l) ∙ word-bits (getD bytes i 0) (small i)
+    word-same (dataCell (cellAt (packed (bitCells before (dataBits bytes)))) (16 * i)) (bitOf (getD bytes i 0)) 8 0 0 (λ j l. one j l) ∙ word-bits (getD bytes i 0) (small i)
   where
-    one : (j : ℕ) → j < 8 → cellAt (packed (cellsOf before (dataBits bytes))) (16 * i + (2 * (0 + j) + 1)) ≡ bitOf (getD bytes i 0) (0 + j)
+    one : (j : ℕ) → j < 8 → cellAt (packed (bitCells before (dataBits bytes))) (16 * i + (2 * (0 + j) + 1)) ≡ bitOf (getD bytes i 0) (0 + j)
     one j l =
         let s : 16 * i + (2 * (0 + j) + 1) ≡ 2 * (8 * i + j) + 1 = omega arith in
         let z : 0 + j ≡ j = omega arith in
-        rw (s, z) (cell-packed (cellsOf before (dataBits bytes)) (cells-are before (dataBits bytes) (bits-are bytes)) (2 * (8 * i + j) + 1)
+        rw (s, z) (cell-packed (bitCells before (dataBits bytes)) (cells-are before (dataBits bytes) (bits-are bytes)) (2 * (8 * i + j) + 1)
         ∙ data-cell before (dataBits bytes) (8 * i + j) ∙ data-bit bytes i j h l)
 
 -- of the definitions: for every bit before, and every list of bytes, each of them below 256
@@ -57,7 +57,7 @@ made : (answer : Answer ℕ) (count : ℕ) (new buffer : List ℕ) → answer �
 unfolding bufferAfter
 made answer count new buffer e = rw e
 
-left : (before : ℕ) (bytes cells : List ℕ) → length bytes ≤ 8192 → 2 * length bytes ≤ length cells → take (2 * length bytes) (cellsAfter before bytes cells) ≡ encoded before bytes
+left : (before : ℕ) (bytes cells : List ℕ) → length bytes ≤ 8192 → 2 * length bytes ≤ length cells → take (2 * length bytes) (encodedAfter before bytes cells) ≡ encoded before bytes
 left before bytes cells most room =
     ap (take (2 * length bytes)) (made (codingAnswer bytes cells) (2 * length bytes) (encoded before bytes) cells (sym (in-room 8192 (length bytes) (2 * length bytes) (length cells) most room)))
     ∙ take-at (encoded before bytes) _ (2 * length bytes) (length-encoded before bytes)
@@ -66,11 +66,11 @@ left before bytes cells most room =
 -- leaves them at the front of its buffer
 pub calls-round-trip : (before : ℕ) (bytes cells out : List ℕ) → ((i : ℕ) → getD bytes i 0 < 256)
     → length bytes ≤ 8192 → 2 * length bytes ≤ length cells → length bytes ≤ length out
-    → (decodingAnswer (take (2 * length bytes) (cellsAfter before bytes cells)) out ≡ gives (length bytes))
-    × (bytesAfter (take (2 * length bytes) (cellsAfter before bytes cells)) out ≡ writtenOver bytes out)
+    → (decodingAnswer (take (2 * length bytes) (encodedAfter before bytes cells)) out ≡ gives (length bytes))
+    × (decodedAfter (take (2 * length bytes) (encodedAfter before bytes cells)) out ≡ writtenOver bytes out)
 calls-round-trip before bytes cells out small most room back = rw front (answer, buffer)
   where
-    front : take (2 * length bytes) (cellsAfter before bytes cells) ≡ encoded before bytes
+    front : take (2 * length bytes) (encodedAfter before bytes cells) ≡ encoded before bytes
     front = left before bytes cells most room
 
     answer : decodingAnswer (encoded before bytes) out ≡ gives (length bytes)
@@ -79,5 +79,5 @@ calls-round-trip before bytes cells out small most room back = rw front (answer,
         let e : length (encoded before bytes) / 2 ≡ length bytes = omega arith in
         sym (in-room 16384 (length (encoded before bytes)) (length (encoded before bytes) / 2) (length out) (omega arith) (omega arith)) ∙ ap gives e
 
-    buffer : bytesAfter (encoded before bytes) out ≡ writtenOver bytes out
+    buffer : decodedAfter (encoded before bytes) out ≡ writtenOver bytes out
     buffer = made (decodingAnswer (encoded before bytes) out) (length bytes) (decoded (encoded before bytes)) out answer ∙ ap (λ (l : List ℕ). writtenOver l out) (decoded-encoded before bytes small)

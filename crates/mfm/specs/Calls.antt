@@ -30,8 +30,8 @@ abbrev pub decodingAnswer : List ℕ → List ℕ → Answer ℕ
 decodingAnswer cells bytes = judged 16384 (length cells) (length cells / 2) (length bytes)
 
 -- the buffer lent to a call that codes, and the one lent to a call that decodes
-abbrev pub cellsAfter : ℕ → List ℕ → List ℕ → List ℕ
-cellsAfter before bytes cells = bufferAfter (codingAnswer bytes cells) (encoded before bytes) cells
+abbrev pub encodedAfter : ℕ → List ℕ → List ℕ → List ℕ
+encodedAfter before bytes cells = bufferAfter (codingAnswer bytes cells) (encoded before bytes) cells
 
-abbrev pub bytesAfter : List ℕ → List ℕ → List ℕ
-bytesAfter cells bytes = bufferAfter (decodingAnswer cells bytes) (decoded cells) bytes
+abbrev pub decodedAfter : List ℕ → List ℕ → List ℕ
+decodedAfter cells bytes = bufferAfter (decodingAnswer cells bytes) (decoded cells) bytes

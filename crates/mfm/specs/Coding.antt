@@ -22,17 +22,17 @@ abbrev pub clock : ℕ → ℕ → ℕ
 clock before bit = cond (eqb before 0 && eqb bit 0) 1 0
 
 -- "A data bit takes two cells, clock then data": the cells of data bits, after the data bit `before`
-unfoldable pub cellsOf : ℕ → List ℕ → List ℕ
-cellsOf before [] = []
-cellsOf before (bit ∷ bits) = clock before bit ∷ bit ∷ cellsOf bit bits
+unfoldable pub bitCells : ℕ → List ℕ → List ℕ
+bitCells before [] = []
+bitCells before (bit ∷ bits) = clock before bit ∷ bit ∷ bitCells bit bits
 
 -- "two bytes of cells for each" byte: bytes coded after the data bit `before`
 unfoldable pub encoded : ℕ → List ℕ → List ℕ
-encoded before bytes = packed (cellsOf before (dataBits bytes))
+encoded before bytes = packed (bitCells before (dataBits bytes))
 
 -- the sixteen cells of one byte, as a number
 unfoldable pub byteCells : ℕ → ℕ → ℕ
-byteCells before byte = word (listCell (cellsOf before (listed (bitOf byte) 8))) 16 0
+byteCells before byte = word (listCell (bitCells before (listed (bitOf byte) 8))) 16 0
 
 -- data cell i of the sixteen cells from p of the cells f: the second of each two
 abbrev pub dataCell : (ℕ → ℕ) → ℕ → ℕ → ℕ

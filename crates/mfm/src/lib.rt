@@ -7,7 +7,7 @@ ghost use lib.ListN.{length};
 ghost use Rattle.basis.specs.Lists.{writtenOver};
 ghost use Rattle.cells.specs.CellsAndBytes.{cell, word};
 ghost use Rattle.mfm.specs.Coding.{clock, byteCells, byteOn, encoded, decoded};
-ghost use Rattle.mfm.specs.Calls.{answerOf, codingAnswer, decodingAnswer, cellsAfter, bytesAfter};
+ghost use Rattle.mfm.specs.Calls.{answerOf, codingAnswer, decodingAnswer, encodedAfter, decodedAfter};
 
 // The most bytes that one call codes, and the most bytes of cells that one call decodes.
 pub const MOST_TO_CODE: usize = 8192;
@@ -23,7 +23,7 @@ pub enum Written {
 // Coding: two bytes of cells for each byte, at the front of `cells`. `before` is the data bit before the bytes.
 pub fn encode(bytes: &[u8], before: bool, cells: &mut [u8]) -> Written
     ensures answer { λ r. ⌜ answerOf r ≡ codingAnswer (now (bytes .entry)) (now (cells .entry)) ⌝ }
-    ensures buffer { λ _. ⌜ now (cells .exit) ≡ cellsAfter (cond before 1 0) (now (bytes .entry)) (now (cells .entry)) ⌝ }
+    ensures buffer { λ _. ⌜ now (cells .exit) ≡ encodedAfter (cond before 1 0) (now (bytes .entry)) (now (cells .entry)) ⌝ }
 {
     let given = bytes.len();
     if MOST_TO_CODE < given {
@@ -40,7 +40,7 @@ pub fn encode(bytes: &[u8], before: bool, cells: &mut [u8]) -> Written
 // Decoding: one byte for each two bytes of cells, at the front of `bytes`; an odd last byte of cells is not read.
 pub fn decode(cells: &[u8], bytes: &mut [u8]) -> Written
     ensures answer { λ r. ⌜ answerOf r ≡ decodingAnswer (now (cells .entry)) (now (bytes .entry)) ⌝ }
-    ensures buffer { λ _. ⌜ now (bytes .exit) ≡ bytesAfter (now (cells .entry)) (now (bytes .entry)) ⌝ }
+    ensures buffer { λ _. ⌜ now (bytes .exit) ≡ decodedAfter (now (cells .entry)) (now (bytes .entry)) ⌝ }
 {
     let given = cells.len();
     if MOST_TO_DECODE < given {

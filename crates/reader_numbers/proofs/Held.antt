@@ -18,6 +18,7 @@ use Rattle.refusals.specs.RefusedCalls.{Answer}
 use Rattle.refusals.specs.RefusedCalls.Answer.{gives, refused}
 use Rattle.refusals.specs.declared.Refusal.the-variants.{CellCount as CellsRefused, TooManyTimings, NoRoomForCells, NotATrackFile as NoTrackFile}
 use Rattle.cells.specs.CellsAndBytes.{bytesFor}
+use Rattle.reader_numbers.specs.Portions.{Bytes}
 use Rattle.track_file.specs.Portions.{startOf, numberAfter, takenStep, takenAfter, afterPlaceCount, afterCellCount, afterPackedByte, afterFluxCount, afterTiming, inPlaceCount, inCellCount, inFluxCount, inTiming, readerAfterByte, readerAfter}
 use Rattle.track_file.specs.declared.Place.{Place}
 use Rattle.track_file.specs.declared.Number.{Number}
@@ -54,15 +55,6 @@ Held (AllCells place count) = HeldPlace place × (count < 4294967296)
 Held (AllTimings place taken) = HeldPlace place × HeldTaken taken
 Held NotATrackFile = Unit
 Held (Stopped refusal) = Unit
-
--- bytes, and portions of them
-abbrev pub Bytes : List ℕ → Type 0
-Bytes [] = Unit
-Bytes (byte ∷ bytes) = (byte < 256) × Bytes bytes
-
-abbrev pub Portions : List (List ℕ) → Type 0
-Portions [] = Unit
-Portions (portion ∷ portions) = Bytes portion × Portions portions
 
 -- one of two readers
 either : (b : Bool) (x y : Reader) → (b ≡ true → Held x) → (b ≡ false → Held y) → Held (cond b x y)

@@ -22,8 +22,9 @@ use Rattle.track_file.specs.declared.TakenTimings.{TakenTimings}
 use Rattle.track_file.specs.declared.TakenTimings.the-variants.{InRange, OutOfRange}
 use Rattle.track_file.specs.declared.Reader.{Reader}
 use Rattle.track_file.specs.declared.Reader.the-variants.{PlaceCount, Track, Side, CellCount, PackedCells, FluxCount, Timings, AllCells, AllTimings, NotATrackFile, Stopped}
-use Rattle.reader_numbers.specs.Numbers.{kindOf, firstByte, secondByte, thirdByte, lowered, takenKind, takenCount, takenCells, takenResidual, row, stateOf, numberFrom, takenFrom, lowRefusal, highRefusal, refusalFrom, earlyFrom, lateFrom, readerFrom, decoded, atFront, readerOf, stateAfter}
-use Rattle.reader_numbers.proofs.Held.{HeldPlace, HeldNumber, HeldTaken, Held, Portions, held-start, held-after}
+use Rattle.reader_numbers.specs.Numbers.{kindOf, firstByte, secondByte, thirdByte, lowered, takenKind, takenCount, cellsTaken, takenResidual, row, stateOf, numberFrom, takenFrom, lowRefusal, highRefusal, refusalFrom, earlyFrom, lateFrom, readerFrom, readerAsGiven, atFront, readerOf, stateAfter}
+use Rattle.reader_numbers.specs.Portions.{AllBytes, stateAfterAll, bufferAfterAll, stateThrough, bufferThrough}
+use Rattle.reader_numbers.proofs.Held.{HeldPlace, HeldNumber, HeldTaken, Held, held-start, held-after}
 use Rattle.reader_numbers.proofs.Residuals.{raised-small, lowered-raised}
 
 -- each part
@@ -38,7 +39,7 @@ number-back (One a) h = rw (mod-eq-of-lt h)
 number-back (Two a b) h = rw (mod-eq-of-lt (h .0), mod-eq-of-lt (h .1))
 number-back (Three a b c) h = rw (mod-eq-of-lt (h .0), mod-eq-of-lt (h .1), mod-eq-of-lt (h .2))
 
-taken-back : (taken : TakenTimings) → HeldTaken taken → takenFrom (takenKind taken) (takenCount taken) (takenCells taken) (takenResidual taken % 4294967296) ≡ taken
+taken-back : (taken : TakenTimings) → HeldTaken taken → takenFrom (takenKind taken) (takenCount taken) (cellsTaken taken) (takenResidual taken % 4294967296) ≡ taken
 unfolding takenFrom
 taken-back (InRange timings cells separator) h =
     ap (λ (z : ℤ). InRange timings cells (record { residual = z })) (ap lowered (mod-eq-of-lt (raised-small (separator .residual) h)) ∙ lowered-raised (separator .residual) h)
@@ -63,19 +64,19 @@ refusal-back (TooManyBytes value) = refl
 refusal-back NoTrackFile = refl
 
 -- the numbers, taken as they stand
-decoded-back : (reader : Reader) → Held reader → (rest : List ℕ) → decoded (stateOf reader ++ rest) ≡ reader
-unfolding decoded stateOf row readerFrom earlyFrom lateFrom
-decoded-back (PlaceCount number) h rest = ap PlaceCount (number-back number h)
-decoded-back Track h rest = refl
-decoded-back (Side track) h rest = ap Side (mod-eq-of-lt h)
-decoded-back (CellCount place number) h rest = rw (place-back place (h .0), number-back number (h .1))
-decoded-back (PackedCells place count at) h rest = rw (place-back place (h .0), mod-eq-of-lt (h .1), mod-eq-of-lt (h .2))
-decoded-back (FluxCount place count number) h rest = rw (place-back place (h .0), mod-eq-of-lt (h .1), number-back number (h .2))
-decoded-back (Timings place left number taken) h rest = rw (place-back place (h .0), mod-eq-of-lt (h .1), number-back number (h .2), taken-back taken (h .3))
-decoded-back (AllCells place count) h rest = rw (place-back place (h .0), mod-eq-of-lt (h .1))
-decoded-back (AllTimings place taken) h rest = rw (place-back place (h .0), taken-back taken (h .1))
-decoded-back NotATrackFile h rest = refl
-decoded-back (Stopped refusal) h rest = ap Stopped (refusal-back refusal)
+given-back : (reader : Reader) → Held reader → (rest : List ℕ) → readerAsGiven (stateOf reader ++ rest) ≡ reader
+unfolding readerAsGiven stateOf row readerFrom earlyFrom lateFrom
+given-back (PlaceCount number) h rest = ap PlaceCount (number-back number h)
+given-back Track h rest = refl
+given-back (Side track) h rest = ap Side (mod-eq-of-lt h)
+given-back (CellCount place number) h rest = rw (place-back place (h .0), number-back number (h .1))
+given-back (PackedCells place count at) h rest = rw (place-back place (h .0), mod-eq-of-lt (h .1), mod-eq-of-lt (h .2))
+given-back (FluxCount place count number) h rest = rw (place-back place (h .0), mod-eq-of-lt (h .1), number-back number (h .2))
+given-back (Timings place left number taken) h rest = rw (place-back place (h .0), mod-eq-of-lt (h .1), number-back number (h .2), taken-back taken (h .3))
+given-back (AllCells place count) h rest = rw (place-back place (h .0), mod-eq-of-lt (h .1))
+given-back (AllTimings place taken) h rest = rw (place-back place (h .0), taken-back taken (h .1))
+given-back NotATrackFile h rest = refl
+given-back (Stopped refusal) h rest = ap Stopped (refusal-back refusal)
 
 -- numbers are at the front of themselves with others after them, and what is at the front stands there
 front-self : (numbers rest : List ℕ) → atFront numbers (numbers ++ rest) ≡ true
@@ -118,7 +119,7 @@ state-long (Stopped refusal) = refl
 -- the numbers of a reader that the code can hold, with any numbers after them, give that reader
 pub read-back : (reader : Reader) → Held reader → (rest : List ℕ) → readerOf (stateOf reader ++ rest) ≡ reader
 unfolding readerOf
-read-back reader h rest = rw (le-ltb (length (stateOf reader ++ rest)) 13 (long reader rest), decoded-back reader h rest, front-self (stateOf reader) rest)
+read-back reader h rest = rw (le-ltb (length (stateOf reader ++ rest)) 13 (long reader rest), given-back reader h rest, front-self (stateOf reader) rest)
   where
     long : (reader : Reader) (rest : List ℕ) → 13 ≤ length (stateOf reader ++ rest)
     long reader rest = rw (length-append (stateOf reader) rest, state-long reader) (omega arith)
@@ -141,25 +142,17 @@ too-short state h = rw (lt-ltb (length state) 13 h)
 
 pub no-reader : (state : List ℕ) → ((reader : Reader) (rest : List ℕ) → state ≡ stateOf reader ++ rest → ⊥) → readerOf state ≡ NotATrackFile
 unfolding readerOf
-no-reader state none = go (ltb (length state) 13) (atFront (stateOf (decoded state)) state) refl
+no-reader state none = go (ltb (length state) 13) (atFront (stateOf (readerAsGiven state)) state) refl
   where
-    go : (a b : Bool) → atFront (stateOf (decoded state)) state ≡ b → cond a NotATrackFile (cond b (decoded state) NotATrackFile) ≡ NotATrackFile
+    go : (a b : Bool) → atFront (stateOf (readerAsGiven state)) state ≡ b → cond a NotATrackFile (cond b (readerAsGiven state) NotATrackFile) ≡ NotATrackFile
     go true b e = refl
-    go false true e = absurd (none (decoded state) (drop (length (stateOf (decoded state))) state) (front-is (stateOf (decoded state)) state e))
+    go false true e = absurd (none (readerAsGiven state) (drop (length (stateOf (readerAsGiven state))) state) (front-is (stateOf (readerAsGiven state)) state e))
     go false false e = refl
 
--- a file in portions: the numbers and the cell buffer after `feed` on each of them
-abbrev pub stateAfterAll : List ℕ → List (List ℕ) → List ℕ
-stateAfterAll state [] = state
-stateAfterAll state (portion ∷ portions) = stateAfterAll (stateAfter (readerAfter (readerOf state) portion) state) portions
-
-abbrev pub cellsFed : List ℕ → List (List ℕ) → List ℕ → List ℕ
-cellsFed state [] buffer = buffer
-cellsFed state (portion ∷ portions) buffer = cellsFed (stateAfter (readerAfter (readerOf state) portion) state) portions (cellsAfter (readerOf state) portion buffer)
-
-fed : (reader : Reader) → Held reader → (state : List ℕ) → 13 ≤ length state → readerOf state ≡ reader → (portions : List (List ℕ)) → Portions portions
+-- a file in portions: the numbers stay those of its reader
+fed : (reader : Reader) → Held reader → (state : List ℕ) → 13 ≤ length state → readerOf state ≡ reader → (portions : List (List ℕ)) → AllBytes portions
     → (buffer : List ℕ)
-    → (readerOf (stateAfterAll state portions) ≡ readerAfterAll reader portions) × (cellsFed state portions buffer ≡ cellsAfterAll reader portions buffer)
+    → (readerOf (stateAfterAll state portions) ≡ readerAfterAll reader portions) × (bufferAfterAll state portions buffer ≡ cellsAfterAll reader portions buffer)
 unfolding readerAfterAll cellsAfterAll
 fed reader h state enough is [] b buffer = (is, refl)
 fed reader h state enough is (portion ∷ portions) b buffer =
@@ -173,14 +166,14 @@ fed reader h state enough is (portion ∷ portions) b buffer =
 
 -- from the start: the numbers are those of the reader that the portions lead to, and the buffer holds the cells that they put there. So
 -- `WholeFile` and `WholeListing` hold of what the last call gives
-module _ (state : List ℕ) (enough : 13 ≤ length state) (buffer : List ℕ) (portions : List (List ℕ)) (bytes : Portions portions) where
-  abbrev pub stateThrough : List ℕ
-  stateThrough = stateAfterAll (stateAfter (startOf (length buffer)) state) portions
+module _ (state : List ℕ) (enough : 13 ≤ length state) (buffer : List ℕ) (portions : List (List ℕ)) (bytes : AllBytes portions) where
+  abbrev numbers : List ℕ
+  numbers = stateThrough state buffer portions
 
-  abbrev pub cellsLeft : List ℕ
-  cellsLeft = cellsFed (stateAfter (startOf (length buffer)) state) portions (startCells buffer)
+  abbrev cells : List ℕ
+  cells = bufferThrough state buffer portions
 
-  pub through : (readerOf stateThrough ≡ readerThrough buffer portions) × (cellsLeft ≡ cellsThrough buffer portions)
+  pub through : (readerOf numbers ≡ readerThrough buffer portions) × (cells ≡ cellsThrough buffer portions)
   through =
       let start = startOf (length buffer) in
       fed start (held-start (length buffer)) (stateAfter start state) (rw (kept-long start state enough) enough)
@@ -190,6 +183,6 @@ module _ (state : List ℕ) (enough : 13 ≤ length state) (buffer : List ℕ) (
       (startCells buffer)
 
   -- the end gives what the whole file gives
-  pub whole-file : (finishAnswer (readerOf stateThrough) ≡ fileAnswerIn (length buffer) (wholeOf portions))
-      × (leftAfter (finishAnswer (readerOf stateThrough)) cellsLeft ≡ fileBuffer buffer (wholeOf portions))
-  whole-file = finished (readerOf stateThrough) cellsLeft _ refl refl .1 .1 .whole buffer portions (through .0) (through .1)
+  pub whole-file : (finishAnswer (readerOf numbers) ≡ fileAnswerIn (length buffer) (wholeOf portions))
+      × (leftAfter (finishAnswer (readerOf numbers)) cells ≡ fileBuffer buffer (wholeOf portions))
+  whole-file = finished (readerOf numbers) cells _ refl refl .1 .1 .whole buffer portions (through .0) (through .1)

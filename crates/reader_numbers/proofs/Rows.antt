@@ -16,7 +16,7 @@ use Rattle.track_file.specs.declared.TakenTimings.{TakenTimings}
 use Rattle.track_file.specs.declared.TakenTimings.the-variants.{InRange, OutOfRange}
 use Rattle.track_file.specs.declared.Reader.{Reader}
 use Rattle.track_file.specs.declared.Reader.the-variants.{NotATrackFile, Stopped}
-use Rattle.reader_numbers.specs.Numbers.{kindOf, firstByte, secondByte, thirdByte, lowered, takenKind, takenCount, takenCells, takenResidual, row, noPlace, stateOf, numberFrom, takenFrom, readerFrom, decoded, atFront, readerOf, stateAfter}
+use Rattle.reader_numbers.specs.Numbers.{kindOf, firstByte, secondByte, thirdByte, lowered, takenKind, takenCount, cellsTaken, takenResidual, row, noPlace, stateOf, numberFrom, takenFrom, readerFrom, readerAsGiven, atFront, readerOf, stateAfter}
 
 -- the timings taken
 module _ (kind count cells residual : ℕ) where
@@ -30,7 +30,7 @@ module _ (kind count cells residual : ℕ) where
 
 -- thirteen numbers
 pub row-made : (phase : ℕ) (place : Place) (count at : ℕ) (number : Number) (taken : TakenTimings) {k a b c t n m r : ℕ} → k ≡ kindOf number
-    → a ≡ firstByte number → b ≡ secondByte number → c ≡ thirdByte number → t ≡ takenKind taken → n ≡ takenCount taken → m ≡ takenCells taken
+    → a ≡ firstByte number → b ≡ secondByte number → c ≡ thirdByte number → t ≡ takenKind taken → n ≡ takenCount taken → m ≡ cellsTaken taken
     → r ≡ takenResidual taken
     → phase ∷ place .track ∷ place .side ∷ count ∷ at ∷ k ∷ a ∷ b ∷ c ∷ t ∷ n ∷ m ∷ r ∷ [] ≡ row phase place count at number taken
 unfolding row
@@ -42,13 +42,13 @@ unfolding stateOf
 row-of-refusal refusal is e f = rw (is, e, f)
 
 -- what thirteen numbers say
-pub decoded-made : (state : List ℕ) {t s a b c : ℕ} {number : Number} {q : ℕ} {taken : TakenTimings} {f g : ℕ} {reader : Reader}
+pub given-made : (state : List ℕ) {t s a b c : ℕ} {number : Number} {q : ℕ} {taken : TakenTimings} {f g : ℕ} {reader : Reader}
     → t ≡ getD state 1 0 % 256 → s ≡ getD state 2 0 % 256 → a ≡ getD state 6 0 % 256 → b ≡ getD state 7 0 % 256 → c ≡ getD state 8 0 % 256
     → number ≡ numberFrom (getD state 5 0) a b c → q ≡ getD state 12 0 % 4294967296
     → taken ≡ takenFrom (getD state 9 0) (getD state 10 0) (getD state 11 0) q → f ≡ getD state 3 0 % 4294967296 → g ≡ getD state 4 0 % 4294967296
-    → reader ≡ readerFrom (getD state 0 0) (record { track = t; side = s }) f g number taken (getD state 10 0) → reader ≡ decoded state
-unfolding decoded
-decoded-made state t s a b c n q k f g e = e ∙ rw (n, k, t, s, a, b, c, q, f, g)
+    → reader ≡ readerFrom (getD state 0 0) (record { track = t; side = s }) f g number taken (getD state 10 0) → reader ≡ readerAsGiven state
+unfolding readerAsGiven
+given-made state t s a b c n q k f g e = e ∙ rw (n, k, t, s, a, b, c, q, f, g)
 
 -- the reader of numbers
 module _ (state : List ℕ) where
@@ -56,9 +56,9 @@ module _ (state : List ℕ) where
   unfolding readerOf
   too-few h = rw (lt-ltb (length state) 13 h)
 
-  module _ (enough : 13 ≤ length state) {reader : Reader} (is : reader ≡ decoded state) {numbers : List ℕ} (made : numbers ≡ stateOf reader) {same : Bool}
+  module _ (enough : 13 ≤ length state) {reader : Reader} (is : reader ≡ readerAsGiven state) {numbers : List ℕ} (made : numbers ≡ stateOf reader) {same : Bool}
       (told : same ≡ atFront numbers state) where
-    compared : {b : Bool} → same ≡ b → atFront (stateOf (decoded state)) state ≡ b
+    compared : {b : Bool} → same ≡ b → atFront (stateOf (readerAsGiven state)) state ≡ b
     compared e = ap (λ (r : Reader). atFront (stateOf r) state) (sym is) ∙ ap (λ (l : List ℕ). atFront l state) (sym made) ∙ sym told ∙ e
 
     pub a-state : same ≡ true → reader ≡ readerOf state

@@ -67,9 +67,9 @@ abbrev pub takenCount : TakenTimings → ℕ
 takenCount (InRange timings cells separator) = timings
 takenCount (OutOfRange index) = index
 
-abbrev pub takenCells : TakenTimings → ℕ
-takenCells (InRange timings cells separator) = cells
-takenCells (OutOfRange index) = 0
+abbrev pub cellsTaken : TakenTimings → ℕ
+cellsTaken (InRange timings cells separator) = cells
+cellsTaken (OutOfRange index) = 0
 
 abbrev pub takenResidual : TakenTimings → ℕ
 takenResidual (InRange timings cells separator) = raised (separator .residual)
@@ -79,7 +79,7 @@ takenResidual (OutOfRange index) = 0
 unfoldable pub row : ℕ → Place → ℕ → ℕ → Number → TakenTimings → List ℕ
 row phase place count at number taken =
     phase ∷ place .track ∷ place .side ∷ count ∷ at ∷ kindOf number ∷ firstByte number ∷ secondByte number ∷ thirdByte number ∷ takenKind taken
-    ∷ takenCount taken ∷ takenCells taken ∷ takenResidual taken ∷ []
+    ∷ takenCount taken ∷ cellsTaken taken ∷ takenResidual taken ∷ []
 
 -- a place that is not known yet
 abbrev pub noPlace : Place
@@ -142,9 +142,9 @@ unfoldable pub readerFrom : ℕ → Place → ℕ → ℕ → Number → TakenTi
 readerFrom phase place count at number taken value =
     cond (ltb phase 5) (earlyFrom phase place count at number) (lateFrom phase place count number taken value)
 
--- of bytes and of numbers of 32 bits, what their low 8 and 32 bits are
-unfoldable pub decoded : List ℕ → Reader
-decoded state =
+-- the reader that numbers give as they stand: a byte is their low 8 bits, a count and a residual their low 32
+unfoldable pub readerAsGiven : List ℕ → Reader
+readerAsGiven state =
     readerFrom (getD state 0 0) (record { track = getD state 1 0 % 256; side = getD state 2 0 % 256 }) (getD state 3 0 % 4294967296)
     (getD state 4 0 % 4294967296)
     (numberFrom (getD state 5 0) (getD state 6 0 % 256) (getD state 7 0 % 256) (getD state 8 0 % 256))
@@ -159,7 +159,7 @@ atFront (x ∷ xs) (y ∷ ys) = eqb x y && atFront xs ys
 
 -- the reader of numbers. Too few of them, and numbers that are no reader's, count as a file that is refused with 15
 unfoldable pub readerOf : List ℕ → Reader
-readerOf state = cond (ltb (length state) 13) NotATrackFile (cond (atFront (stateOf (decoded state)) state) (decoded state) NotATrackFile)
+readerOf state = cond (ltb (length state) 13) NotATrackFile (cond (atFront (stateOf (readerAsGiven state)) state) (readerAsGiven state) NotATrackFile)
 
 -- the lent numbers afterwards: a reader's at the front, where there is room for all of them
 unfoldable pub stateAfter : Reader → List ℕ → List ℕ

@@ -10,7 +10,7 @@ use track_file::TakenTimings;
 ghost use mathlib.Core.Path.{_≡_};
 ghost use Prim.Native.Nat.{_%_, _≤_};
 ghost use lib.ListN.{length};
-ghost use Rattle.reader_numbers.specs.Numbers.{lowered, numberFrom, takenFrom, lowRefusal, highRefusal, refusalFrom, earlyFrom, lateFrom, readerFrom, decoded, atFront, readerOf};
+ghost use Rattle.reader_numbers.specs.Numbers.{lowered, numberFrom, takenFrom, lowRefusal, highRefusal, refusalFrom, earlyFrom, lateFrom, readerFrom, readerAsGiven, atFront, readerOf};
 
 // The reader of numbers. Too few of them, and numbers that are no reader's, count as a file that is refused with 15.
 pub fn reader_of(state: &[u64]) -> Reader
@@ -19,7 +19,7 @@ pub fn reader_of(state: &[u64]) -> Reader
     if state.len() < NUMBERS {
         return Reader::NotATrackFile;
     }
-    let reader = decoded(state);
+    let reader = reader_as_given(state);
     let numbers = numbers_of(reader);
     if at_front(&numbers, state) {
         reader
@@ -44,9 +44,9 @@ fn at_front(numbers: &[u64], list: &[u64]) -> bool
 }
 
 // What the numbers say, taken as it stands.
-fn decoded(state: &[u64]) -> Reader
+fn reader_as_given(state: &[u64]) -> Reader
     requires { ⌜ 13 ≤ length (now state) ⌝ }
-    ensures { λ r. ⌜ r ≡ decoded (now (state .entry)) ⌝ }
+    ensures { λ r. ⌜ r ≡ readerAsGiven (now (state .entry)) ⌝ }
 {
     let place = Place {
         track: low_byte(state[1]),

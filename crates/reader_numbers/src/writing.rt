@@ -8,7 +8,7 @@ ghost use mathlib.Core.Path.{_≡_};
 ghost use Prim.Native.Nat.{_≤_};
 ghost use lib.ListN.{length};
 ghost use Rattle.basis.specs.Lists.{writtenOver};
-ghost use Rattle.reader_numbers.specs.Numbers.{kindOf, firstByte, secondByte, thirdByte, raised, takenKind, takenCount, takenCells, takenResidual, row, stateOf, stateAfter};
+ghost use Rattle.reader_numbers.specs.Numbers.{kindOf, firstByte, secondByte, thirdByte, raised, takenKind, takenCount, cellsTaken, takenResidual, row, stateOf, stateAfter};
 
 // Keeps a reader's numbers at the front of `state`, where there is room for all of them.
 pub fn keep(reader: Reader, state: &mut [u64])
@@ -172,7 +172,7 @@ fn taken_count(taken: TakenTimings) -> u64
 }
 
 fn taken_cells(taken: TakenTimings) -> u64
-    ensures { λ r. ⌜ r ≡ takenCells taken ⌝ }
+    ensures { λ r. ⌜ r ≡ cellsTaken taken ⌝ }
 {
     match taken {
         TakenTimings::InRange {

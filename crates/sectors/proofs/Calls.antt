@@ -11,7 +11,7 @@ use Rattle.cells.specs.CellsAndBytes.{cell, bytesFor}
 use Rattle.refusals.specs.RefusedCalls.{Answer, bufferAfter}
 use Rattle.refusals.specs.RefusedCalls.Answer.{gives, refused}
 use Rattle.sectors.specs.Sectors.{noSector, sectorsOf, kept, dataBytes}
-use Rattle.sectors.specs.Calls.{trackJudged, countJudged, indexJudged, sectorsAnswer, sectorsBeside, indexAnswer, recordBeside, sectorOf, DataRead, dataJudged, readAnswer, dataAfter}
+use Rattle.sectors.specs.Calls.{trackJudged, countJudged, indexJudged, sectorsAnswer, sectorsBeside, indexAnswer, recordBeside, sectorOf, DataRead, dataJudged, dataAnswer, dataAfter}
 use Rattle.sectors.specs.declared.Sector.{Sector}
 use Rattle.sectors.specs.declared.Sectors.{Sectors}
 
@@ -129,8 +129,8 @@ module _ (bytes : List ℕ) (N T H : ℕ) where
   index-follows index =
       follows-track _ _ _ (follows-count _ _ _ (follows-given count (indexJudged count index (gives count))) count) bytes N T H
 
-  pub read-follows : (index room : ℕ) → Follows (indexAnswer bytes N T H index) (readAnswer bytes N T H index room) (dataJudged (sectorOf bytes N index) room)
-  unfolding indexAnswer readAnswer
+  pub read-follows : (index room : ℕ) → Follows (indexAnswer bytes N T H index) (dataAnswer bytes N T H index room) (dataJudged (sectorOf bytes N index) room)
+  unfolding indexAnswer dataAnswer
   read-follows index room =
       follows-track _ _ _ (follows-count _ _ _ (follows-index _ _ _ (follows-given count (dataJudged (sectorOf bytes N index) room)) count index) count) bytes N T H
 
@@ -176,7 +176,7 @@ module _ (bytes : List ℕ) (N T H m : ℕ) (g : gives m ≡ sectorsAnswer bytes
 pub read-given : (bytes : List ℕ) (N T H index m : ℕ) (buffer after : List ℕ) (s : Sector) (x : Answer DataRead) → gives m ≡ indexAnswer bytes N T H index
     → s ≡ recordBeside (indexAnswer bytes N T H index) (sectorOf bytes N index) → x ≡ dataJudged s (length buffer)
     → after ≡ bufferAfter (dataJudged s (length buffer)) (dataBytes (cell bytes N) s) buffer
-    → (x ≡ readAnswer bytes N T H index (length buffer)) × (after ≡ dataAfter bytes N T H index buffer)
+    → (x ≡ dataAnswer bytes N T H index (length buffer)) × (after ≡ dataAfter bytes N T H index buffer)
 unfolding recordBeside
 read-given bytes N T H index m buffer after s x g e j h =
     let t : s ≡ sectorOf bytes N index = rw (← g) at e in

@@ -81,8 +81,8 @@ dataJudged s room =
     (gives (record { size = s .«data_length»; good = s .«data_check_good» })))
 
 -- reading out sector `index`: refusals 1 to 4, 11, 12, 13
-unfoldable pub readAnswer : List ℕ → (N T H index room : ℕ) → Answer DataRead
-readAnswer bytes N T H index room =
+unfoldable pub dataAnswer : List ℕ → (N T H index room : ℕ) → Answer DataRead
+dataAnswer bytes N T H index room =
     trackJudged bytes N T H
     (countJudged (length (sectorsOf bytes N))
     (indexJudged (length (sectorsOf bytes N)) index (dataJudged (sectorOf bytes N index) room)))
@@ -90,4 +90,4 @@ readAnswer bytes N T H index room =
 -- the lent buffer afterwards: the first L bytes filled, the rest kept; all of it kept beside a refusal
 abbrev pub dataAfter : List ℕ → (N T H index : ℕ) → List ℕ → List ℕ
 dataAfter bytes N T H index buffer =
-    bufferAfter (readAnswer bytes N T H index (length buffer)) (dataBytes (cell bytes N) (sectorOf bytes N index)) buffer
+    bufferAfter (dataAnswer bytes N T H index (length buffer)) (dataBytes (cell bytes N) (sectorOf bytes N index)) buffer

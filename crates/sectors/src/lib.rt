@@ -13,7 +13,7 @@ ghost use Rattle.crc.specs.CheckWord.{checkWordFrom};
 ghost use Rattle.refusals.specs.RefusedCalls.{refusedWith, bufferAfter};
 ghost use Rattle.sectors.specs.Marks.{markAt, markByte, markOf, idMarkAt};
 ghost use Rattle.sectors.specs.Sectors.{bytesFrom, checkBytes, checkGood, leastData, lengthOf, idByte, sectorAt, noSector, sectorsAt, sectorsOf, kept, dataBytes};
-ghost use Rattle.sectors.specs.Calls.{listedAnswer, sectorsAnswer, sectorsBeside, indexAnswer, recordBeside, sectorOf, readOutAnswer, dataJudged, readAnswer, dataAfter};
+ghost use Rattle.sectors.specs.Calls.{listedAnswer, sectorsAnswer, sectorsBeside, indexAnswer, recordBeside, sectorOf, readOutAnswer, dataJudged, dataAnswer, dataAfter};
 
 // The last track and side of a drive.
 pub const LAST_TRACK: u32 = 83;
@@ -132,7 +132,7 @@ pub fn read_out(
     index: usize,
     buffer: &mut [u8],
 ) -> ReadOut
-    ensures answer { λ r. ⌜ readOutAnswer r ≡ readAnswer (now (bytes .entry)) n track side index (length (now (buffer .entry))) ⌝ }
+    ensures answer { λ r. ⌜ readOutAnswer r ≡ dataAnswer (now (bytes .entry)) n track side index (length (now (buffer .entry))) ⌝ }
     ensures buffer { λ _. ⌜ now (buffer .exit) ≡ dataAfter (now (bytes .entry)) n track side index (now (buffer .entry)) ⌝ }
 {
     let found = sector_by_index(bytes, n, track, side, index);

@@ -7,20 +7,20 @@ use mathlib.Core.List.{List}
 use lib.ListN.{length}
 use Rattle.listing.specs.WholeFile.{printedFile, fileListing}
 use Rattle.reader_numbers.specs.Numbers.{readerOf}
-use Rattle.reader_numbers.proofs.Held.{Portions}
-use Rattle.reader_numbers.proofs.Laws.{stateThrough, cellsLeft, whole-file}
+use Rattle.reader_numbers.specs.Portions.{AllBytes, stateThrough, bufferThrough}
+use Rattle.reader_numbers.proofs.Laws.{whole-file}
 use Rattle.refusals.specs.RefusedCalls.{Answer}
 use Rattle.track_file.specs.Portions.{wholeOf, finishAnswer, leftAfter}
 use Rattle.track_file.specs.TrackFile.{Content, fileAnswerIn, fileBuffer}
 use Rattle.thikbromu.specs.Files.{numberGiven, valueGiven, placeGiven}
 
 -- the state has room for a reader, and the portions are bytes
-module _ (state : List ℕ) (enough : 13 ≤ length state) (buffer : List ℕ) (portions : List (List ℕ)) (bytes : Portions portions) where
+module _ (state : List ℕ) (enough : 13 ≤ length state) (buffer : List ℕ) (portions : List (List ℕ)) (bytes : AllBytes portions) where
   abbrev held : List ℕ
-  held = stateThrough state enough buffer portions bytes
+  held = stateThrough state buffer portions
 
   abbrev cells : List ℕ
-  cells = cellsLeft state enough buffer portions bytes
+  cells = bufferThrough state buffer portions
 
   abbrev answer : Answer Content
   answer = fileAnswerIn (length buffer) (wholeOf portions)

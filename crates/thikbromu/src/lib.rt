@@ -30,12 +30,12 @@ ghost use lib.ListN.{length, take};
 ghost use Rattle.basis.specs.Lists.{writtenOver};
 ghost use Rattle.cells.specs.CellsAndBytes.{cell, wordAt, leastPlace, cleared, withOne};
 ghost use Rattle.crc.specs.CheckWord.{checkWordFrom, checkWord};
-ghost use Rattle.mfm.specs.Calls.{answerOf, codingAnswer, decodingAnswer, cellsAfter, bytesAfter};
+ghost use Rattle.mfm.specs.Calls.{answerOf, codingAnswer, decodingAnswer, encodedAfter, decodedAfter};
 ghost use Rattle.flux.specs.Rule.{takenAnswer, stepAnswer, stepResidual};
 ghost use Rattle.flux.specs.Separation.{separatedAnswer, separation, separatedCells};
 ghost use Rattle.flux.specs.Demand3.{Demand3};
 ghost use Rattle.flux.specs.Histogram.{countedAnswer, counting};
-ghost use Rattle.sectors.specs.Calls.{listedAnswer, indexAnswer, readOutAnswer, readAnswer, dataAfter};
+ghost use Rattle.sectors.specs.Calls.{listedAnswer, indexAnswer, readOutAnswer, dataAnswer, dataAfter};
 ghost use Rattle.findings.specs.Calls.{foundAnswer, findingsAnswer, listAfter, numbersAfter};
 ghost use Rattle.thikbromu.specs.Numbers.{numberIn, valueIn, countsLent, sectorNumbers, recordLent, numberRead, valueRead, checkRead};
 
@@ -129,7 +129,7 @@ pub extern "C" fn thikbromu_encode(
 ) -> u32
     ensures number { λ r. ⌜ r ≡ numberIn (codingAnswer (now (bytes .entry)) (now (cells .entry))) ⌝ }
     ensures value { λ _. ⌜ now (value .exit) ≡ valueIn (codingAnswer (now (bytes .entry)) (now (cells .entry))) ⌝ }
-    ensures buffer { λ _. ⌜ now (cells .exit) ≡ cellsAfter (cond before 1 0) (now (bytes .entry)) (now (cells .entry)) ⌝ }
+    ensures buffer { λ _. ⌜ now (cells .exit) ≡ encodedAfter (cond before 1 0) (now (bytes .entry)) (now (cells .entry)) ⌝ }
 {
     told(mfm::encode(bytes, before, cells), value)
 }
@@ -139,7 +139,7 @@ pub extern "C" fn thikbromu_encode(
 pub extern "C" fn thikbromu_decode(cells: &[u8], bytes: &mut [u8], value: &mut usize) -> u32
     ensures number { λ r. ⌜ r ≡ numberIn (decodingAnswer (now (cells .entry)) (now (bytes .entry))) ⌝ }
     ensures value { λ _. ⌜ now (value .exit) ≡ valueIn (decodingAnswer (now (cells .entry)) (now (bytes .entry))) ⌝ }
-    ensures buffer { λ _. ⌜ now (bytes .exit) ≡ bytesAfter (now (cells .entry)) (now (bytes .entry)) ⌝ }
+    ensures buffer { λ _. ⌜ now (bytes .exit) ≡ decodedAfter (now (cells .entry)) (now (bytes .entry)) ⌝ }
 {
     told(mfm::decode(cells, bytes), value)
 }
@@ -349,9 +349,9 @@ pub extern "C" fn thikbromu_read_out(
     good: &mut u32,
     value: &mut usize,
 ) -> u32
-    ensures number { λ r. ⌜ r ≡ numberRead (readAnswer (now (bytes .entry)) n track side index (length (now (buffer .entry)))) ⌝ }
-    ensures value { λ _. ⌜ now (value .exit) ≡ valueRead (readAnswer (now (bytes .entry)) n track side index (length (now (buffer .entry)))) ⌝ }
-    ensures good { λ _. ⌜ now (good .exit) ≡ checkRead (readAnswer (now (bytes .entry)) n track side index (length (now (buffer .entry)))) (now (good .entry)) ⌝ }
+    ensures number { λ r. ⌜ r ≡ numberRead (dataAnswer (now (bytes .entry)) n track side index (length (now (buffer .entry)))) ⌝ }
+    ensures value { λ _. ⌜ now (value .exit) ≡ valueRead (dataAnswer (now (bytes .entry)) n track side index (length (now (buffer .entry)))) ⌝ }
+    ensures good { λ _. ⌜ now (good .exit) ≡ checkRead (dataAnswer (now (bytes .entry)) n track side index (length (now (buffer .entry)))) (now (good .entry)) ⌝ }
     ensures buffer { λ _. ⌜ now (buffer .exit) ≡ dataAfter (now (bytes .entry)) n track side index (now (buffer .entry)) ⌝ }
 {
     told_read(

@@ -95,16 +95,16 @@ module _ (file : List ℕ) (flux : FluxFile file) where
       }
 
 -- the four bytes of a number below 2^32, low byte first
-abbrev pub bytesOf : ℕ → List ℕ
-bytesOf n = n % 256 ∷ n / 256 % 256 ∷ n / 256 / 256 % 256 ∷ n / 256 / 256 / 256 ∷ []
+abbrev pub fourBytesOf : ℕ → List ℕ
+fourBytesOf n = n % 256 ∷ n / 256 % 256 ∷ n / 256 / 256 % 256 ∷ n / 256 / 256 / 256 ∷ []
 
 unfoldable pub timingBytes : List ℕ → List ℕ
 timingBytes [] = []
-timingBytes (t ∷ ts) = bytesOf t ++ timingBytes ts
+timingBytes (t ∷ ts) = fourBytesOf t ++ timingBytes ts
 
 -- the file with these timings
 abbrev pub fluxFile : ℕ → ℕ → List ℕ → List ℕ
-fluxFile track side ts = 2 ∷ 0 ∷ 0 ∷ 0 ∷ track ∷ side ∷ 0 ∷ 0 ∷ 0 ∷ 0 ∷ (bytesOf (length ts) ++ timingBytes ts)
+fluxFile track side ts = 2 ∷ 0 ∷ 0 ∷ 0 ∷ track ∷ side ∷ 0 ∷ 0 ∷ 0 ∷ 0 ∷ (fourBytesOf (length ts) ++ timingBytes ts)
 
 number-of : (n : ℕ) → n % 256 + 256 * (n / 256 % 256) + 65536 * (n / 256 / 256 % 256) + 16777216 * (n / 256 / 256 / 256) ≡ n
 number-of n = omega arith

@@ -5,11 +5,11 @@ use Rattle.cells.specs.CellsAndBytes.{word, packedByte, packed}
 use Rattle.crc.specs.CheckWord.{afterBit, afterBits, afterByte, checkWordFrom}
 use Rattle.flux.specs.Rule.{reading, cellsAt, offsetAt, halved, residualAfter}
 use Rattle.flux.specs.Separation.{windowsFrom}
-use Rattle.mfm.specs.Coding.{dataBits, cellsOf, encoded}
+use Rattle.mfm.specs.Coding.{dataBits, bitCells, encoded}
 use Rattle.worked_examples.specs.WorkedExamples.{AllHold, table}
 
 pub table-holds : AllHold table
-unfolding listed word packedByte packed afterBit afterBits afterByte checkWordFrom reading cellsAt offsetAt halved residualAfter windowsFrom dataBits cellsOf encoded
+unfolding listed word packedByte packed afterBit afterBits afterByte checkWordFrom reading cellsAt offsetAt halved residualAfter windowsFrom dataBits bitCells encoded
 table-holds = (
   (refl, refl, refl),
   (

@@ -6,7 +6,7 @@ use borrow.Author.Needs.{needs}
 use denote.Ref.{now}
 use lib.ListN.{length, replicate, length-replicate}
 use Rattle.findings.specs.Findings.{findingsOf}
-use Rattle.listing.specs.Inner.{Wrote}
+use Rattle.listing.specs.PrivateContracts.{Wrote}
 use Rattle.listing.specs.Listing.{headerOf}
 use Rattle.listing.proofs.Track.{few-sectors, few-cells, few-lines, count-given, lines-given, wrote-header, wrote-track}
 use Rattle.listing.proofs.Writing.{answer-few}

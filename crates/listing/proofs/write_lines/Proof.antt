@@ -6,7 +6,7 @@ use denote.Ref.{now}
 use lib.ListN.{length}
 use Rattle.basis.proofs.Joined.{joined-none}
 use Rattle.basis.specs.Lists.{joined}
-use Rattle.listing.specs.Inner.{Wrote, lineAt}
+use Rattle.listing.specs.PrivateContracts.{Wrote, lineAt}
 use Rattle.listing.proofs.Lines.{lines-turn}
 use Rattle.listing.proofs.Writing.{none}
 use Rattle.listing.proofs.write_lines.Statement.{statement}

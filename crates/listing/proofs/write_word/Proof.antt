@@ -6,7 +6,7 @@ use native.Mathlib.Omega.{arith}
 use borrow.Author.Needs.{needs}
 use lib.ListN.{length, getD, drop, drop-of-length-le}
 use lib.Seq.{sets}
-use Rattle.listing.specs.Inner.{Wrote}
+use Rattle.listing.specs.PrivateContracts.{Wrote}
 use Rattle.listing.proofs.Writing.{word-turn}
 use Rattle.listing.proofs.write_word.Statement.{statement}
 use Rattle.listing.proofs.write_word.Tie as tie

@@ -57,7 +57,7 @@ use denote.Triple.Walked.{says, Stays, stay-slice, stay-none-slice, stay-none, w
 use denote.Exit.{yes}
 use Rattle.findings.specs.Calls.{findingsAnswer, numbersOf, written}
 use Rattle.findings.specs.Findings.{findingsOf}
-use Rattle.findings.specs.Inner.{findingAt}
+use Rattle.findings.specs.PrivateContracts.{findingAt}
 use Rattle.findings.specs.declared.Finding.{Finding}
 use Rattle.findings.specs.declared.Planned.{Planned}
 use Rattle.findings.proofs.Finding as T

@@ -1,7 +1,7 @@
 -- `findings::rules::data_rule` meets its contract. Assumes nothing.
 use mathlib.Core.Path.{_∙_}
 use native.Mathlib.Omega.{arith}
-use Rattle.findings.specs.Inner.{dataRules}
+use Rattle.findings.specs.PrivateContracts.{dataRules}
 use Rattle.findings.proofs.Rows.{no-row}
 use mathlib.Core.Bool.{Bool·not-not}
 use borrow.Author.Needs.{needs}

@@ -1,7 +1,7 @@
 -- `findings::rules::id_rule` meets its contract. Assumes nothing.
 use mathlib.Core.Path.{_∙_}
 use native.Mathlib.Omega.{arith}
-use Rattle.findings.specs.Inner.{idRules}
+use Rattle.findings.specs.PrivateContracts.{idRules}
 use Rattle.findings.proofs.Rows.{no-row}
 use borrow.Author.Needs.{needs}
 use Rattle.findings.proofs.rules.id_rule.Statement.{statement}

@@ -1,7 +1,7 @@
 -- `findings::rules::track_rule` meets its contract. Assumes nothing.
 use mathlib.Core.Path.{_∙_}
 use native.Mathlib.Omega.{arith}
-use Rattle.findings.specs.Inner.{trackRules}
+use Rattle.findings.specs.PrivateContracts.{trackRules}
 use Rattle.findings.proofs.Rows.{no-row}
 use borrow.Author.Needs.{needs}
 use Rattle.findings.proofs.rules.track_rule.Statement.{statement}

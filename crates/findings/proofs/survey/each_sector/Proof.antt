@@ -8,7 +8,7 @@ use lib.ListN.{length}
 use Rattle.basis.specs.Lists.{joined}
 use Rattle.cells.specs.CellsAndBytes.{cell}
 use Rattle.findings.specs.Findings.{atSector, findingOf}
-use Rattle.findings.specs.Inner.{hitsOf, sectorRule, sectorsIn, Added}
+use Rattle.findings.specs.PrivateContracts.{hitsOf, sectorRule, sectorsIn, Added}
 use Rattle.findings.specs.Rules.{Hit}
 use Rattle.findings.proofs.Numbers.{joined-start, joined-next, joined-room}
 use Rattle.findings.proofs.Others.{length-kept, at-kept}

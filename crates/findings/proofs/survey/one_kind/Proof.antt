@@ -6,7 +6,7 @@ use native.Mathlib.Omega.{arith}
 use denote.Ref.{now}
 use Rattle.cells.specs.CellsAndBytes.{cell}
 use Rattle.findings.specs.Findings.{found, findingOf, ofKind}
-use Rattle.findings.specs.Inner.{hitsOf, sectorsIn}
+use Rattle.findings.specs.PrivateContracts.{hitsOf, sectorsIn}
 use Rattle.findings.specs.declared.Finding.{Finding}
 use Rattle.findings.proofs.Bounds.{gaps-few}
 use Rattle.findings.proofs.Numbers.{added-same, room-same}

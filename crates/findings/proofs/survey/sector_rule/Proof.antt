@@ -3,7 +3,7 @@ use native.Mathlib.Omega.{arith}
 use denote.Ref.{now}
 use borrow.Author.Tests.{lt-ltb, le-ltb, eq-eqb, ne-eqb}
 use Rattle.cells.specs.CellsAndBytes.{cell}
-use Rattle.findings.specs.Inner.{sectorRule}
+use Rattle.findings.specs.PrivateContracts.{sectorRule}
 use Rattle.findings.proofs.Bounds.{inside-few}
 use borrow.Author.Needs.{needs}
 use Rattle.findings.proofs.survey.sector_rule.Statement.{statement}

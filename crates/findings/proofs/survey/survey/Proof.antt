@@ -8,8 +8,8 @@ use lib.ListN.{length}
 use Rattle.basis.specs.Lists.{joined}
 use Rattle.cells.specs.CellsAndBytes.{cell}
 use Rattle.findings.specs.Findings.{found, ofKind}
-use Rattle.findings.specs.Inner.{kinds, sectorsIn, Added}
-use Rattle.findings.proofs.Few.{few-findings}
+use Rattle.findings.specs.PrivateContracts.{kinds, sectorsIn, Added}
+use Rattle.findings.proofs.MostFindings.{few-findings}
 use Rattle.findings.proofs.Numbers.{kinds-start, kinds-next, kinds-room}
 use Rattle.findings.proofs.Others.{length-kept}
 use Rattle.findings.proofs.survey.survey.Statement.{statement}

@@ -7,8 +7,8 @@ use Rattle.reader_numbers.proofs.reading.reader_of.Tie as tie
 returns : tie.Need-returns
 returns c = too-few _ (c .if1 .taken)
 
-decoded-requires : tie.Need-decoded-requires
-decoded-requires c κs = search needs
+reader-as-given-requires : tie.Need-reader-as-given-requires
+reader-as-given-requires c κs = search needs
 
 numbers-of-requires : tie.Need-numbers-of-requires
 numbers-of-requires c κs = search needs
@@ -20,17 +20,17 @@ at-front-requires : tie.Need-at-front-requires
 at-front-requires c κs = search needs
 
 returns-2 : tie.Need-returns-2
-returns-2 c = a-state _ (c .before .before .before .before .before .if1 .left) (c .before .before .before .before .decoded .ensures) (c .before .before .before .numbers-of .ensures) (c .before .at-front .ensures) (c .if2 .taken)
+returns-2 c = a-state _ (c .before .before .before .before .before .if1 .left) (c .before .before .before .before .reader-as-given .ensures) (c .before .before .before .numbers-of .ensures) (c .before .at-front .ensures) (c .if2 .taken)
 
 returns-3 : tie.Need-returns-3
-returns-3 c = no-state _ (c .before .before .before .before .before .if1 .left) (c .before .before .before .before .decoded .ensures) (c .before .before .before .numbers-of .ensures) (c .before .at-front .ensures) (c .if2 .left)
+returns-3 c = no-state _ (c .before .before .before .before .before .if1 .left) (c .before .before .before .before .reader-as-given .ensures) (c .before .before .before .numbers-of .ensures) (c .before .at-front .ensures) (c .if2 .left)
 
 pub reader-of-spec : {M : Type 1} → statement M
 reader-of-spec =
     tie.close
     (tie.spec
     returns
-    decoded-requires
+    reader-as-given-requires
     numbers-of-requires
     slice-aggregate-at-front
     at-front-requires

@@ -50,7 +50,7 @@ pub record GapsOn (f : ℕ → ℕ) (n : ℕ) (gaps : Gaps) : Type 0 where
   pub longest : gaps .longest ≡ longestRun f n
 
 -- the bounds of a record's place and length of its data
-pub record Near (s : Sector) : Type 0 where
+pub record BoundedSector (s : Sector) : Type 0 where
   pub data-place : s .«data_place» ≤ 200000
   pub data-length : s .«data_length» ≤ 1024
 
@@ -59,14 +59,14 @@ abbrev pub sectorsIn : Sectors → List Sector
 sectorsIn ss = take (ss .count) (ss .all)
 
 -- at most 64 of them
-pub record Few (ss : Sectors) : Type 0 where
+pub record AtMost64 (ss : Sectors) : Type 0 where
   pub few : ss .count ≤ 64
   pub long : length (ss .all) ≡ 64
 
 -- what the routines over a track's sectors ask: at most 64, each with its bounds, on a track of at most 131,072 cells
-pub record On (n : ℕ) (ss : Sectors) : Type 0 where
-  pub few : Few ss
-  pub near : (i : ℕ) → i < ss .count → Near (getD (ss .all) i noSector)
+pub record BoundedTrack (n : ℕ) (ss : Sectors) : Type 0 where
+  pub few : AtMost64 ss
+  pub near : (i : ℕ) → i < ss .count → BoundedSector (getD (ss .all) i noSector)
   pub short : n ≤ 131072
 
 -- how many kinds there are, and a number of findings that they never pass on a track with at most 64 sectors

@@ -11,7 +11,7 @@ use lib.Dec.{eqb, ltb, leb}
 use lib.ListN.{length, getD, length-append, length-map}
 use Rattle.basis.specs.Lists.{joined}
 use Rattle.findings.specs.Findings.{nth, found, findingOf, ofKind}
-use Rattle.findings.specs.Inner.{kinds, mostFindings}
+use Rattle.findings.specs.PrivateContracts.{kinds, mostFindings}
 use Rattle.findings.specs.Rules.{Hit, when, lgt, sht, tnf, ext}
 use Rattle.findings.proofs.Table.{sectorKinds, lastKinds, noTrackKind, noSectorKind, hitsAt, sector-row, last-row}
 use Rattle.sectors.specs.declared.Sector.{Sector}

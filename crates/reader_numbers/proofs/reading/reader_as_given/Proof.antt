@@ -1,8 +1,8 @@
--- `reader_numbers::reading::decoded` meets its contract. Assumes nothing.
-use Rattle.reader_numbers.proofs.Rows.{decoded-made}
+-- `reader_numbers::reading::reader_as_given` meets its contract. Assumes nothing.
+use Rattle.reader_numbers.proofs.Rows.{given-made}
 use borrow.Author.Needs.{needs}
-use Rattle.reader_numbers.proofs.reading.decoded.Statement.{statement}
-use Rattle.reader_numbers.proofs.reading.decoded.Tie as tie
+use Rattle.reader_numbers.proofs.reading.reader_as_given.Statement.{statement}
+use Rattle.reader_numbers.proofs.reading.reader_as_given.Tie as tie
 
 shared-slice-read-low-byte : tie.Need-shared-slice-read-low-byte
 shared-slice-read-low-byte c = search needs
@@ -80,10 +80,10 @@ reader-from-requires : tie.Need-reader-from-requires
 reader-from-requires c κs = search needs
 
 returns : tie.Need-returns
-returns c = decoded-made _ (c .before .before .before .before .before .before .before .before .before .before .before .before .before .before .before .before .before .before .before .before .before .before .before .low-byte .ensures) (c .before .before .before .before .before .before .before .before .before .before .before .before .before .before .before .before .before .before .before .before .before .low-byte2 .ensures) (c .before .before .before .before .before .before .before .before .before .before .before .before .before .before .before .before .before .before .low-byte3 .ensures) (c .before .before .before .before .before .before .before .before .before .before .before .before .before .before .before .before .low-byte4 .ensures) (c .before .before .before .before .before .before .before .before .before .before .before .before .before .before .low-byte5 .ensures) (c .before .before .before .before .before .before .before .before .before .before .before .before .before .number-from .ensures) (c .before .before .before .before .before .before .before .before .low-half .ensures) (c .before .before .before .before .before .before .before .taken-from .ensures) (c .before .before .before .before .low-half2 .ensures) (c .before .before .low-half3 .ensures) (c .reader-from .ensures)
+returns c = given-made _ (c .before .before .before .before .before .before .before .before .before .before .before .before .before .before .before .before .before .before .before .before .before .before .before .low-byte .ensures) (c .before .before .before .before .before .before .before .before .before .before .before .before .before .before .before .before .before .before .before .before .before .low-byte2 .ensures) (c .before .before .before .before .before .before .before .before .before .before .before .before .before .before .before .before .before .before .low-byte3 .ensures) (c .before .before .before .before .before .before .before .before .before .before .before .before .before .before .before .before .low-byte4 .ensures) (c .before .before .before .before .before .before .before .before .before .before .before .before .before .before .low-byte5 .ensures) (c .before .before .before .before .before .before .before .before .before .before .before .before .before .number-from .ensures) (c .before .before .before .before .before .before .before .before .low-half .ensures) (c .before .before .before .before .before .before .before .taken-from .ensures) (c .before .before .before .before .low-half2 .ensures) (c .before .before .low-half3 .ensures) (c .reader-from .ensures)
 
-pub decoded-spec : {M : Type 1} → statement M
-decoded-spec =
+pub reader-as-given-spec : {M : Type 1} → statement M
+reader-as-given-spec =
     tie.close
     (tie.spec
     shared-slice-read-low-byte
