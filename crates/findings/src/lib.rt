@@ -40,7 +40,7 @@ pub fn findings_as_numbers(bytes: &[u8], n: usize, track: u32, side: u32, list: 
     let mut numbers: [u32; NUMBERS] = [0; NUMBERS];
     let room = list.len() / 4;
     let planned = plan(&mut numbers, bytes, n, track, side, room);
-    copy(&numbers, 4 * planned.count, list);
+    basis::copy_numbers(&numbers[..4 * planned.count], list);
     planned.answer
 }
 
@@ -104,18 +104,6 @@ fn finding_at(numbers: &[u32; NUMBERS], i: usize) -> Finding
         level,
         place,
         detail,
-    }
-}
-
-// Copies the first `end` numbers to the front of the list.
-fn copy(numbers: &[u32; NUMBERS], end: usize, list: &mut [u32])
-    requires { ⌜ (end ≤ 3604) × (end ≤ length (now numbers)) × (end ≤ length (now list)) ⌝ }
-    ensures { λ _. ⌜ now (list .exit) ≡ take end (now (numbers .entry)) ++ drop end (now (list .entry)) ⌝ }
-{
-    let mut i: usize = 0;
-    while i < end {
-        list[i] = numbers[i];
-        i += 1;
     }
 }
 

@@ -1,6 +1,5 @@
 // A track file in portions, and listings. The reader of a file is held by its caller as numbers: `thikbromu_file_start`, then
 // `thikbromu_file_feed` for each portion, then `thikbromu_file_finish` or `thikbromu_file_listing`, on the same state and cell buffer.
-use crate::copy_numbers;
 use crate::one_if;
 use track_file::Read;
 ghost use mathlib.Core.Path.{_≡_};
@@ -62,7 +61,7 @@ fn told_file(read: Read, place: &mut [u32], value: &mut usize) -> u32
     match read {
         Read::Cells { track, side, count } => {
             let made = [track as u32, side as u32];
-            copy_numbers(&made, place);
+            basis::copy_numbers(&made, place);
             *value = count;
             0
         }

@@ -25,7 +25,7 @@ use sectors::ReadOut;
 use sectors::Sector;
 ghost use mathlib.Core.Path.{_≡_};
 ghost use mathlib.Core.Bool.{cond};
-ghost use Prim.Native.Nat.{_/_, _≤_, min};
+ghost use Prim.Native.Nat.{_/_};
 ghost use lib.ListN.{length, take};
 ghost use Rattle.basis.specs.Lists.{writtenOver};
 ghost use Rattle.cells.specs.CellsAndBytes.{cell, wordAt, leastPlace, cleared, withOne};
@@ -239,28 +239,9 @@ pub extern "C" fn thikbromu_histogram(timings: &[u32], counts: &mut [u32], value
 {
     let histogram = flux::histogram_of(timings);
     let made = histogram.counts;
-    copy_numbers(&made, counts);
+    basis::copy_numbers(&made, counts);
     let answer = histogram.answer;
     told_counted(answer, value)
-}
-
-// The smaller of two numbers.
-fn smaller(a: usize, b: usize) -> usize
-    ensures { λ r. ⌜ (r ≡ min a b) × (r ≤ a) × (r ≤ b) ⌝ }
-{
-    if a < b { a } else { b }
-}
-
-// Copies numbers to the front of a lent list, as many as it has room for.
-fn copy_numbers(numbers: &[u32], list: &mut [u32])
-    ensures { λ _. ⌜ now (list .exit) ≡ writtenOver (take (length (now (list .entry))) (now (numbers .entry))) (now (list .entry)) ⌝ }
-{
-    let end = smaller(list.len(), numbers.len());
-    let mut i: usize = 0;
-    while i < end {
-        list[i] = numbers[i];
-        i += 1;
-    }
 }
 
 fn told_counted(counted: Counted, value: &mut usize) -> u32
@@ -298,7 +279,7 @@ pub extern "C" fn thikbromu_sector(
     let found = sectors::sector_by_index(bytes, n, track, side, index);
     let sector = found.sector;
     let made = sector_numbers(sector);
-    copy_numbers(&made, numbers);
+    basis::copy_numbers(&made, numbers);
     let answer = found.answer;
     told_listed(answer, value)
 }
