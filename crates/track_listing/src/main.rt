@@ -5,7 +5,12 @@
 use libc::STDIN_FILENO;
 use libc::STDOUT_FILENO;
 use track_file::Reader;
-ghost use Prim.Native.Nat.{_<_};
+ghost use mathlib.Core.Path.{_≡_};
+ghost use mathlib.Core.Bool.{cond};
+ghost use Prim.Native.Nat.{_-_, _<_, _≤_};
+ghost use lib.ListN.{length};
+ghost use Rattle.track_file.specs.Portions.{cellsAfter};
+ghost use Rattle.track_listing.specs.Reading.{bytesRead, endedAfter, oneMore, failuresAfter, inputAfter, TakenRead, begun, goesOn, ReadThrough, ListedInput};
 
 // A read that fails may have been interrupted, so it is tried again, but not for ever.
 const MOST_FAILURES: u32 = 16;
@@ -19,33 +24,53 @@ struct Input {
 }
 
 // One read, of as much as there is and the portion holds.
-fn read_portion(input: Input, portion: &mut [u8], cells: &mut [u8]) -> Input {
-    let reader = input.reader;
+fn read_portion(input: Input, portion: &mut [u8], cells: &mut [u8]) -> Input
+    ensures { λ r. ⌜ TakenRead input (now (portion .exit)) (now (cells .entry)) r (now (cells .exit)) ⌝ }
+{
     let got = libc::read(STDIN_FILENO, portion);
-    if got < 0 {
-        return Input {
-            reader,
-            ended: false,
-            failures: one_more(input.failures),
-        };
-    }
-    if got == 0 {
-        return Input {
-            reader,
-            ended: true,
-            failures: 0,
-        };
-    }
+    take_read(input, got, portion, cells)
+}
+
+// What a read brings that answered `got` and left this portion.
+fn take_read(input: Input, got: isize, portion: &[u8], cells: &mut [u8]) -> Input
+    ensures input { λ r. ⌜ r ≡ inputAfter input got (now (portion .entry)) ⌝ }
+    ensures cells { λ _. ⌜ now (cells .exit) ≡ cellsAfter (input .reader) (bytesRead got (now (portion .entry))) (now (cells .entry)) ⌝ }
+{
     let count = io::count(got, portion);
-    let reader = track_file::feed(reader, &portion[..count], cells);
+    let reader = input.reader;
+    let next = track_file::feed(reader, &portion[..count], cells);
     Input {
-        reader,
-        ended: track_file::stopped(reader),
-        failures: 0,
+        reader: next,
+        ended: ended_after(got, next),
+        failures: failures_after(got, input.failures),
     }
 }
 
-fn one_more(failures: u32) -> u32 {
+// Whether there is nothing more to read: the input is at its end, or the reader needs no more of it.
+fn ended_after(got: isize, reader: Reader) -> bool
+    ensures { λ r. ⌜ r ≡ endedAfter got reader ⌝ }
+{
+    if got < 0 {
+        return false;
+    }
+    if 0 < got {
+        return track_file::stopped(reader);
+    }
+    true
+}
+
+fn failures_after(got: isize, failures: u32) -> u32
+    ensures { λ r. ⌜ r ≡ failuresAfter got failures ⌝ }
+{
+    if got < 0 {
+        return one_more(failures);
+    }
+    0
+}
+
+fn one_more(failures: u32) -> u32
+    ensures { λ r. ⌜ r ≡ oneMore failures ⌝ }
+{
     if failures < MOST_FAILURES {
         return failures + 1;
     }
@@ -55,7 +80,7 @@ fn one_more(failures: u32) -> u32 {
 // The turns that are left after a read: none where there is nothing more to read, or where reading has failed too often.
 fn turns_left(input: Input, turns: u64) -> u64
     requires { ⌜ 0 < turns ⌝ }
-    ensures { λ r. ⌜ r < turns ⌝ }
+    ensures { λ r. ⌜ r ≡ cond (goesOn input) (turns - 1) 0 ⌝ }
 {
     if input.ended {
         return 0;
@@ -67,7 +92,9 @@ fn turns_left(input: Input, turns: u64) -> u64
 }
 
 // Reads portion after portion. A proved loop has to end, and nothing says that an input does: there are more turns than any run takes.
-fn read_all(reader: Reader, portion: &mut [u8], cells: &mut [u8]) -> Input {
+fn read_all(reader: Reader, portion: &mut [u8], cells: &mut [u8]) -> Input
+    ensures { λ r. ⌜ ReadThrough (begun reader) (now (cells .entry)) r (now (cells .exit)) ⌝ }
+{
     let mut input = Input {
         reader,
         ended: false,
@@ -81,14 +108,25 @@ fn read_all(reader: Reader, portion: &mut [u8], cells: &mut [u8]) -> Input {
     input
 }
 
+// Reads the input, by way of `buffer`, and then puts its listing at the front of `buffer`; the answer is the number of its bytes. It is 0
+// where the input cannot be read to its end: there is nothing to write then.
+fn list_input(cells: &mut [u8], buffer: &mut [u8]) -> usize
+    requires { ⌜ 65536 ≤ length (now buffer) ⌝ }
+    ensures few { λ r. ⌜ r ≤ 65536 ⌝ }
+    ensures listing { λ r. ⌜ ListedInput (now (cells .entry)) r (now (buffer .exit)) ⌝ }
+{
+    let start = track_file::start(cells);
+    let input = read_all(start, buffer, cells);
+    if input.ended {
+        let reader = input.reader;
+        return listing::list_file(reader, cells, buffer);
+    }
+    0
+}
+
 fn main() {
     let mut cells = [0u8; 16384];
     let mut buffer = io::large_buffer();
-    let reader = track_file::start(&mut cells);
-    let input = read_all(reader, &mut buffer, &mut cells);
-    if input.ended {
-        let reader = input.reader;
-        let count = listing::list_file(reader, &mut cells, &mut buffer);
-        io::write_all(STDOUT_FILENO, &buffer[..count]);
-    }
+    let count = list_input(&mut cells, &mut buffer);
+    io::write_all(STDOUT_FILENO, &buffer[..count]);
 }
