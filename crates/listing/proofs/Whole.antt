@@ -32,17 +32,17 @@ module _ (before after : List ℕ) (r : ℕ) (cells : List ℕ) (read : Read) wh
 
 -- a file's listing, from its answer and its cells
 module _ (reader : Reader) (cells left before after : List ℕ) (answer : Answer Content) (r : ℕ) (file : WholeFile reader cells answer left) (told : Told (printedFile answer left) before after r) where
-  whole-listing : WholeListing reader cells r before after
+  whole-listing : WholeListing reader cells left r before after
   unfolding fileListing
   whole-listing =
       record {
         whole = λ buffer portions same-reader same-cells.
             (let w = file .whole buffer portions same-reader same-cells in
-            rw (← w .0, ← w .1) (told .0, told .1 .1));
+            rw (← w .0, ← w .1) (told .0, (refl, told .1 .1)));
       }
 
   -- all that the call promises, from the promises of the two that it makes
   pub told-file : (finished : Answer Content) (expected : List ℕ) → answer ≡ finished → left ≡ expected
-      → (r ≡ length (printedFile finished expected)) × ((r ≤ 65536) × ((left ≡ expected) × ((after ≡ outAfter (printedFile finished expected) before) × WholeListing reader cells r before after)))
+      → (r ≡ length (printedFile finished expected)) × ((r ≤ 65536) × ((left ≡ expected) × ((after ≡ outAfter (printedFile finished expected) before) × WholeListing reader cells left r before after)))
   told-file finished expected answered kept =
       rw (← answered, ← kept) (told .0, (told .1 .0, (refl, (told .1 .1, whole-listing))))

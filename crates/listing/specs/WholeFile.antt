@@ -21,7 +21,8 @@ unfoldable pub fileListing : List ℕ → List ℕ → List ℕ
 fileListing buffer file = printedFile (fileAnswerIn (length buffer) file) (fileBuffer buffer file)
 
 -- for every file and every way to cut it into portions: where `start` was called on a buffer and then `feed` on each portion in turn,
--- the listing is that of the whole file
-pub record WholeListing (reader : Reader) (cells : List ℕ) (answer : ℕ) (before after : List ℕ) : Type 0 where
+-- the listing is that of the whole file, and the cell buffer that is left too
+pub record WholeListing (reader : Reader) (cells left : List ℕ) (answer : ℕ) (before after : List ℕ) : Type 0 where
   pub whole : (buffer : List ℕ) (portions : List (List ℕ)) → reader ≡ readerThrough buffer portions → cells ≡ cellsThrough buffer portions
-      → (answer ≡ length (fileListing buffer (wholeOf portions))) × (after ≡ outAfter (fileListing buffer (wholeOf portions)) before)
+      → (answer ≡ length (fileListing buffer (wholeOf portions)))
+      × ((left ≡ fileBuffer buffer (wholeOf portions)) × (after ≡ outAfter (fileListing buffer (wholeOf portions)) before))

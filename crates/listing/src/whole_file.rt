@@ -16,7 +16,7 @@ pub fn list_file(reader: Reader, cells: &mut [u8], out: &mut [u8]) -> usize
     ensures few { λ r. ⌜ r ≤ 65536 ⌝ }
     ensures cells { λ _. ⌜ now (cells .exit) ≡ leftAfter (finishAnswer reader) (now (cells .entry)) ⌝ }
     ensures out { λ _. ⌜ now (out .exit) ≡ outAfter (printedFile (finishAnswer reader) (leftAfter (finishAnswer reader) (now (cells .entry)))) (now (out .entry)) ⌝ }
-    ensures file { λ r. ⌜ WholeListing reader (now (cells .entry)) r (now (out .entry)) (now (out .exit)) ⌝ }
+    ensures file { λ r. ⌜ WholeListing reader (now (cells .entry)) (now (cells .exit)) r (now (out .entry)) (now (out .exit)) ⌝ }
 {
     let read = track_file::finish(reader, cells);
     list_read(read, cells, out)

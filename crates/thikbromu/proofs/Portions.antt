@@ -56,7 +56,7 @@ module _ (state cells : List ℕ) {reader : Reader} (is : reader ≡ readerOf st
       (answer ≡ length (printedFile (finishAnswer x) (leftAfter (finishAnswer x) cells)))
       × ((answer ≤ 65536)
       × ((left ≡ leftAfter (finishAnswer x) cells)
-      × ((after ≡ outAfter (printedFile (finishAnswer x) (leftAfter (finishAnswer x) cells)) out) × WholeListing x cells answer out after)))
+      × ((after ≡ outAfter (printedFile (finishAnswer x) (leftAfter (finishAnswer x) cells)) out) × WholeListing x cells left answer out after)))
 
   pub file-listed : (out : List ℕ) {left after : List ℕ} {answer : ℕ} → Listed out left after answer reader → Listed out left after answer (readerOf state)
   file-listed out {left} {after} {answer} l = subst (Listed out left after answer) is l

@@ -80,7 +80,7 @@ pub extern "C" fn thikbromu_file_listing(state: &[u64], cells: &mut [u8], out: &
     ensures few { λ r. ⌜ r ≤ 65536 ⌝ }
     ensures cells { λ _. ⌜ now (cells .exit) ≡ leftAfter (finishAnswer (readerOf (now (state .entry)))) (now (cells .entry)) ⌝ }
     ensures out { λ _. ⌜ now (out .exit) ≡ outAfter (printedFile (finishAnswer (readerOf (now (state .entry)))) (leftAfter (finishAnswer (readerOf (now (state .entry)))) (now (cells .entry)))) (now (out .entry)) ⌝ }
-    ensures file { λ r. ⌜ WholeListing (readerOf (now (state .entry))) (now (cells .entry)) r (now (out .entry)) (now (out .exit)) ⌝ }
+    ensures file { λ r. ⌜ WholeListing (readerOf (now (state .entry))) (now (cells .entry)) (now (cells .exit)) r (now (out .entry)) (now (out .exit)) ⌝ }
 {
     let reader = reader_numbers::reader_of(state);
     listing::list_file(reader, cells, out)

@@ -193,10 +193,10 @@ module _ (buffer : List ℕ) {reader : Reader} {cleared : List ℕ} (started : (
       let none : written buffer (through .reads) ≡ [] = rw (← from-start, e) in
       record { reads = through .reads; all = all-from-start; answer-is = rw none; front-is = rw none }
 
-  pub ended : (out after : List ℕ) (answer : ℕ) → input .ended ≡ true → WholeListing (input .reader) cells answer out after → answer ≤ length out
+  pub ended : (left out after : List ℕ) (answer : ℕ) → input .ended ≡ true → WholeListing (input .reader) cells left answer out after → answer ≤ length out
       → ListedInput buffer answer after
   unfolding written
-  ended out after answer e listing room =
+  ended left out after answer e listing room =
       let portions = portionsOf (through .reads) in
       let r = ap (λ (x : Input). x .reader) from-start ∙ reader-through (begun (startOf (length buffer))) (through .reads) in
       let c = through .cells-are ∙ ap (λ (x : Reader). cellsAfterAll x portions cleared) (started .0)
@@ -208,7 +208,7 @@ module _ (buffer : List ℕ) {reader : Reader} {cleared : List ℕ} (started : (
         all = all-from-start;
         answer-is = whole .0 ∙ ap length (sym made);
         front-is =
-            ap (λ (x : List ℕ). take answer x) (whole .1)
+            ap (λ (x : List ℕ). take answer x) (whole .1 .1)
             ∙ ap (λ (n : ℕ). take n (outAfter (fileListing buffer (wholeOf portions)) out)) (whole .0)
             ∙ front-in-room (fileListing buffer (wholeOf portions)) out (subst (λ (n : ℕ). n ≤ length out) (whole .0) room)
             ∙ sym made;

@@ -26,7 +26,7 @@ returns c =
     let tested = list .before .before .before in
     let read = tested .before .before .before .before .before in
     let started = read .before .before .before .before .before in
-    (list .list-file .ensures .1 .0, ended _ (started .start .ensures) (read .read-all .ensures) _ _ _ (tested .if1 .taken) (list .list-file .ensures .1 .1 .1 .1) (omega (arith, list .list-file .ensures .1 .0, read .read-all .kept .1 .0, started .before .before .before .before .pre)))
+    (list .list-file .ensures .1 .0, ended _ (started .start .ensures) (read .read-all .ensures) _ _ _ _ (tested .if1 .taken) (list .list-file .ensures .1 .1 .1 .1) (omega (arith, list .list-file .ensures .1 .0, read .read-all .kept .1 .0, started .before .before .before .before .pre)))
 
 same-length-3 : tie.Need-same-length-3
 same-length-3 c = search needs
