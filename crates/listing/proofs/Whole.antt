@@ -5,7 +5,7 @@ use mathlib.Core.List.{List}
 use native.Mathlib.Omega.{arith}
 use lib.ListN.{length}
 use Rattle.listing.specs.Listing.{listingOf, refusedLine, outAfter}
-use Rattle.listing.specs.WholeFile.{printedFile, fileListing, WholeListing}
+use Rattle.listing.specs.ListingOfFile.{printedFile, fileListing, WholeListing}
 use Rattle.listing.proofs.Lengths.{refused-few}
 use Rattle.refusals.specs.RefusedCalls.{Answer, numberOf}
 use Rattle.refusals.specs.declared.Refusal.{Refusal}

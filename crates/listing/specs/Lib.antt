@@ -1,3 +1,3 @@
 pub mod Listing
-pub mod WholeFile
+pub mod ListingOfFile
 pub mod PrivateContracts

@@ -5,7 +5,7 @@ use Prim.Native.Nat.{ℕ, _≤_}
 use mathlib.Core.Path.{_≡_, _∙_, ap}
 use mathlib.Core.List.{List}
 use lib.ListN.{length}
-use Rattle.listing.specs.WholeFile.{printedFile, fileListing}
+use Rattle.listing.specs.ListingOfFile.{printedFile, fileListing}
 use Rattle.reader_numbers.specs.Numbers.{readerOf}
 use Rattle.reader_numbers.specs.Portions.{AllBytes, stateThrough, bufferThrough}
 use Rattle.reader_numbers.proofs.Laws.{whole-file}

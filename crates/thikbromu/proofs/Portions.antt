@@ -5,7 +5,7 @@ use mathlib.Core.Bool.{Bool, cond}
 use mathlib.Core.List.{List}
 use lib.ListN.{length}
 use Rattle.listing.specs.Listing.{outAfter}
-use Rattle.listing.specs.WholeFile.{printedFile, WholeListing}
+use Rattle.listing.specs.ListingOfFile.{printedFile, WholeListing}
 use Rattle.reader_numbers.specs.Numbers.{readerOf, stateAfter}
 use Rattle.refusals.specs.RefusedCalls.{Answer}
 use Rattle.track_file.specs.TrackFile.{Content}

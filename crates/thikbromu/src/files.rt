@@ -7,7 +7,7 @@ ghost use mathlib.Core.Bool.{cond};
 ghost use Prim.Native.Nat.{_≤_};
 ghost use lib.ListN.{length};
 ghost use Rattle.listing.specs.Listing.{listingOf, outAfter};
-ghost use Rattle.listing.specs.WholeFile.{printedFile, WholeListing};
+ghost use Rattle.listing.specs.ListingOfFile.{printedFile, WholeListing};
 ghost use Rattle.reader_numbers.specs.Numbers.{readerOf, stateAfter};
 ghost use Rattle.track_file.specs.Portions.{startOf, startCells, readerAfter, cellsAfter, isStopped, readAnswer, finishAnswer, leftAfter, WholeFile};
 ghost use Rattle.thikbromu.specs.Files.{numberGiven, valueGiven, placeGiven};

@@ -12,7 +12,7 @@ use lib.ListN.{length, take, length-append}
 use lib.Signed.{ltZ}
 use Rattle.io.specs.Counts.{clamped}
 use Rattle.listing.specs.Listing.{outAfter}
-use Rattle.listing.specs.WholeFile.{fileListing, WholeListing}
+use Rattle.listing.specs.ListingOfFile.{fileListing, WholeListing}
 use Rattle.listing.proofs.Laws.{front-in-room}
 use Rattle.track_file.specs.Portions.{startOf, startCells, readerAfter, cellsAfter, readerAfterAll, cellsAfterAll, wholeOf, isStopped}
 use Rattle.track_file.specs.declared.Reader.{Reader}

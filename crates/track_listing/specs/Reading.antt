@@ -8,7 +8,7 @@ use mathlib.Core.List.{List, [], _∷_}
 use lib.Dec.{ltb}
 use lib.IntN.{ℤ, pos, negsuc}
 use lib.ListN.{length, take}
-use Rattle.listing.specs.WholeFile.{fileListing}
+use Rattle.listing.specs.ListingOfFile.{fileListing}
 use Rattle.track_file.specs.Portions.{startOf, readerAfter, cellsAfter, cellsAfterAll, wholeOf, isStopped}
 use Rattle.track_file.specs.declared.Reader.{Reader}
 use Rattle.track_listing.specs.declared.Input.{Input}
