@@ -1,28 +1,63 @@
-//! The library's exports, as include/thikbromu.h declares them, behind safe functions. All unsafe code of the crate is here. Nothing
-//! compares the types of these declarations with those of crates/thikbromu/src/lib.rt: keep them alike.
+//! The library's exports as they are, on numbers and slices, for callers who lend their own memory. Nothing is allocated: what a call
+//! gives goes to the front of what is lent, and what stands behind it keeps its contents. The other types and functions of this crate go
+//! over these.
 //!
-//! The boundary asks three things of a caller, which safe Rust gives:
+//! A track is `cells` cells at the front of `packed`, eight to a byte, highest bit first; `track` and `side` are the drive's. Cells past the
+//! bytes are zeros, and so is every cell of a track of none.
+//!
+//! A call that 01 refuses writes nothing, but that a record or a count table beside a refusal is all zeros, and that a refused file leaves
+//! zeros for its cells.
+//!
+//! ```
+//! use thikbromu::boundary::{finding_records, FindingRecord};
+//! use thikbromu::Refusal;
+//!
+//! let packed = [0xAA; 12_500];
+//! let mut list = [FindingRecord::default(); 1];
+//! // Two findings at track 5, one at track 80.
+//! assert_eq!(finding_records(&packed, 100_000, 5, 0, &mut list), Err(Refusal::ListTooShort(2)));
+//! assert_eq!(finding_records(&packed, 100_000, 80, 0, &mut list), Ok(1));
+//! assert_eq!(list, [FindingRecord { kind: 3, level: 3, place: 0, detail: 0 }]);
+//! ```
+//!
+//! # Safety
+//!
+//! All unsafe code of the crate is here. Nothing compares the types of these declarations with those of crates/thikbromu/src: keep them
+//! alike. The library asks three things of a caller, which safe Rust gives:
 //! - each address is valid for its length. A slice's is; that of an empty slice may dangle, but it is not null and is aligned, which is
 //!   all that a length of 0 asks;
 //! - what is lent to be written overlaps nothing else that is passed. A `&mut` is the only way to its memory while it lives;
 //! - a bool is 0 or 1. Rust's is.
 //!
-//! The library asks nothing of the values, keeps no address after a call and does not unwind.
+//! It asks nothing of the values, keeps no address after a call and does not unwind.
 
 use crate::refusal::Refusal;
+
+/// The numbers of a sector's record.
+pub const SECTOR_NUMBERS: usize = 11;
+
+/// The numbers of a finding.
+pub const FINDING_NUMBERS: usize = 4;
+
+/// The numbers that hold any state of a track file.
+pub const FILE_NUMBERS: usize = 13;
+
+/// The numbers of a place: the track and the side.
+pub const PLACE_NUMBERS: usize = 2;
 
 /// A finding as the library lays it out for C.
 #[repr(C)]
 #[derive(Clone, Copy, Debug, Default, PartialEq, Eq)]
 pub struct FindingRecord {
+    /// The number of its [`Kind`](crate::Kind), 1 to 21.
     pub kind: u8,
+    /// The kind's level, 1 to 3.
     pub level: u8,
+    /// Its place, in cells.
     pub place: u32,
+    /// Its detail.
     pub detail: u32,
 }
-
-/// The numbers of a sector's record.
-pub const SECTOR_NUMBERS: usize = 11;
 
 extern "C" {
     fn thikbromu_cell(bytes: *const u8, length: usize, n: usize, p: usize) -> u64;
@@ -79,8 +114,6 @@ extern "C" {
         good: *mut u32,
         value: *mut usize,
     ) -> u32;
-    // Its numbers are what the records hold, so the wrapper has no use for it but in a test.
-    #[cfg(test)]
     fn thikbromu_findings(
         bytes: *const u8,
         length: usize,
@@ -101,308 +134,365 @@ extern "C" {
         room: usize,
         value: *mut usize,
     ) -> u32;
+    fn thikbromu_file_start(state: *mut u64, numbers: usize, cells: *mut u8, room: usize);
+    fn thikbromu_file_feed(
+        state: *mut u64,
+        numbers: usize,
+        portion: *const u8,
+        length: usize,
+        cells: *mut u8,
+        room: usize,
+    ) -> u32;
+    fn thikbromu_file_finish(
+        state: *const u64,
+        numbers: usize,
+        cells: *mut u8,
+        room: usize,
+        place: *mut u32,
+        places: usize,
+        value: *mut usize,
+    ) -> u32;
+    fn thikbromu_file_listing(
+        state: *const u64,
+        numbers: usize,
+        cells: *mut u8,
+        room: usize,
+        out: *mut u8,
+        out_room: usize,
+    ) -> usize;
+    fn thikbromu_listing(
+        bytes: *const u8,
+        length: usize,
+        n: usize,
+        track: u32,
+        side: u32,
+        out: *mut u8,
+        out_room: usize,
+    ) -> usize;
 }
 
-/// An answer in 01's terms: what an accepted call gives, or the refusal.
-fn answer(number: u32, value: usize) -> Result<usize, Refusal> {
-    match number {
+/// What a call answers that returns a refusal's number, or 0, and stores a value.
+#[inline]
+fn answer(call: impl FnOnce(&mut usize) -> u32) -> Result<usize, Refusal> {
+    // Every call stores its value; one that did not would give itself away by this.
+    let mut value = usize::MAX;
+    match call(&mut value) {
         0 => Ok(value),
-        _ => Err(Refusal::try_from((number, value)).expect("the library gives the numbers of 01's table alone")),
+        number => Err(refusal_of(number, value)),
     }
 }
 
-pub fn cell(bytes: &[u8], n: usize, p: usize) -> u64 {
-    // SAFETY: the address and the length are those of one slice, which is only read.
-    unsafe { thikbromu_cell(bytes.as_ptr(), bytes.len(), n, p) }
+#[cold]
+fn refusal_of(number: u32, value: usize) -> Refusal {
+    Refusal::try_from((number, value)).expect("the library gives the rows of 01's table alone")
 }
 
-pub fn word(bytes: &[u8], n: usize, p: usize, k: usize) -> u64 {
+/// Cell `place`, counted on past the index: 0 or 1.
+#[inline]
+pub fn cell(packed: &[u8], cells: usize, place: usize) -> u64 {
     // SAFETY: the address and the length are those of one slice, which is only read.
-    unsafe { thikbromu_word(bytes.as_ptr(), bytes.len(), n, p, k) }
+    unsafe { thikbromu_cell(packed.as_ptr(), packed.len(), cells, place) }
 }
 
-pub fn find_word(bytes: &[u8], n: usize, x: u64, k: usize, from: usize, to: usize) -> usize {
+/// The word of `length` cells from `place`, the first of them its highest bit; a length above 64 counts as 64.
+#[inline]
+pub fn word(packed: &[u8], cells: usize, place: usize, length: usize) -> u64 {
     // SAFETY: the address and the length are those of one slice, which is only read.
-    unsafe { thikbromu_find_word(bytes.as_ptr(), bytes.len(), n, x, k, from, to) }
+    unsafe { thikbromu_word(packed.as_ptr(), packed.len(), cells, place, length) }
 }
 
-pub fn clear(bytes: &mut [u8], k: usize) {
+/// The least place from `from` and before `to`, counted on past the index, at which the word of `length` cells stands. Where there is
+/// none, the greater of the two.
+#[inline]
+pub fn find_word(packed: &[u8], cells: usize, word: u64, length: usize, from: usize, to: usize) -> usize {
+    // SAFETY: the address and the length are those of one slice, which is only read.
+    unsafe { thikbromu_find_word(packed.as_ptr(), packed.len(), cells, word, length, from, to) }
+}
+
+/// Sets the first `count` bytes, or all where there are fewer, to 0.
+#[inline]
+pub fn clear(packed: &mut [u8], count: usize) {
     // SAFETY: the address and the length are those of one slice, lent to this function alone.
-    unsafe { thikbromu_clear(bytes.as_mut_ptr(), bytes.len(), k) }
+    unsafe { thikbromu_clear(packed.as_mut_ptr(), packed.len(), count) }
 }
 
-pub fn put_one(bytes: &mut [u8], p: usize) {
+/// Puts a one at cell `place`, where the bytes have such a cell.
+#[inline]
+pub fn put_one(packed: &mut [u8], place: usize) {
     // SAFETY: the address and the length are those of one slice, lent to this function alone.
-    unsafe { thikbromu_put_one(bytes.as_mut_ptr(), bytes.len(), p) }
+    unsafe { thikbromu_put_one(packed.as_mut_ptr(), packed.len(), place) }
 }
 
+/// The check word of bytes: polynomial 1021 (hexadecimal), start FFFF, highest bit first.
+///
+/// ```
+/// assert_eq!(thikbromu::check_word(&[0xA1, 0xA1, 0xA1]), 0xCDB4);
+/// ```
+#[inline]
 pub fn check_word(bytes: &[u8]) -> u16 {
     // SAFETY: the address and the length are those of one slice, which is only read.
     unsafe { thikbromu_check_word(bytes.as_ptr(), bytes.len()) }
 }
 
+/// The check word after bytes, from the word that the bytes before them left.
+#[inline]
 pub fn check_word_from(word: u16, bytes: &[u8]) -> u16 {
     // SAFETY: the address and the length are those of one slice, which is only read.
     unsafe { thikbromu_check_word_from(word, bytes.as_ptr(), bytes.len()) }
 }
 
+/// Codes bytes after the data bit `before`: two bytes of cells for each, at the front of `cells`. Gives the bytes of cells written; those
+/// behind keep their contents.
+///
+/// Refuses [`TooManyBytes`](Refusal::TooManyBytes), [`NoRoomForBytes`](Refusal::NoRoomForBytes).
+#[inline]
 pub fn encode(bytes: &[u8], before: bool, cells: &mut [u8]) -> Result<usize, Refusal> {
-    let mut value = 0;
-    // SAFETY: each address and length are those of one slice; `cells` and `value` are lent to this call alone, so that they overlap
-    // nothing.
-    let number =
-        unsafe { thikbromu_encode(bytes.as_ptr(), bytes.len(), before, cells.as_mut_ptr(), cells.len(), &mut value) };
-    answer(number, value)
+    // SAFETY: each address and length are those of one slice; `cells` and `value` are lent to this call alone.
+    answer(|value| unsafe {
+        thikbromu_encode(bytes.as_ptr(), bytes.len(), before, cells.as_mut_ptr(), cells.len(), value)
+    })
 }
 
+/// Decodes the data cells: one byte for each two bytes of cells, an odd last byte not read. Gives the bytes written at the front of
+/// `bytes`.
+///
+/// Refuses [`TooManyBytes`](Refusal::TooManyBytes), [`NoRoomForBytes`](Refusal::NoRoomForBytes).
+#[inline]
 pub fn decode(cells: &[u8], bytes: &mut [u8]) -> Result<usize, Refusal> {
-    let mut value = 0;
-    // SAFETY: each address and length are those of one slice; `bytes` and `value` are lent to this call alone, so that they overlap
-    // nothing.
-    let number = unsafe { thikbromu_decode(cells.as_ptr(), cells.len(), bytes.as_mut_ptr(), bytes.len(), &mut value) };
-    answer(number, value)
+    // SAFETY: each address and length are those of one slice; `bytes` and `value` are lent to this call alone.
+    answer(|value| unsafe { thikbromu_decode(cells.as_ptr(), cells.len(), bytes.as_mut_ptr(), bytes.len(), value) })
 }
 
+/// A step of the separator by one timing: gives the number of cells, n - 1 zeros and a one, or none where n is 0. A residual outside -500
+/// to 499 is stepped as if it were 0.
+///
+/// Refuses [`TimingOutOfRange`](Refusal::TimingOutOfRange), with index 0.
+#[inline]
 pub fn step(residual: i32, timing: u32) -> Result<usize, Refusal> {
-    let mut value = 0;
-    // SAFETY: `value` is a number of this function, lent to this call alone.
-    let number = unsafe { thikbromu_step(residual, timing, &mut value) };
-    answer(number, value)
+    // SAFETY: `value` is lent to this call alone.
+    answer(|value| unsafe { thikbromu_step(residual, timing, value) })
 }
 
+/// The residual after that step; beside a refusal, the one that came.
+#[inline]
 pub fn residual_after(residual: i32, timing: u32) -> i32 {
     // SAFETY: no address is passed.
     unsafe { thikbromu_residual_after(residual, timing) }
 }
 
+/// As [`step`], by way of a state that is lent within the library. It answers alike.
+#[inline]
 pub fn step_lent(residual: i32, timing: u32) -> Result<usize, Refusal> {
-    let mut value = 0;
-    // SAFETY: `value` is a number of this function, lent to this call alone.
-    let number = unsafe { thikbromu_step_lent(residual, timing, &mut value) };
-    answer(number, value)
+    // SAFETY: `value` is lent to this call alone.
+    answer(|value| unsafe { thikbromu_step_lent(residual, timing, value) })
 }
 
+/// As [`residual_after`], by way of a state that is lent within the library. It answers alike.
+#[inline]
 pub fn residual_after_lent(residual: i32, timing: u32) -> i32 {
     // SAFETY: no address is passed.
     unsafe { thikbromu_residual_after_lent(residual, timing) }
 }
 
+/// The separator on a list of timings, its residual at first 0. Gives the number of cells, packed at the front of `cells`; unused bits
+/// of the last byte written are 0, and bytes after it keep their contents.
+///
+/// Refuses [`NoTimings`](Refusal::NoTimings), [`TooManyTimings`](Refusal::TooManyTimings),
+/// [`TimingOutOfRange`](Refusal::TimingOutOfRange), [`TooManyCells`](Refusal::TooManyCells),
+/// [`NoRoomForCells`](Refusal::NoRoomForCells).
+#[inline]
 pub fn separate(timings: &[u32], cells: &mut [u8]) -> Result<usize, Refusal> {
-    let mut value = 0;
-    // SAFETY: each address and length are those of one slice; `cells` and `value` are lent to this call alone, so that they overlap
-    // nothing.
-    let number =
-        unsafe { thikbromu_separate(timings.as_ptr(), timings.len(), cells.as_mut_ptr(), cells.len(), &mut value) };
-    answer(number, value)
+    // SAFETY: each address and length are those of one slice; `cells` and `value` are lent to this call alone.
+    answer(|value| unsafe {
+        thikbromu_separate(timings.as_ptr(), timings.len(), cells.as_mut_ptr(), cells.len(), value)
+    })
 }
 
+/// The histogram: 256 counts to the front of `counts`, or as many as it has room for. Count i is of timings 100i to 100i+99, count 255 of
+/// all from 25,500 up. Gives the number of timings.
+///
+/// Refuses [`NoTimings`](Refusal::NoTimings), [`TooManyTimings`](Refusal::TooManyTimings),
+/// [`TimingOutOfRange`](Refusal::TimingOutOfRange), the counts then all zeros.
+#[inline]
 pub fn histogram(timings: &[u32], counts: &mut [u32]) -> Result<usize, Refusal> {
-    let mut value = 0;
-    // SAFETY: each address and length are those of one slice; `counts` and `value` are lent to this call alone, so that they overlap
-    // nothing.
-    let number =
-        unsafe { thikbromu_histogram(timings.as_ptr(), timings.len(), counts.as_mut_ptr(), counts.len(), &mut value) };
-    answer(number, value)
+    // SAFETY: each address and length are those of one slice; `counts` and `value` are lent to this call alone.
+    answer(|value| unsafe {
+        thikbromu_histogram(timings.as_ptr(), timings.len(), counts.as_mut_ptr(), counts.len(), value)
+    })
 }
 
-/// A sector's record and the number of sectors.
+/// The sector of an index, from 0, in the order of their places: its record at the front of `numbers`, or as much of it as there is room
+/// for. They are the eleven fields of [`Sector`](crate::Sector), in their order, yes as 1 and no as 0. Gives the number of sectors.
+///
+/// Refuses [`TrackOrSide`](Refusal::TrackOrSide), [`CellCount`](Refusal::CellCount), [`TooFewBytes`](Refusal::TooFewBytes),
+/// [`TooManySectors`](Refusal::TooManySectors), [`NoSuchSector`](Refusal::NoSuchSector), the record then all zeros.
+#[inline]
 pub fn sector(
-    bytes: &[u8],
-    n: usize,
+    packed: &[u8],
+    cells: usize,
     track: u32,
     side: u32,
     index: usize,
-) -> Result<([u32; SECTOR_NUMBERS], usize), Refusal> {
-    let mut numbers = [0; SECTOR_NUMBERS];
-    let mut value = 0;
-    // SAFETY: each address and length are those of one slice or array; `numbers` and `value` are this function's and overlap nothing.
-    let number = unsafe {
+    numbers: &mut [u32],
+) -> Result<usize, Refusal> {
+    // SAFETY: each address and length are those of one slice; `numbers` and `value` are lent to this call alone.
+    answer(|value| unsafe {
         thikbromu_sector(
-            bytes.as_ptr(),
-            bytes.len(),
-            n,
+            packed.as_ptr(),
+            packed.len(),
+            cells,
             track,
             side,
             index,
             numbers.as_mut_ptr(),
             numbers.len(),
-            &mut value,
+            value,
         )
-    };
-    answer(number, value).map(|sectors| (numbers, sectors))
+    })
 }
 
-/// The number of bytes read out, and whether their check is good.
+/// Reads out the sector of an index to the front of `buffer`. Gives the number of bytes, and stores in `good` 1 where their check is good,
+/// else 0. A bad check does not refuse the call.
+///
+/// Refuses [`TrackOrSide`](Refusal::TrackOrSide), [`CellCount`](Refusal::CellCount), [`TooFewBytes`](Refusal::TooFewBytes),
+/// [`TooManySectors`](Refusal::TooManySectors), [`NoSuchSector`](Refusal::NoSuchSector), [`NoDataRead`](Refusal::NoDataRead),
+/// [`NoRoomForBytes`](Refusal::NoRoomForBytes).
+#[inline]
 pub fn read_out(
-    bytes: &[u8],
-    n: usize,
+    packed: &[u8],
+    cells: usize,
     track: u32,
     side: u32,
     index: usize,
     buffer: &mut [u8],
-) -> Result<(usize, bool), Refusal> {
-    let mut good = 0;
-    let mut value = 0;
-    // SAFETY: each address and length are those of one slice; `buffer`, `good` and `value` are lent to this call alone, so that they
-    // overlap nothing.
-    let number = unsafe {
+    good: &mut u32,
+) -> Result<usize, Refusal> {
+    // SAFETY: each address and length are those of one slice; `buffer`, `good` and `value` are lent to this call alone.
+    answer(|value| unsafe {
         thikbromu_read_out(
-            bytes.as_ptr(),
-            bytes.len(),
-            n,
+            packed.as_ptr(),
+            packed.len(),
+            cells,
             track,
             side,
             index,
             buffer.as_mut_ptr(),
             buffer.len(),
-            &mut good,
-            &mut value,
+            good,
+            value,
         )
-    };
-    answer(number, value).map(|length| (length, good == 1))
+    })
 }
 
-#[cfg(test)]
-pub fn findings(bytes: &[u8], n: usize, track: u32, side: u32, list: &mut [u32]) -> Result<usize, Refusal> {
-    let mut value = 0;
-    // SAFETY: each address and length are those of one slice; `list` and `value` are lent to this call alone, so that they overlap
-    // nothing.
-    let number = unsafe {
-        thikbromu_findings(bytes.as_ptr(), bytes.len(), n, track, side, list.as_mut_ptr(), list.len(), &mut value)
-    };
-    answer(number, value)
+/// The findings, ordered by kind, then place, at the front of the list: four numbers for each, its kind, level, place and detail. Gives
+/// the number of findings.
+///
+/// Refuses [`TrackOrSide`](Refusal::TrackOrSide), [`CellCount`](Refusal::CellCount), [`TooFewBytes`](Refusal::TooFewBytes),
+/// [`TooManySectors`](Refusal::TooManySectors), [`ListTooShort`](Refusal::ListTooShort).
+#[inline]
+pub fn findings(packed: &[u8], cells: usize, track: u32, side: u32, list: &mut [u32]) -> Result<usize, Refusal> {
+    // SAFETY: each address and length are those of one slice; `list` and `value` are lent to this call alone.
+    answer(|value| unsafe {
+        thikbromu_findings(packed.as_ptr(), packed.len(), cells, track, side, list.as_mut_ptr(), list.len(), value)
+    })
 }
 
+/// As [`findings`], in records.
+#[inline]
 pub fn finding_records(
-    bytes: &[u8],
-    n: usize,
+    packed: &[u8],
+    cells: usize,
     track: u32,
     side: u32,
     list: &mut [FindingRecord],
 ) -> Result<usize, Refusal> {
-    let mut value = 0;
-    // SAFETY: each address and length are those of one slice, and a record has C's layout; `list` and `value` are lent to this call
-    // alone, so that they overlap nothing. Every content of a record is a value of its type.
-    let number = unsafe {
+    // SAFETY: each address and length are those of one slice, and a record has C's layout, all contents of which are values of its type;
+    // `list` and `value` are lent to this call alone.
+    answer(|value| unsafe {
         thikbromu_finding_records(
-            bytes.as_ptr(),
-            bytes.len(),
-            n,
+            packed.as_ptr(),
+            packed.len(),
+            cells,
             track,
             side,
             list.as_mut_ptr(),
             list.len(),
-            &mut value,
+            value,
         )
-    };
-    answer(number, value)
+    })
 }
 
-/// The exports on track files and listings.
-pub mod files {
-    use super::answer;
-    use crate::refusal::Refusal;
+/// The beginning of a track file, before any byte: clears the cells.
+///
+/// The file is taken in portions that are cut anywhere between two bytes: `file_start`, then [`file_feed`] for each portion, then
+/// [`file_finish`] or [`file_listing`]. The caller keeps the state, thirteen numbers or more, and the packed cells, 16,384 bytes or more,
+/// from call to call. A state of fewer numbers is not written, and counts, as one that no call leaves, as a file that is refused with
+/// [`NotATrackFile`](Refusal::NotATrackFile). [`TrackFile`](crate::TrackFile) keeps both itself.
+#[inline]
+pub fn file_start(state: &mut [u64], packed: &mut [u8]) {
+    // SAFETY: each address and length are those of one slice, lent to this call alone.
+    unsafe { thikbromu_file_start(state.as_mut_ptr(), state.len(), packed.as_mut_ptr(), packed.len()) }
+}
 
-    /// The numbers that hold any state of a reader.
-    pub const FILE_NUMBERS: usize = 13;
-
-    extern "C" {
-        fn thikbromu_file_start(state: *mut u64, numbers: usize, cells: *mut u8, room: usize);
-        fn thikbromu_file_feed(
-            state: *mut u64,
-            numbers: usize,
-            portion: *const u8,
-            length: usize,
-            cells: *mut u8,
-            room: usize,
-        ) -> u32;
-        fn thikbromu_file_finish(
-            state: *const u64,
-            numbers: usize,
-            cells: *mut u8,
-            room: usize,
-            place: *mut u32,
-            places: usize,
-            value: *mut usize,
-        ) -> u32;
-        fn thikbromu_file_listing(
-            state: *const u64,
-            numbers: usize,
-            cells: *mut u8,
-            room: usize,
-            out: *mut u8,
-            out_room: usize,
-        ) -> usize;
-        fn thikbromu_listing(
-            bytes: *const u8,
-            length: usize,
-            n: usize,
-            track: u32,
-            side: u32,
-            out: *mut u8,
-            out_room: usize,
-        ) -> usize;
+/// A portion more of a track file. 1 where a refusal has been given at once, so that no more of the file need be read; else 0.
+#[inline]
+pub fn file_feed(state: &mut [u64], portion: &[u8], packed: &mut [u8]) -> u32 {
+    // SAFETY: each address and length are those of one slice; `state` and `packed` are lent to this call alone.
+    unsafe {
+        thikbromu_file_feed(
+            state.as_mut_ptr(),
+            state.len(),
+            portion.as_ptr(),
+            portion.len(),
+            packed.as_mut_ptr(),
+            packed.len(),
+        )
     }
+}
 
-    pub fn file_start(state: &mut [u64; FILE_NUMBERS], cells: &mut [u8]) {
-        // SAFETY: each address and length are those of one slice or array, lent to this call alone, so that they overlap nothing.
-        unsafe { thikbromu_file_start(state.as_mut_ptr(), state.len(), cells.as_mut_ptr(), cells.len()) }
-    }
+/// The end of a track file. Gives the number of cells, which stand in `packed`, and stores the track and the side at the front of `place`,
+/// or as many of the two as there is room for. Beside a refusal `place` is kept and the cells are cleared.
+///
+/// Refuses at once [`NoRoomForCells`](Refusal::NoRoomForCells), for fewer than 16,384 bytes, which are kept;
+/// [`NotATrackFile`](Refusal::NotATrackFile) for a place count that is not 2, [`CellCount`](Refusal::CellCount) for more than 131,072 cells
+/// and [`TooManyTimings`](Refusal::TooManyTimings) for more than 65,536 timings, where the count is read. Otherwise refuses
+/// [`NotATrackFile`](Refusal::NotATrackFile), [`TimingOutOfRange`](Refusal::TimingOutOfRange), [`TooManyCells`](Refusal::TooManyCells).
+#[inline]
+pub fn file_finish(state: &[u64], packed: &mut [u8], place: &mut [u32]) -> Result<usize, Refusal> {
+    // SAFETY: each address and length are those of one slice; `packed`, `place` and `value` are lent to this call alone.
+    answer(|value| unsafe {
+        thikbromu_file_finish(
+            state.as_ptr(),
+            state.len(),
+            packed.as_mut_ptr(),
+            packed.len(),
+            place.as_mut_ptr(),
+            place.len(),
+            value,
+        )
+    })
+}
 
-    /// Whether a refusal has been given at once.
-    pub fn file_feed(state: &mut [u64; FILE_NUMBERS], portion: &[u8], cells: &mut [u8]) -> bool {
-        // SAFETY: each address and length are those of one slice or array; `state` and `cells` are lent to this call alone, so that they
-        // overlap nothing.
-        let stopped = unsafe {
-            thikbromu_file_feed(
-                state.as_mut_ptr(),
-                state.len(),
-                portion.as_ptr(),
-                portion.len(),
-                cells.as_mut_ptr(),
-                cells.len(),
-            )
-        };
-        stopped == 1
+/// The end of a track file, in place of [`file_finish`]: its listing at the front of `out`, or as much as there is room for. Gives the
+/// length of the whole, which is at most [`LONGEST_LISTING`](crate::LONGEST_LISTING). A refused file gives "refused" and a number.
+#[inline]
+pub fn file_listing(state: &[u64], packed: &mut [u8], out: &mut [u8]) -> usize {
+    // SAFETY: each address and length are those of one slice; `packed` and `out` are lent to this call alone.
+    unsafe {
+        thikbromu_file_listing(
+            state.as_ptr(),
+            state.len(),
+            packed.as_mut_ptr(),
+            packed.len(),
+            out.as_mut_ptr(),
+            out.len(),
+        )
     }
+}
 
-    /// The number of cells, and the track and the side.
-    pub fn file_finish(state: &[u64; FILE_NUMBERS], cells: &mut [u8]) -> Result<(usize, [u32; 2]), Refusal> {
-        let mut place = [0; 2];
-        let mut value = 0;
-        // SAFETY: each address and length are those of one slice or array; `cells`, `place` and `value` are lent to this call alone, so
-        // that they overlap nothing.
-        let number = unsafe {
-            thikbromu_file_finish(
-                state.as_ptr(),
-                state.len(),
-                cells.as_mut_ptr(),
-                cells.len(),
-                place.as_mut_ptr(),
-                place.len(),
-                &mut value,
-            )
-        };
-        answer(number, value).map(|count| (count, place))
-    }
-
-    pub fn file_listing(state: &[u64; FILE_NUMBERS], cells: &mut [u8], out: &mut [u8]) -> usize {
-        // SAFETY: each address and length are those of one slice or array; `cells` and `out` are lent to this call alone, so that they
-        // overlap nothing.
-        unsafe {
-            thikbromu_file_listing(
-                state.as_ptr(),
-                state.len(),
-                cells.as_mut_ptr(),
-                cells.len(),
-                out.as_mut_ptr(),
-                out.len(),
-            )
-        }
-    }
-
-    pub fn listing(bytes: &[u8], n: usize, track: u32, side: u32, out: &mut [u8]) -> usize {
-        // SAFETY: each address and length are those of one slice; `out` is lent to this call alone, so that it overlaps nothing.
-        unsafe { thikbromu_listing(bytes.as_ptr(), bytes.len(), n, track, side, out.as_mut_ptr(), out.len()) }
-    }
+/// The listing of a track, in the same way.
+#[inline]
+pub fn listing(packed: &[u8], cells: usize, track: u32, side: u32, out: &mut [u8]) -> usize {
+    // SAFETY: each address and length are those of one slice; `out` is lent to this call alone.
+    unsafe { thikbromu_listing(packed.as_ptr(), packed.len(), cells, track, side, out.as_mut_ptr(), out.len()) }
 }

@@ -1,5 +1,6 @@
 //! The findings of a track.
 
+use crate::boundary::FindingRecord;
 use std::error::Error;
 use std::fmt;
 
@@ -163,6 +164,15 @@ impl Finding {
     /// The level of its kind.
     pub const fn level(&self) -> u8 {
         self.kind.level()
+    }
+}
+
+/// The finding of a record, whose level is its kind's.
+impl TryFrom<FindingRecord> for Finding {
+    type Error = NotAKind;
+
+    fn try_from(record: FindingRecord) -> Result<Finding, NotAKind> {
+        Ok(Finding { kind: Kind::try_from(record.kind)?, place: record.place, detail: record.detail })
     }
 }
 

@@ -1,6 +1,6 @@
 //! The separator and the histogram.
 
-use crate::boundary;
+use crate::boundary::{self, separate};
 use crate::refusal::Refusal;
 use crate::track::MOST_CELL_BYTES;
 
@@ -54,6 +54,7 @@ impl Separator {
     /// assert_eq!(stepped.cells, Ok(2));
     /// assert_eq!(stepped.next.residual(), 450);
     /// ```
+    #[inline]
     pub fn step(self, timing: u32) -> Stepped {
         Stepped {
             cells: boundary::step(self.residual, timing),
@@ -62,6 +63,7 @@ impl Separator {
     }
 
     /// Steps by one timing in the state's own place, and gives the number of cells. It answers as [`step`](Separator::step) does.
+    #[inline]
     pub fn step_in_place(&mut self, timing: u32) -> Result<usize, Refusal> {
         let cells = boundary::step_lent(self.residual, timing);
         self.residual = boundary::residual_after_lent(self.residual, timing);
@@ -76,16 +78,6 @@ pub struct Cells {
     pub packed: Vec<u8>,
     /// The number of cells.
     pub count: usize,
-}
-
-/// The separator on a list of timings, its residual at first 0. Gives the number of cells, packed at the front of `cells`; unused bits
-/// of the last byte written are 0, and bytes after it keep their contents.
-///
-/// Refuses [`NoTimings`](Refusal::NoTimings), [`TooManyTimings`](Refusal::TooManyTimings),
-/// [`TimingOutOfRange`](Refusal::TimingOutOfRange), [`TooManyCells`](Refusal::TooManyCells),
-/// [`NoRoomForCells`](Refusal::NoRoomForCells).
-pub fn separate(timings: &[u32], cells: &mut [u8]) -> Result<usize, Refusal> {
-    boundary::separate(timings, cells)
 }
 
 /// As [`separate`], into a vector that has room for the most cells, so that room is never too little.

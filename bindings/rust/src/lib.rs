@@ -24,7 +24,7 @@
 
 // The one module with unsafe code.
 #[allow(unsafe_code)]
-mod boundary;
+pub mod boundary;
 mod coding;
 mod finding;
 mod flux;
@@ -33,17 +33,15 @@ mod sector;
 mod track;
 mod track_file;
 
-pub use coding::{
-    check_word, check_word_from, decode, decode_to_vec, encode, encode_to_vec, MOST_BYTES_TO_CODE, MOST_BYTES_TO_DECODE,
-};
+#[doc(inline)]
+pub use boundary::{check_word, check_word_from, clear, decode, encode, put_one, separate};
+pub use coding::{decode_to_vec, encode_to_vec, MOST_BYTES_TO_CODE, MOST_BYTES_TO_DECODE};
 pub use finding::{Finding, Kind, NotAKind, MOST_FINDINGS};
 pub use flux::{
-    histogram, separate, separate_to_vec, Cells, Separator, Stepped, HISTOGRAM_COUNTS, LONGEST_TIMING, MOST_TIMINGS,
+    histogram, separate_to_vec, Cells, Separator, Stepped, HISTOGRAM_COUNTS, LONGEST_TIMING, MOST_TIMINGS,
     SHORTEST_TIMING,
 };
 pub use refusal::{NotARefusal, Refusal};
 pub use sector::{ReadOut, Sector, SectorData, Sectors, LONGEST_SECTOR};
-pub use track::{
-    clear, put_one, Track, FEWEST_CELLS, HIGHEST_SIDE, HIGHEST_TRACK, MOST_CELLS, MOST_CELL_BYTES, MOST_SECTORS,
-};
-pub use track_file::{TrackCells, TrackFile};
+pub use track::{Track, FEWEST_CELLS, HIGHEST_SIDE, HIGHEST_TRACK, MOST_CELLS, MOST_CELL_BYTES, MOST_SECTORS};
+pub use track_file::{TrackCells, TrackFile, LONGEST_LISTING};

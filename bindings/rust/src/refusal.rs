@@ -79,32 +79,37 @@ impl Refusal {
     }
 }
 
-/// A number that 01's table of refusals does not have.
+/// A number and a value that are no row of 01's table of refusals.
 #[derive(Clone, Copy, Debug, PartialEq, Eq)]
-pub struct NotARefusal(pub u32);
+pub struct NotARefusal {
+    /// The number.
+    pub number: u32,
+    /// The value.
+    pub value: usize,
+}
 
-/// The refusal of a number and a value. Where a refusal gives 0, the value is not looked at.
+/// The refusal of a number and a value. A row whose value is 0 has no other.
 impl TryFrom<(u32, usize)> for Refusal {
     type Error = NotARefusal;
 
     fn try_from((number, value): (u32, usize)) -> Result<Refusal, NotARefusal> {
-        Ok(match number {
-            1 => Refusal::TrackOrSide,
-            2 => Refusal::CellCount(value),
-            3 => Refusal::TooFewBytes(value),
-            4 => Refusal::TooManySectors(value),
-            5 => Refusal::ListTooShort(value),
-            6 => Refusal::NoTimings,
-            7 => Refusal::TooManyTimings(value),
-            8 => Refusal::TimingOutOfRange(value),
-            9 => Refusal::TooManyCells(value),
-            10 => Refusal::NoRoomForCells(value),
-            11 => Refusal::NoSuchSector(value),
-            12 => Refusal::NoDataRead,
-            13 => Refusal::NoRoomForBytes(value),
-            14 => Refusal::TooManyBytes(value),
-            15 => Refusal::NotATrackFile,
-            _ => return Err(NotARefusal(number)),
+        Ok(match (number, value) {
+            (1, 0) => Refusal::TrackOrSide,
+            (2, _) => Refusal::CellCount(value),
+            (3, _) => Refusal::TooFewBytes(value),
+            (4, _) => Refusal::TooManySectors(value),
+            (5, _) => Refusal::ListTooShort(value),
+            (6, 0) => Refusal::NoTimings,
+            (7, _) => Refusal::TooManyTimings(value),
+            (8, _) => Refusal::TimingOutOfRange(value),
+            (9, _) => Refusal::TooManyCells(value),
+            (10, _) => Refusal::NoRoomForCells(value),
+            (11, _) => Refusal::NoSuchSector(value),
+            (12, 0) => Refusal::NoDataRead,
+            (13, _) => Refusal::NoRoomForBytes(value),
+            (14, _) => Refusal::TooManyBytes(value),
+            (15, 0) => Refusal::NotATrackFile,
+            _ => return Err(NotARefusal { number, value }),
         })
     }
 }
@@ -136,7 +141,7 @@ impl Error for Refusal {}
 
 impl fmt::Display for NotARefusal {
     fn fmt(&self, out: &mut fmt::Formatter<'_>) -> fmt::Result {
-        write!(out, "{} is not the number of a refusal", self.0)
+        write!(out, "{} with {} is not a refusal", self.number, self.value)
     }
 }
 
@@ -151,16 +156,21 @@ mod tests {
         // The rows whose column "gives also" is 0.
         let without_value = [1, 6, 12, 15];
         for number in 1..=15 {
-            let refusal = Refusal::try_from((number, 7)).unwrap();
-            assert_eq!(refusal.number(), number);
-            assert_eq!(refusal.value(), if without_value.contains(&number) { 0 } else { 7 });
+            for value in [0, 7] {
+                let refusal = Refusal::try_from((number, value));
+                if value != 0 && without_value.contains(&number) {
+                    assert_eq!(refusal, Err(NotARefusal { number, value }));
+                } else {
+                    assert_eq!(refusal.map(|refusal| (refusal.number(), refusal.value())), Ok((number, value)));
+                }
+            }
         }
     }
 
     #[test]
     fn other_numbers_are_no_refusals() {
         for number in [0, 16, u32::MAX] {
-            assert_eq!(Refusal::try_from((number, 0)), Err(NotARefusal(number)));
+            assert_eq!(Refusal::try_from((number, 0)), Err(NotARefusal { number, value: 0 }));
         }
     }
 }

@@ -1,7 +1,7 @@
 //! A track of packed cells.
 
-use crate::boundary::{self, FindingRecord};
-use crate::finding::{Finding, Kind, MOST_FINDINGS};
+use crate::boundary::{self, FindingRecord, SECTOR_NUMBERS};
+use crate::finding::{Finding, MOST_FINDINGS};
 use crate::refusal::Refusal;
 use crate::sector::{ReadOut, Sector, SectorData, Sectors, LONGEST_SECTOR};
 
@@ -82,14 +82,15 @@ impl<'a> Track<'a> {
 
     /// The sector of an index, from 0, in the order of their places. Refuses [`NoSuchSector`](Refusal::NoSuchSector).
     pub fn sector(&self, index: usize) -> Result<Sector, Refusal> {
-        let (numbers, _) = boundary::sector(self.packed, self.cells, self.track, self.side, index)?;
+        let mut numbers = [0; SECTOR_NUMBERS];
+        boundary::sector(self.packed, self.cells, self.track, self.side, index, &mut numbers)?;
         Ok(Sector::from_numbers(numbers))
     }
 
     /// The number of sectors.
     pub fn sector_count(&self) -> Result<usize, Refusal> {
-        match boundary::sector(self.packed, self.cells, self.track, self.side, 0) {
-            Ok((_, sectors)) | Err(Refusal::NoSuchSector(sectors)) => Ok(sectors),
+        match boundary::sector(self.packed, self.cells, self.track, self.side, 0, &mut []) {
+            Ok(sectors) | Err(Refusal::NoSuchSector(sectors)) => Ok(sectors),
             Err(refusal) => Err(refusal),
         }
     }
@@ -104,8 +105,9 @@ impl<'a> Track<'a> {
     /// Refuses [`NoSuchSector`](Refusal::NoSuchSector), [`NoDataRead`](Refusal::NoDataRead),
     /// [`NoRoomForBytes`](Refusal::NoRoomForBytes).
     pub fn read_out(&self, index: usize, buffer: &mut [u8]) -> Result<ReadOut, Refusal> {
-        let (length, check_good) = boundary::read_out(self.packed, self.cells, self.track, self.side, index, buffer)?;
-        Ok(ReadOut { length, check_good })
+        let mut good = 0;
+        let length = boundary::read_out(self.packed, self.cells, self.track, self.side, index, buffer, &mut good)?;
+        Ok(ReadOut { length, check_good: good == 1 })
     }
 
     /// As [`read_out`](Track::read_out), into a vector that has room for the longest sector.
@@ -121,34 +123,14 @@ impl<'a> Track<'a> {
     pub fn findings(&self) -> Result<Vec<Finding>, Refusal> {
         let mut records = vec![FindingRecord::default(); MOST_FINDINGS];
         let count = boundary::finding_records(self.packed, self.cells, self.track, self.side, &mut records)?;
-        Ok(records[..count].iter().map(finding_of).collect())
+        let findings = records[..count].iter().map(|&record| Finding::try_from(record));
+        Ok(findings.collect::<Result<_, _>>().expect("the library gives the kinds of 01's table alone"))
     }
 
     /// The listing: a header and a line for each finding, or "refused" and a number.
     pub fn listing(&self) -> String {
-        crate::track_file::listing_of(|out| {
-            boundary::files::listing(self.packed, self.cells, self.track, self.side, out)
-        })
+        crate::track_file::listing_of(|out| boundary::listing(self.packed, self.cells, self.track, self.side, out))
     }
-}
-
-/// The finding of a record that the library filled. Its level is the kind's.
-fn finding_of(record: &FindingRecord) -> Finding {
-    Finding {
-        kind: Kind::try_from(record.kind).expect("the library gives the kinds of 01's table alone"),
-        place: record.place,
-        detail: record.detail,
-    }
-}
-
-/// Sets the first `count` bytes, or all where there are fewer, to 0.
-pub fn clear(packed: &mut [u8], count: usize) {
-    boundary::clear(packed, count);
-}
-
-/// Puts a one at cell `place`, where the bytes have such a cell.
-pub fn put_one(packed: &mut [u8], place: usize) {
-    boundary::put_one(packed, place);
 }
 
 #[cfg(test)]
@@ -171,7 +153,7 @@ mod tests {
         let mut records = [FindingRecord::default(); 2];
         assert_eq!(boundary::finding_records(&ZEROS, 100_000, 80, 0, &mut records), Ok(2));
         for record in records {
-            assert_eq!(record.level, finding_of(&record).level());
+            assert_eq!(Ok(record.level), Finding::try_from(record).map(|finding| finding.level()));
         }
     }
 

@@ -1,12 +1,12 @@
 //! Track files, taken in portions, and listings.
 
-use crate::boundary::files::{self, FILE_NUMBERS};
+use crate::boundary::{self, FILE_NUMBERS, PLACE_NUMBERS};
 use crate::refusal::Refusal;
 use crate::track::{Track, MOST_CELL_BYTES};
 use std::io::{self, Read};
 
 /// The longest listing, in bytes.
-const LONGEST_LISTING: usize = 65_536;
+pub const LONGEST_LISTING: usize = 65_536;
 
 /// A track file that is being read. It is taken in portions, cut anywhere between two bytes, and gives the same however it is cut.
 ///
@@ -32,7 +32,7 @@ impl TrackFile {
     /// The beginning, before any byte.
     pub fn new() -> TrackFile {
         let mut file = TrackFile { state: [0; FILE_NUMBERS], packed: vec![0; MOST_CELL_BYTES] };
-        files::file_start(&mut file.state, &mut file.packed);
+        boundary::file_start(&mut file.state, &mut file.packed);
         file
     }
 
@@ -56,7 +56,7 @@ impl TrackFile {
 
     /// A portion more of the file. Yes where a refusal has been given at once, so that no more of the file need be read.
     pub fn feed(&mut self, portion: &[u8]) -> bool {
-        files::file_feed(&mut self.state, portion, &mut self.packed)
+        boundary::file_feed(&mut self.state, portion, &mut self.packed) == 1
     }
 
     /// The end of the file: its cells, with their track and side.
@@ -66,14 +66,16 @@ impl TrackFile {
     /// timings. Otherwise [`NotATrackFile`](Refusal::NotATrackFile), [`TimingOutOfRange`](Refusal::TimingOutOfRange),
     /// [`TooManyCells`](Refusal::TooManyCells). What else a track can be refused for is judged by the calls on it.
     pub fn finish(mut self) -> Result<TrackCells, Refusal> {
-        let (cells, [track, side]) = files::file_finish(&self.state, &mut self.packed)?;
+        let mut place = [0; PLACE_NUMBERS];
+        let cells = boundary::file_finish(&self.state, &mut self.packed, &mut place)?;
+        let [track, side] = place;
         self.packed.truncate(cells.div_ceil(8));
         Ok(TrackCells { packed: self.packed, cells, track, side })
     }
 
     /// The end of the file: its listing, a header and a line for each finding, or "refused" and a number.
     pub fn listing(mut self) -> String {
-        listing_of(|out| files::file_listing(&self.state, &mut self.packed, out))
+        listing_of(|out| boundary::file_listing(&self.state, &mut self.packed, out))
     }
 }
 
