@@ -1,7 +1,7 @@
 //! 01, "Cells and bytes": coding, decoding and the check word.
 
-use crate::library;
-use crate::report::{Group, Lent};
+use crate::report::Group;
+use crate::terms::answer;
 use second_program::random::Random;
 use second_program::{check_word, mfm};
 
@@ -19,27 +19,21 @@ fn bytes_of(random: &mut Random, length: usize) -> Vec<u8> {
 }
 
 fn code_case(group: &mut Group, bytes: &[u8], before: bool, room: usize) {
-    let input = bytes.to_vec();
-    let mut lent = Lent::new(room);
-    let ours = library::encode(&input, before, lent.part());
-    let second = mfm::code(bytes, before, room);
-    let written = second.clone().unwrap_or_default();
-    group.same(
-        (ours, lent.into_all(), input),
-        (second.map(|cells| cells.len()), Lent::expected(room, &written), bytes.to_vec()),
+    group.same_written(
+        bytes,
+        room,
+        |input, cells| thikbromu::encode(input, before, cells),
+        mfm::code(bytes, before, room).map(|cells| (cells.len(), cells)),
         || format!("{} bytes {:02X?}, before {before}, room {room}", bytes.len(), &bytes[..bytes.len().min(16)]),
     );
 }
 
 fn decode_case(group: &mut Group, cells: &[u8], room: usize) {
-    let input = cells.to_vec();
-    let mut lent = Lent::new(room);
-    let ours = library::decode(&input, lent.part());
-    let second = mfm::decode(cells, room);
-    let written = second.clone().unwrap_or_default();
-    group.same(
-        (ours, lent.into_all(), input),
-        (second.map(|bytes| bytes.len()), Lent::expected(room, &written), cells.to_vec()),
+    group.same_written(
+        cells,
+        room,
+        thikbromu::decode,
+        mfm::decode(cells, room).map(|bytes| (bytes.len(), bytes)),
         || format!("{} bytes of cells {:02X?}, room {room}", cells.len(), &cells[..cells.len().min(16)]),
     );
 }
@@ -119,8 +113,8 @@ pub fn round_trip(totals: &mut (usize, usize)) {
         for before in [false, true] {
             let mut cells = vec![0; 2 * length];
             let mut back = vec![0; length];
-            let coded = library::encode(&bytes, before, &mut cells);
-            let decoded = library::decode(&cells, &mut back);
+            let coded = answer(thikbromu::encode(&bytes, before, &mut cells));
+            let decoded = answer(thikbromu::decode(&cells, &mut back));
             group.same((coded, decoded, &back), (Ok(2 * length), Ok(length), &bytes), || {
                 format!("{length} bytes, before {before}")
             });
@@ -143,8 +137,8 @@ pub fn printed(totals: &mut (usize, usize)) {
     for (byte, bits, cells) in codings {
         for &before in bits {
             let mut coded = [0; 2];
-            let answer = library::encode(&[byte], before, &mut coded);
-            group.same((answer, coded), (Ok(2), cells), || format!("{byte:02X} after {before}"));
+            let ours = answer(thikbromu::encode(&[byte], before, &mut coded));
+            group.same((ours, coded), (Ok(2), cells), || format!("{byte:02X} after {before}"));
         }
     }
     let words: [(&[u8], u16); 3] = [
@@ -153,7 +147,7 @@ pub fn printed(totals: &mut (usize, usize)) {
         (&[0xA1, 0xA1, 0xA1, 0xFB], 0xE295),
     ];
     for (bytes, word) in words {
-        group.same(library::check_word(bytes), word, || format!("{bytes:02X?}"));
+        group.same(thikbromu::check_word(bytes), word, || format!("{bytes:02X?}"));
     }
     group.close(totals);
 }
@@ -167,7 +161,7 @@ pub fn check_words(totals: &mut (usize, usize)) {
         let start = random.next_number() as u16;
         let input = bytes.clone();
         group.same(
-            (library::check_word(&input), library::check_word_from(start, &input), &input),
+            (thikbromu::check_word(&input), thikbromu::check_word_from(start, &input), &input),
             (check_word::check_word(&bytes), check_word::check_word_from(start, &bytes), &bytes),
             || format!("{length} bytes {:02X?}, from {start:04X}", &bytes[..length.min(16)]),
         );

@@ -1,11 +1,14 @@
 //! 01, "Findings": the list of a track's findings.
 
-use crate::library::{self, FindingRecord};
-use crate::report::{Element, Group, Lent};
+use crate::report::{Element, Group};
+use crate::sectors::filled;
+use crate::terms::{self, answer};
 use second_program::cells;
 use second_program::findings::{self, Finding};
 use second_program::random::Random;
 use second_program::track_builder::{odd_track, standard_track, turn, SectorPlan, TrackBuilder};
+use thikbromu::boundary::{self, FindingRecord, FINDING_NUMBERS};
+use thikbromu::Track;
 
 /// Findings as the library's numbers, four for each.
 fn numbers(list: &[Finding]) -> Vec<u32> {
@@ -32,28 +35,22 @@ impl Element for FindingRecord {
 
 /// One call: the answer, the list and the bytes afterwards. `room` counts numbers.
 fn case(group: &mut Group, bytes: &[u8], n: usize, drive: (u32, u32), room: usize) {
-    let input = bytes.to_vec();
-    let mut lent: Lent<u32> = Lent::new(room);
-    let ours = library::findings(&input, n, drive.0, drive.1, lent.part());
-    let second = findings::findings(drive.0, drive.1, bytes, n, room / 4);
-    let written = second.as_ref().map(|list| numbers(list)).unwrap_or_default();
-    group.same(
-        ((ours, lent.into_all()), input.as_slice()),
-        ((second.map(|list| list.len()), Lent::expected(room, &written)), bytes),
+    group.same_written(
+        bytes,
+        room,
+        |input, list| boundary::findings(input, n, drive.0, drive.1, list),
+        findings::findings(drive.0, drive.1, bytes, n, room / FINDING_NUMBERS).map(|list| (list.len(), numbers(&list))),
         || format!("n {n}, T {}, H {}, room {room}", drive.0, drive.1),
     );
 }
 
 /// As `case`, on a list of records. `room` counts records.
 fn record_case(group: &mut Group, bytes: &[u8], n: usize, drive: (u32, u32), room: usize) {
-    let input = bytes.to_vec();
-    let mut lent: Lent<FindingRecord> = Lent::new(room);
-    let ours = library::finding_records(&input, n, drive.0, drive.1, lent.part());
-    let second = findings::findings(drive.0, drive.1, bytes, n, room);
-    let written = second.as_ref().map(|list| records(list)).unwrap_or_default();
-    group.same(
-        ((ours, lent.into_all()), input.as_slice()),
-        ((second.map(|list| list.len()), Lent::expected(room, &written)), bytes),
+    group.same_written(
+        bytes,
+        room,
+        |input, list| boundary::finding_records(input, n, drive.0, drive.1, list),
+        findings::findings(drive.0, drive.1, bytes, n, room).map(|list| (list.len(), records(&list))),
         || format!("n {n}, T {}, H {}, room for {room} records", drive.0, drive.1),
     );
 }
@@ -62,15 +59,16 @@ fn record_case(group: &mut Group, bytes: &[u8], n: usize, drive: (u32, u32), roo
 fn whole_track(group: &mut Group, seen: &mut [usize; 22], track_cells: &[u8], drive: (u32, u32)) {
     let bytes = cells::pack(track_cells);
     let n = track_cells.len();
-    let needed = match findings::findings(drive.0, drive.1, &bytes, n, usize::MAX) {
-        Ok(list) => {
-            for finding in &list {
-                seen[finding.kind as usize] += 1;
-            }
-            list.len()
-        }
-        Err(_) => 0,
-    };
+    let second = findings::findings(drive.0, drive.1, &bytes, n, usize::MAX);
+    let list = second.clone().unwrap_or_default();
+    for finding in &list {
+        seen[finding.kind as usize] += 1;
+    }
+    let ours = answer(Track::new(&bytes, n, drive.0, drive.1).findings());
+    group.same(ours.map(|list| list.into_iter().map(terms::finding).collect()), second, || {
+        format!("n {n}, T {}, H {}, as a vector", drive.0, drive.1)
+    });
+    let needed = list.len();
     for room in [4 * needed, (4 * needed).saturating_sub(1), 4 * needed + 7] {
         case(group, &bytes, n, drive, room);
     }
@@ -87,14 +85,7 @@ fn sectors_on(count: usize, n: usize, drive_track: u8) -> Vec<u8> {
         builder.write_sector(&SectorPlan::standard(drive_track, 0, number as u8, 0xE5));
         builder.write_repeated(0x4E, 4);
     }
-    let mut track_cells = builder.cells().to_vec();
-    let mut filling = TrackBuilder::new();
-    filling.write_repeated(0x4E, n / 16 + 1);
-    while track_cells.len() < n {
-        track_cells.push(filling.cells()[track_cells.len() % 16]);
-    }
-    track_cells.truncate(n);
-    track_cells
+    filled(&builder, n)
 }
 
 /// Each kind just inside and just outside its rule.

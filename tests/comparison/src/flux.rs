@@ -1,25 +1,32 @@
 //! 01, "The separator": the step by value and on a lent state, the call on a list, and the histogram.
 
-use crate::library;
 use crate::report::{Group, Lent};
+use crate::terms::answer;
 use second_program::cells;
 use second_program::flux_tracks::{flux_track, flux_track_of, timings_of_cells, Choice, FluxTrack};
 use second_program::random::Random;
 use second_program::refusal::Refusal;
 use second_program::separator::{self, SeparatorState};
+use thikbromu::{boundary, separate, Separator};
 
 /// The list call: answer, buffer and the timings afterwards.
 fn list_case(group: &mut Group, timings: &[u32], room: usize) {
-    let input = timings.to_vec();
-    let mut lent = Lent::new(room);
-    let ours = library::separate(&input, lent.part());
-    let second = separator::separate(timings, room);
-    let written = second.clone().map(|(_, packed)| packed).unwrap_or_default();
-    group.same(
-        (ours, lent.into_all(), input),
-        (second.map(|(count, _)| count), Lent::expected(room, &written), timings.to_vec()),
-        || format!("{} timings {:?}, room {room}", timings.len(), &timings[..timings.len().min(12)]),
-    );
+    group.same_written(timings, room, separate, separator::separate(timings, room), || {
+        format!("{} timings {:?}, room {room}", timings.len(), &timings[..timings.len().min(12)])
+    });
+}
+
+/// A step by value: what it answers, and the residual afterwards.
+fn step(residual: i32, timing: u32) -> (Result<usize, Refusal>, i32) {
+    let stepped = Separator::with_residual(residual).step(timing);
+    (answer(stepped.cells), stepped.next.residual())
+}
+
+/// A step by way of a state that is lent.
+fn step_lent(residual: i32, timing: u32) -> (Result<usize, Refusal>, i32) {
+    let mut state = Separator::with_residual(residual);
+    let ours = answer(state.step_in_place(timing));
+    (ours, state.residual())
 }
 
 /// The bytes that the cells of timings need, whatever the room is.
@@ -50,19 +57,18 @@ pub fn printed(totals: &mut (usize, usize)) {
     for (timings, counts, offsets, residuals) in rows {
         let mut residual = 0;
         for (i, &timing) in timings.iter().enumerate() {
-            let offset = offset_of(residual, timing, library::step(residual, timing).0.unwrap_or(0));
+            let offset = offset_of(residual, timing, step(residual, timing).0.unwrap_or(0));
             group.same(offset, offsets[i], || format!("{timings:?}, e of timing {i}"));
             let expected = (Ok(counts[i]), residuals[i]);
-            group.same(library::step(residual, timing), expected, || format!("{timings:?}, timing {i}"));
-            group.same(library::step_lent(residual, timing), expected, || format!("{timings:?}, timing {i}, lent"));
+            group.same(step(residual, timing), expected, || format!("{timings:?}, timing {i}"));
+            group.same(step_lent(residual, timing), expected, || format!("{timings:?}, timing {i}, lent"));
             residual = residuals[i];
         }
     }
     let mut packed = [0xFF; 2];
-    let answer = library::separate(&[5_000, 5_000], &mut packed);
-    group.same((answer, packed), (Ok(5), [0b0010_1000, 0xFF]), || "5000, 5000".to_string());
-    let answer = library::separate(&[500], &mut []);
-    group.same(answer, Ok(0), || "500, no room".to_string());
+    let ours = answer(separate(&[5_000, 5_000], &mut packed));
+    group.same((ours, packed), (Ok(5), [0b0010_1000, 0xFF]), || "5000, 5000".to_string());
+    group.same(answer(separate(&[500], &mut [])), Ok(0), || "500, no room".to_string());
     group.close(totals);
 }
 
@@ -92,9 +98,9 @@ pub fn steps(totals: &mut (usize, usize)) {
     for _ in 0..40_000 {
         let residual = any_residual(&mut random);
         let timing = any_timing(&mut random);
-        let (next, answer) = SeparatorState { residual: i64::from(residual) }.step(timing);
-        let expected = (answer.map(|step| step.cells as usize), next.residual as i32);
-        let ours = (library::step(residual, timing), library::step_lent(residual, timing));
+        let (next, second) = SeparatorState { residual: i64::from(residual) }.step(timing);
+        let expected = (second.map(|step| step.cells as usize), next.residual as i32);
+        let ours = (step(residual, timing), step_lent(residual, timing));
         group.same(ours, (expected, expected), || format!("residual {residual}, timing {timing}"));
     }
     group.close(totals);
@@ -112,7 +118,7 @@ pub fn lists(totals: &mut (usize, usize)) {
         let packed = cells::pack(&track.cells);
         let room = packed.len() + random.below(4) as usize;
         let mut lent = Lent::new(room);
-        let ours = library::separate(&track.timings, lent.part());
+        let ours = answer(separate(&track.timings, lent.part()));
         let expected = if length > 65_536 {
             (Err(Refusal::too_many_timings(length)), Lent::expected(room, &[]))
         } else if track.cells.len() > 131_072 {
@@ -136,8 +142,8 @@ pub fn lists(totals: &mut (usize, usize)) {
         let timings = timings_of_cells(&track.cells);
         let packed = cells::pack(&track.cells);
         let mut buffer = vec![0xFF; packed.len()];
-        let answer = library::separate(&timings, &mut buffer);
-        group.same((answer, &buffer), (Ok(track.cells.len()), &packed), || format!("{length} timings"));
+        let ours = answer(separate(&timings, &mut buffer));
+        group.same((ours, &buffer), (Ok(track.cells.len()), &packed), || format!("{length} timings"));
     }
     group.close(totals);
 
@@ -162,8 +168,8 @@ pub fn lists(totals: &mut (usize, usize)) {
         let mut list = Vec::new();
         let mut residual = 0;
         for &timing in &timings {
-            let (answer, next) = library::step(residual, timing);
-            let count = answer.unwrap_or(0);
+            let (ours, next) = step(residual, timing);
+            let count = ours.unwrap_or(0);
             if count > 0 {
                 list.resize(list.len() + count - 1, 0);
                 list.push(1);
@@ -172,8 +178,8 @@ pub fn lists(totals: &mut (usize, usize)) {
         }
         let packed = cells::pack(&list);
         let mut buffer = vec![0xFF; packed.len()];
-        let answer = library::separate(&timings, &mut buffer);
-        group.same((answer, &buffer), (Ok(list.len()), &packed), || format!("{timings:?}"));
+        let ours = answer(separate(&timings, &mut buffer));
+        group.same((ours, &buffer), (Ok(list.len()), &packed), || format!("{timings:?}"));
     }
     group.close(totals);
 }
@@ -183,8 +189,8 @@ fn farthest_centre(track: &FluxTrack) -> i64 {
     let mut farthest = 0;
     let mut residual = 0;
     for (i, &timing) in track.timings.iter().enumerate() {
-        let (answer, next) = library::step(residual, timing);
-        let centre = track.pulses[i + 1] - offset_of(residual, timing, answer.unwrap_or(0));
+        let (ours, next) = step(residual, timing);
+        let centre = track.pulses[i + 1] - offset_of(residual, timing, ours.unwrap_or(0));
         farthest = farthest.max((centre - track.true_places[i + 1]).abs());
         residual = next;
     }
@@ -215,10 +221,10 @@ pub fn extremes(totals: &mut (usize, usize)) {
         };
         let packed = cells::pack(&track.cells);
         let mut buffer = vec![0xFF; packed.len()];
-        let answer = library::separate(&track.timings, &mut buffer);
+        let ours = answer(separate(&track.timings, &mut buffer));
         let distance = farthest_centre(&track);
         farthest = farthest.max(distance);
-        group.same((answer, &buffer, distance <= 651), (Ok(track.cells.len()), &packed, true), || {
+        group.same((ours, &buffer, distance <= 651), (Ok(track.cells.len()), &packed, true), || {
             format!("track {i}, farthest centre {distance}")
         });
     }
@@ -284,10 +290,13 @@ pub fn histograms(totals: &mut (usize, usize)) {
             })
             .collect();
         let second = separator::histogram(&timings);
+        group.same(answer(thikbromu::histogram(&timings)), second, || {
+            format!("{length} timings {:?}", &timings[..length.min(12)])
+        });
         let counts = second.unwrap_or([0; 256]);
         for room in [256, 255, 0, 300] {
             let mut lent: Lent<u32> = Lent::new(room);
-            let ours = library::histogram(&timings, lent.part());
+            let ours = answer(boundary::histogram(&timings, lent.part()));
             let sum: usize = lent.part().iter().take(256).map(|&count| count as usize).sum();
             // The counts sum to the number of timings, where there is room for all of them.
             let sum = if room < 256 { 0 } else { sum };

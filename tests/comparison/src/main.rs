@@ -1,22 +1,27 @@
-//! Runs the library beside the second program on many inputs, long and short, and compares what each
-//! answers and all memory that a caller passed.
+//! Runs the library beside the second program on many inputs, long and short, and compares what each answers and all memory that a caller
+//! passed.
 //!
-//! An argument names the groups to run, by their module; without one all run. The last line is 'N passed, M failed'; the exit status is 1 where something failed.
+//! The library is called over its Rust crate: over `thikbromu::boundary`, which lends buffers of any length, and where the crate's other
+//! types have the call, over these as well.
+//!
+//! An argument names the groups to run, by their module; without one all run. The last line is 'N passed, M failed'; the exit status is 1
+//! where something failed.
 
 mod coding;
 mod files;
 mod findings;
 mod flux;
-mod library;
 mod program;
 mod report;
 mod sectors;
+mod terms;
 mod track_cells;
 
 type Part = fn(&mut (usize, usize));
 
 /// The groups of cases, by their module.
-const PARTS: [(&str, Part); 26] = [
+const PARTS: [(&str, Part); 27] = [
+    ("terms", terms::tables),
     ("track_cells", track_cells::reading),
     ("track_cells", track_cells::finding),
     ("track_cells", track_cells::marks),

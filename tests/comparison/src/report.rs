@@ -1,5 +1,7 @@
 //! Counting what agrees and what differs, and buffers that show a byte written outside.
 
+use crate::terms::answer;
+use second_program::refusal::Refusal;
 use std::fmt::Debug;
 
 /// The cases of one group that agreed, and those that did not.
@@ -31,6 +33,26 @@ impl Group {
         }
     }
 
+    /// One call that writes to the front of a lent buffer: what it answers, all of the buffer with its margins, and the input afterwards.
+    /// `second` is what the second program answers and writes.
+    pub fn same_written<I: Clone + PartialEq + Debug, O: Element>(
+        &mut self,
+        input: &[I],
+        room: usize,
+        call: impl FnOnce(&[I], &mut [O]) -> Result<usize, thikbromu::Refusal>,
+        second: Result<(usize, Vec<O>), Refusal>,
+        given: impl Fn() -> String,
+    ) {
+        let passed = input.to_vec();
+        let mut lent = Lent::new(room);
+        let ours = answer(call(&passed, lent.part()));
+        let (expected, written) = match second {
+            Ok((value, written)) => (Ok(value), written),
+            Err(refusal) => (Err(refusal), Vec::new()),
+        };
+        self.same((ours, lent.into_all(), &passed[..]), (expected, Lent::expected(room, &written), input), given);
+    }
+
     /// Prints the group's line and adds it to the totals.
     pub fn close(self, totals: &mut (usize, usize)) {
         println!("{}: {} cases, {} differ", self.name, self.passed + self.failed, self.failed);
@@ -48,7 +70,7 @@ fn short<T: Debug>(value: &T) -> String {
 }
 
 /// A number that a lent buffer can hold.
-pub trait Element: Copy {
+pub trait Element: Copy + PartialEq + Debug {
     fn from_pattern(pattern: u32) -> Self;
 }
 

@@ -1,12 +1,13 @@
 //! 01, "Sectors": records, the sector by index, and reading out.
 
-use crate::library;
 use crate::report::{Group, Lent};
+use crate::terms::{self, answer};
 use second_program::cells;
 use second_program::random::Random;
 use second_program::refusal::Refusal;
 use second_program::sectors::{self, SectorRecord};
 use second_program::track_builder::{odd_track, standard_track, turn, SectorPlan, TrackBuilder};
+use thikbromu::boundary::{self, SECTOR_NUMBERS};
 
 /// A packed track: its bytes and its number of cells.
 struct Track {
@@ -19,7 +20,7 @@ fn packed(track_cells: &[u8]) -> Track {
 }
 
 /// A record as the library's numbers.
-fn numbers(record: &SectorRecord) -> [u32; 11] {
+fn numbers(record: &SectorRecord) -> [u32; SECTOR_NUMBERS] {
     [
         record.place as u32,
         u32::from(record.mark),
@@ -35,8 +36,8 @@ fn numbers(record: &SectorRecord) -> [u32; 11] {
     ]
 }
 
-/// Sector by index: the answer, the record (all zeros beside a refusal) and the bytes afterwards. `second` is what the second
-/// program answers.
+/// Sector by index: the answer, the record's numbers (all zeros beside a refusal) and the bytes afterwards; and the crate's record.
+/// `second` is what the second program answers.
 fn index_answer(
     group: &mut Group,
     track: &Track,
@@ -44,15 +45,18 @@ fn index_answer(
     index: usize,
     second: Result<(SectorRecord, usize), Refusal>,
 ) {
+    let given = || format!("n {}, T {}, H {}, index {index}", track.n, drive.0, drive.1);
     let input = track.bytes.clone();
-    let ours = library::sector(&input, track.n, drive.0, drive.1, index);
-    let expected = match &second {
-        Ok((record, count)) => (Ok(*count), numbers(record)),
-        Err(refusal) => (Err(*refusal), [0; 11]),
-    };
-    group.same((ours, &input), (expected, &track.bytes), || {
-        format!("n {}, T {}, H {}, index {index}", track.n, drive.0, drive.1)
-    });
+    let mut lent = Lent::new(SECTOR_NUMBERS);
+    let ours = answer(boundary::sector(&input, track.n, drive.0, drive.1, index, lent.part()));
+    let left = second.map_or([0; SECTOR_NUMBERS], |(record, _)| numbers(&record));
+    group.same(
+        (ours, lent.into_all(), &input),
+        (second.map(|(_, count)| count), Lent::expected(SECTOR_NUMBERS, &left), &track.bytes),
+        given,
+    );
+    let ours = answer(thikbromu::Track::new(&input, track.n, drive.0, drive.1).sector(index));
+    group.same(ours.map(terms::record), second.map(|(record, _)| record), given);
 }
 
 fn index_case(group: &mut Group, track: &Track, drive: (u32, u32), index: usize) {
@@ -60,19 +64,31 @@ fn index_case(group: &mut Group, track: &Track, drive: (u32, u32), index: usize)
     index_answer(group, track, drive, index, second);
 }
 
-/// Reading out: the answer, the buffer and the bytes afterwards.
+/// Reading out: the answer, the buffer, whether the check is good (not written beside a refusal) and the bytes afterwards; and the same
+/// by the crate's track.
 fn read_case(group: &mut Group, track: &Track, drive: (u32, u32), index: usize, room: usize) {
-    let input = track.bytes.clone();
-    let mut lent = Lent::new(room);
-    let ours = library::read_out(&input, track.n, drive.0, drive.1, index, lent.part());
+    let given = || format!("n {}, T {}, H {}, index {index}, room {room}", track.n, drive.0, drive.1);
     let second = sectors::read_out(drive.0, drive.1, &track.bytes, track.n, index, room);
-    let expected = match &second {
-        Ok(read) => (Ok((read.length, read.check_good)), Lent::expected(room, &read.bytes)),
-        Err(refusal) => (Err(*refusal), Lent::expected(room, &[])),
+    let (expected, bytes, check) = match &second {
+        Ok(read) => (Ok((read.length, read.check_good)), &read.bytes[..], vec![u32::from(read.check_good)]),
+        Err(refusal) => (Err(*refusal), &[][..], Vec::new()),
     };
-    group.same(((ours, lent.into_all()), &input), (expected, &track.bytes), || {
-        format!("n {}, T {}, H {}, index {index}, room {room}", track.n, drive.0, drive.1)
-    });
+    let input = track.bytes.clone();
+    let (mut lent, mut good) = (Lent::new(room), Lent::new(1));
+    let good_number = &mut good.part()[0];
+    let ours = answer(boundary::read_out(&input, track.n, drive.0, drive.1, index, lent.part(), good_number));
+    group.same(
+        (ours, lent.into_all(), good.into_all(), &input),
+        (expected.map(|(length, _)| length), Lent::expected(room, bytes), Lent::expected(1, &check), &track.bytes),
+        given,
+    );
+    let mut lent = Lent::new(room);
+    let ours = answer(thikbromu::Track::new(&input, track.n, drive.0, drive.1).read_out(index, lent.part()));
+    group.same(
+        (ours.map(|read| (read.length, read.check_good)), lent.into_all()),
+        (expected, Lent::expected(room, bytes)),
+        given,
+    );
 }
 
 /// All sectors of a track, one index past them, and reading out of some of them with rooms around what is needed.
@@ -104,10 +120,23 @@ pub fn standard(totals: &mut (usize, usize)) {
     for i in 0..9 {
         let place = 1152 + 9824 * i as u32;
         let record = [place, 0xFE, 3, 1, i as u32 + 1, 2, 1, place + 704, 0xFB, 512, 1];
-        group.same(library::sector(&track.bytes, 100_000, 3, 1, i), (Ok(9), record), || format!("sector {i}"));
-        let mut data = [0; 512];
-        let answer = library::read_out(&track.bytes, 100_000, 3, 1, i, &mut data);
-        group.same((answer, data), (Ok((512, true)), [0xE5; 512]), || format!("data of sector {i}"));
+        let mut numbers = [u32::MAX; SECTOR_NUMBERS];
+        let ours = answer(boundary::sector(&track.bytes, 100_000, 3, 1, i, &mut numbers));
+        group.same((ours, numbers), (Ok(9), record), || format!("sector {i}"));
+        let (mut data, mut good) = ([0; 512], u32::MAX);
+        let ours = answer(boundary::read_out(&track.bytes, 100_000, 3, 1, i, &mut data, &mut good));
+        group.same((ours, data, good), (Ok(512), [0xE5; 512], 1), || format!("data of sector {i}"));
+        // As much of a record as there is room for.
+        for room in 0..SECTOR_NUMBERS + 2 {
+            let front = &record[..room.min(SECTOR_NUMBERS)];
+            group.same_written(
+                &track.bytes,
+                room,
+                |bytes, numbers| boundary::sector(bytes, 100_000, 3, 1, i, numbers),
+                Ok((9, front.to_vec())),
+                || format!("sector {i}, room for {room} numbers"),
+            );
+        }
     }
     whole_track(&mut group, &mut random, &track, (3, 1));
     group.close(totals);
@@ -126,7 +155,7 @@ pub fn standard(totals: &mut (usize, usize)) {
 }
 
 /// A track of one sector or several, filled up with 4E to so many cells.
-fn filled(builder: &TrackBuilder, n: usize) -> Vec<u8> {
+pub fn filled(builder: &TrackBuilder, n: usize) -> Vec<u8> {
     let mut track_cells = builder.cells().to_vec();
     let mut filling = TrackBuilder::new();
     filling.write_repeated(0x4E, (n / 16) + 1);

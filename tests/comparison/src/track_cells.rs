@@ -1,9 +1,9 @@
 //! 01, "Cells and bytes": cells of a circular track, words of cells, the least place of a word, and packing.
 
-use crate::library;
 use crate::report::{Group, Lent};
 use second_program::cells;
 use second_program::random::Random;
+use thikbromu::{boundary, clear, put_one, Track};
 
 fn track(random: &mut Random) -> (Vec<u8>, usize) {
     let length = random.below(40) as usize;
@@ -48,9 +48,11 @@ pub fn reading(totals: &mut (usize, usize)) {
         let p = place(&mut random, n);
         let k = word_length(&mut random);
         let input = bytes.clone();
+        let typed = Track::new(&input, n, 0, 0);
+        let (cell, word) = (cells::cell(&bytes, n, p), cells::word(&bytes, n, p, k));
         group.same(
-            (library::cell(&input, n, p), library::word(&input, n, p, k), &input),
-            (u64::from(cells::cell(&bytes, n, p)), cells::word(&bytes, n, p, k), &bytes),
+            (boundary::cell(&input, n, p), boundary::word(&input, n, p, k), typed.cell(p), typed.word(p, k), &input),
+            (u64::from(cell), word, cell == 1, word, &bytes),
             || format!("{bytes:02X?}, n {n}, p {p}, k {k}"),
         );
     }
@@ -77,9 +79,10 @@ pub fn finding(totals: &mut (usize, usize)) {
             _ => from.saturating_add(random.below(2 * n as u64 + 3) as usize),
         };
         let input = bytes.clone();
+        let found = cells::find_word(&bytes, n, x, k, from, to);
         group.same(
-            (library::find_word(&input, n, x, k, from, to), &input),
-            (cells::find_word(&bytes, n, x, k, from, to), &bytes),
+            (boundary::find_word(&input, n, x, k, from, to), Track::new(&input, n, 0, 0).find_word(x, k, from, to), &input),
+            (found, (found < to).then_some(found), &bytes),
             || format!("{bytes:02X?}, n {n}, word {x:X} of {k}, from {from} to {to}"),
         );
     }
@@ -107,7 +110,7 @@ pub fn marks(totals: &mut (usize, usize)) {
             for (from, to) in [(0, n), (1, 2 * n), (n - 60, n + 60), (n, 3 * n)] {
                 for (x, k) in [(SYNCS, 48), (0x4489, 16), (0x5224, 16)] {
                     group.same(
-                        library::find_word(&bytes, n, x, k, from, to),
+                        boundary::find_word(&bytes, n, x, k, from, to),
                         cells::find_word(&bytes, n, x, k, from, to),
                         || format!("n {n}, syncs {back} before the index, word {x:X}, from {from} to {to}"),
                     );
@@ -127,23 +130,23 @@ pub fn packing(totals: &mut (usize, usize)) {
         let packed = cells::pack(&list);
         let room = packed.len() + random.below(4) as usize;
         let mut lent = Lent::new(room);
-        library::clear(lent.part(), packed.len());
+        clear(lent.part(), packed.len());
         for (i, &one) in list.iter().enumerate() {
             if one == 1 {
-                library::put_one(lent.part(), i);
+                put_one(lent.part(), i);
                 // A one that is put twice stays.
-                library::put_one(lent.part(), i);
+                put_one(lent.part(), i);
             }
         }
         // Places that the buffer does not have change nothing.
-        library::put_one(lent.part(), 8 * room);
-        library::put_one(lent.part(), usize::MAX);
+        put_one(lent.part(), 8 * room);
+        put_one(lent.part(), usize::MAX);
         group.same(lent.into_all(), Lent::expected(room, &packed), || format!("cells {list:?}, room {room}"));
     }
     for room in 0..20 {
         for k in [0, 1, 7, 19, 20, 21, usize::MAX] {
             let mut lent = Lent::new(room);
-            library::clear(lent.part(), k);
+            clear(lent.part(), k);
             let zeros = vec![0; k.min(room)];
             group.same(lent.into_all(), Lent::expected(room, &zeros), || format!("clear {k} of {room}"));
         }

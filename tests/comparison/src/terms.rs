@@ -1,0 +1,103 @@
+//! What the library's crate answers, in the second program's terms. Each is set out by its names, so that a number, a value or a field
+//! that the crate mixes up shows as a difference.
+
+use crate::report::Group;
+use second_program::findings::{self, Finding};
+use second_program::refusal::Refusal;
+use second_program::sectors::SectorRecord;
+use thikbromu::{Kind, NotARefusal};
+
+/// A refusal of the crate, by its name.
+fn refusal(ours: thikbromu::Refusal) -> Refusal {
+    use thikbromu::Refusal as Ours;
+    match ours {
+        Ours::TrackOrSide => Refusal::drive_place_out_of_range(),
+        Ours::CellCount(cells) => Refusal::cell_count_out_of_range(cells),
+        Ours::TooFewBytes(needed) => Refusal::too_few_bytes_of_cells(needed),
+        Ours::TooManySectors(sectors) => Refusal::too_many_sectors(sectors),
+        Ours::ListTooShort(findings) => Refusal::findings_list_too_short(findings),
+        Ours::NoTimings => Refusal::no_timings(),
+        Ours::TooManyTimings(timings) => Refusal::too_many_timings(timings),
+        Ours::TimingOutOfRange(index) => Refusal::timing_out_of_range(index),
+        Ours::TooManyCells(cells) => Refusal::too_many_cells(cells),
+        Ours::NoRoomForCells(needed) => Refusal::too_little_room_for_cells(needed),
+        Ours::NoSuchSector(sectors) => Refusal::no_such_sector(sectors),
+        Ours::NoDataRead => Refusal::no_data_read(),
+        Ours::NoRoomForBytes(needed) => Refusal::too_little_room_for_bytes(needed),
+        Ours::TooManyBytes(given) => Refusal::too_many_bytes(given),
+        Ours::NotATrackFile => Refusal::not_a_track_file(),
+    }
+}
+
+/// What a call of the crate gives, or its refusal.
+pub fn answer<T>(ours: Result<T, thikbromu::Refusal>) -> Result<T, Refusal> {
+    ours.map_err(refusal)
+}
+
+/// A record of the crate, field by field.
+pub fn record(ours: thikbromu::Sector) -> SectorRecord {
+    SectorRecord {
+        place: ours.place as usize,
+        mark: ours.mark,
+        track: ours.track,
+        side: ours.side,
+        number: ours.number,
+        size_code: ours.size_code,
+        id_check_good: ours.id_check_good,
+        data_place: ours.data_place as usize,
+        data_mark: ours.data_mark,
+        length: ours.data_length,
+        data_check_good: ours.data_check_good,
+    }
+}
+
+/// A finding of the crate.
+pub fn finding(ours: thikbromu::Finding) -> Finding {
+    Finding {
+        kind: u32::from(ours.kind.number()),
+        level: u32::from(ours.level()),
+        place: ours.place as usize,
+        detail: ours.detail as usize,
+    }
+}
+
+/// 01's tables of refusals and kinds, as the crate and as the second program has them.
+pub fn tables(totals: &mut (usize, usize)) {
+    let mut group = Group::new("the tables of refusals and kinds");
+    let rows = [
+        Refusal::drive_place_out_of_range(),
+        Refusal::cell_count_out_of_range(7),
+        Refusal::too_few_bytes_of_cells(7),
+        Refusal::too_many_sectors(7),
+        Refusal::findings_list_too_short(7),
+        Refusal::no_timings(),
+        Refusal::too_many_timings(7),
+        Refusal::timing_out_of_range(7),
+        Refusal::too_many_cells(7),
+        Refusal::too_little_room_for_cells(7),
+        Refusal::no_such_sector(7),
+        Refusal::no_data_read(),
+        Refusal::too_little_room_for_bytes(7),
+        Refusal::too_many_bytes(7),
+        Refusal::not_a_track_file(),
+    ];
+    for row in rows {
+        let ours = thikbromu::Refusal::try_from((row.number, row.value as usize));
+        group.same(ours.map(refusal), Ok(row), || format!("{row:?}, by name"));
+        let numbers = ours.map(|ours| Refusal { number: ours.number(), value: ours.value() as u64 });
+        group.same(numbers, Ok(row), || format!("{row:?}, by number"));
+        // A row whose value is 0 has no other: the crate does not drop a value.
+        if row.value == 0 {
+            let (number, value) = (row.number, 7);
+            let ours = thikbromu::Refusal::try_from((number, value));
+            group.same(ours, Err(NotARefusal { number, value }), || format!("{row:?} with {value}"));
+        }
+    }
+    for kind in 1..=findings::KINDS as u8 {
+        let number = u32::from(kind);
+        let ours = Kind::try_from(kind).map(|kind| (kind.number(), kind.name(), u32::from(kind.level())));
+        let second = (kind, findings::name_of(number), findings::level_of(number));
+        group.same(ours, Ok(second), || format!("kind {kind}"));
+    }
+    group.close(totals);
+}
