@@ -4,9 +4,6 @@
 //! of the library to plain Rust (below 1: the library is quicker). Whole files go through a process each: the program, and this one with
 //! the argument `plain`, which lists by the second program. Run it with bench/run; docs/BENCHMARKS.md has a run.
 
-#[path = "../../tests/comparison/src/library.rs"]
-#[allow(dead_code)]
-mod library;
 mod search;
 
 use second_program::check_word;
@@ -24,104 +21,88 @@ use std::io::{Read, Write};
 use std::path::Path;
 use std::process::{Command, Stdio};
 use std::time::Instant;
+use thikbromu::boundary::{self, FINDING_NUMBERS, SECTOR_NUMBERS};
+use thikbromu::{Separator, HISTOGRAM_COUNTS, MOST_FINDINGS};
 
-/// The median of the times of one call, in microseconds, over some rounds of some calls each.
-fn median(rounds: usize, calls: usize, mut work: impl FnMut()) -> f64 {
-    let mut times: Vec<f64> = (0..rounds)
-        .map(|_| {
-            let start = Instant::now();
-            for _ in 0..calls {
-                work();
-            }
-            start.elapsed().as_secs_f64() * 1e6 / calls as f64
-        })
-        .collect();
-    times.sort_by(f64::total_cmp);
-    times[rounds / 2]
-}
-
-/// One row: the library, plain Rust, and what a second of the library does where that is told.
-fn row(what: &str, ours: f64, plain: f64, in_a_second: Option<(f64, &str)>) {
-    let rate = in_a_second.map(|(count, of)| format!("{:.0} {of}", count * 1e6 / ours)).unwrap_or_default();
-    println!("| {what} | {ours:.1} | {plain:.1} | {:.2} | {rate} |", ours / plain);
-}
-
-/// Both, turn about, so that a change of the machine's speed meets both.
-fn both(rounds: usize, calls: usize, mut ours: impl FnMut(), mut plain: impl FnMut()) -> (f64, f64) {
-    let mut times = (Vec::new(), Vec::new());
-    for _ in 0..rounds {
-        times.0.push(median(1, calls, &mut ours));
-        times.1.push(median(1, calls, &mut plain));
+/// The time of one call, in microseconds, over some calls.
+fn time<T>(calls: usize, work: &mut impl FnMut() -> T) -> f64 {
+    let start = Instant::now();
+    for _ in 0..calls {
+        black_box(work());
     }
-    times.0.sort_by(f64::total_cmp);
-    times.1.sort_by(f64::total_cmp);
-    (times.0[rounds / 2], times.1[rounds / 2])
+    start.elapsed().as_secs_f64() * 1e6 / calls as f64
+}
+
+fn median(mut times: Vec<f64>) -> f64 {
+    times.sort_by(f64::total_cmp);
+    times[times.len() / 2]
+}
+
+/// One row: the median times of the library and of plain Rust over some rounds of some calls each, and what a second of the library does
+/// where that is told. Both run turn about, so that a change of the machine's speed meets both.
+fn row<A, B>(
+    what: &str,
+    (rounds, calls): (usize, usize),
+    in_a_second: Option<(usize, &str)>,
+    mut ours: impl FnMut() -> A,
+    mut plain: impl FnMut() -> B,
+) {
+    let times = (0..rounds).map(|_| (time(calls, &mut ours), time(calls, &mut plain)));
+    let (ours, plain): (Vec<f64>, Vec<f64>) = times.unzip();
+    let (ours, plain) = (median(ours), median(plain));
+    let rate = in_a_second.map(|(count, of)| format!("{:.0} {of}", count as f64 * 1e6 / ours)).unwrap_or_default();
+    println!("| {what} | {ours:.1} | {plain:.1} | {:.2} | {rate} |", ours / plain);
 }
 
 fn coding(random: &mut Random) {
     let bytes: Vec<u8> = (0..8_192).map(|_| random.byte()).collect();
     let mut coded = vec![0; 16_384];
     let mut decoded = vec![0; 8_192];
-    let (ours, plain) = both(
-        21,
-        50,
-        || {
-            let _ = black_box(library::encode(black_box(&bytes), false, &mut coded));
-        },
-        || {
-            let _ = black_box(mfm::code(black_box(&bytes), false, 16_384));
-        },
+    row(
+        "coding, 8,192 bytes",
+        (21, 50),
+        Some((8_192, "bytes")),
+        || thikbromu::encode(black_box(&bytes), false, &mut coded),
+        || mfm::code(black_box(&bytes), false, 16_384),
     );
-    row("coding, 8,192 bytes", ours, plain, Some((8_192.0, "bytes")));
-    let (ours, plain) = both(
-        21,
-        50,
-        || {
-            let _ = black_box(library::decode(black_box(&coded), &mut decoded));
-        },
-        || {
-            let _ = black_box(mfm::decode(black_box(&coded), 8_192));
-        },
+    row(
+        "decoding, 16,384 bytes of cells",
+        (21, 50),
+        Some((16_384, "bytes of cells")),
+        || thikbromu::decode(black_box(&coded), &mut decoded),
+        || mfm::decode(black_box(&coded), 8_192),
     );
-    row("decoding, 16,384 bytes of cells", ours, plain, Some((16_384.0, "bytes of cells")));
-    let (ours, plain) = both(
-        21,
-        50,
-        || {
-            black_box(library::check_word(black_box(&bytes)));
-        },
-        || {
-            black_box(check_word::check_word(black_box(&bytes)));
-        },
+    row(
+        "check word, 8,192 bytes",
+        (21, 50),
+        Some((8_192, "bytes")),
+        || thikbromu::check_word(black_box(&bytes)),
+        || check_word::check_word(black_box(&bytes)),
     );
-    row("check word, 8,192 bytes", ours, plain, Some((8_192.0, "bytes")));
 }
 
 fn separating(random: &mut Random) {
     for count in [7_000, 20_000, 40_000] {
         let timings = flux_track(random, count, Choice::Any).timings;
         let mut packed = vec![0; 16_384];
-        let (ours, plain) = both(
-            21,
-            10,
-            || {
-                let _ = black_box(library::separate(black_box(&timings), &mut packed));
-            },
-            || {
-                let _ = black_box(separator::separate(black_box(&timings), 16_384));
-            },
+        row(
+            &format!("separator, {count} timings in one call"),
+            (21, 10),
+            Some((count, "timings")),
+            || thikbromu::separate(black_box(&timings), &mut packed),
+            || separator::separate(black_box(&timings), 16_384),
         );
-        row(&format!("separator, {count} timings in one call"), ours, plain, Some((count as f64, "timings")));
     }
     let timings = flux_track(random, 40_000, Choice::Any).timings;
-    let (ours, plain) = both(
-        21,
-        10,
+    row(
+        "separator, 40,000 timings step by step, over the exports",
+        (21, 10),
+        Some((40_000, "timings")),
         || {
-            // The step and the residual after it are two exports.
-            let mut residual = 0;
+            // The cells of a step and the residual after it are two exports.
+            let mut state = Separator::new();
             for &timing in &timings {
-                residual = black_box(library::step(residual, timing)).1;
+                state = black_box(state.step(timing)).next;
             }
         },
         || {
@@ -131,40 +112,27 @@ fn separating(random: &mut Random) {
             }
         },
     );
-    row("separator, 40,000 timings step by step, over the exports", ours, plain, Some((40_000.0, "timings")));
-    let mut counts = [0; 256];
-    let (ours, plain) = both(
-        21,
-        50,
-        || {
-            let _ = black_box(library::histogram(black_box(&timings), &mut counts));
-        },
-        || {
-            let _ = black_box(separator::histogram(black_box(&timings)));
-        },
+    let mut counts = [0; HISTOGRAM_COUNTS];
+    row(
+        "histogram, 40,000 timings",
+        (21, 50),
+        Some((40_000, "timings")),
+        || boundary::histogram(black_box(&timings), &mut counts),
+        || separator::histogram(black_box(&timings)),
     );
-    row("histogram, 40,000 timings", ours, plain, Some((40_000.0, "timings")));
 }
 
 fn searching(name: &str, bytes: &[u8], n: usize) {
     // A word that stands nowhere: the whole track is searched.
     let word = 0x4489_4489_4488;
-    let mut ours_search = || {
-        black_box(library::find_word(black_box(bytes), n, word, 48, 0, n));
-    };
-    let (ours, plain) = both(21, 20, &mut ours_search, || {
-        black_box(cells::find_word(black_box(bytes), n, word, 48, 0, n));
-    });
-    row(&format!("mark search, {name}, {n} cells"), ours, plain, Some((n as f64, "cells")));
+    let ours = || boundary::find_word(black_box(bytes), n, word, 48, 0, n);
+    let what = format!("mark search, {name}, {n} cells");
+    row(&what, (21, 20), Some((n, "cells")), ours, || cells::find_word(black_box(bytes), n, word, 48, 0, n));
     if n == 100_000 {
-        let (ours, naive) = both(3, 1, &mut ours_search, || {
-            black_box(search::naive(black_box(bytes), n, word, 48));
-        });
-        row("the same beside a search that fetches 48 cells at each place", ours, naive, None);
-        let (ours, parallel) = both(21, 20, &mut ours_search, || {
-            black_box(search::word_parallel(black_box(bytes), n, word));
-        });
-        row("the same beside a search of eight places at a time", ours, parallel, None);
+        let what = "the same beside a search that fetches 48 cells at each place";
+        row(what, (3, 1), None, ours, || search::naive(black_box(bytes), n, word, 48));
+        let what = "the same beside a search of eight places at a time";
+        row(what, (21, 20), None, ours, || search::word_parallel(black_box(bytes), n, word));
     }
 }
 
@@ -187,29 +155,22 @@ fn track_with(sector_count: usize, n: usize) -> Vec<u8> {
 }
 
 fn listing_sectors(name: &str, bytes: &[u8], n: usize) {
-    let (ours, plain) = both(
-        21,
-        10,
-        || {
-            let _ = black_box(library::sector(black_box(bytes), n, 0, 0, 0));
-        },
-        || {
-            black_box(sectors::list(black_box(bytes), n));
-        },
+    let mut numbers = [0; SECTOR_NUMBERS];
+    row(
+        &format!("sector list, {name}, {n} cells"),
+        (21, 10),
+        Some((1, "tracks")),
+        || boundary::sector(black_box(bytes), n, 0, 0, 0, &mut numbers),
+        || sectors::list(black_box(bytes), n),
     );
-    row(&format!("sector list, {name}, {n} cells"), ours, plain, Some((1.0, "tracks")));
-    let mut list = [0; 3_604];
-    let (ours, plain) = both(
-        21,
-        10,
-        || {
-            let _ = black_box(library::findings(black_box(bytes), n, 0, 0, &mut list));
-        },
-        || {
-            let _ = black_box(findings::findings(0, 0, black_box(bytes), n, 901));
-        },
+    let mut list = [0; FINDING_NUMBERS * MOST_FINDINGS];
+    row(
+        &format!("findings, {name}, {n} cells"),
+        (21, 10),
+        Some((1, "tracks")),
+        || boundary::findings(black_box(bytes), n, 0, 0, &mut list),
+        || findings::findings(0, 0, black_box(bytes), n, MOST_FINDINGS),
     );
-    row(&format!("findings, {name}, {n} cells"), ours, plain, Some((1.0, "tracks")));
 }
 
 /// Lists a file by a process of its own.
@@ -232,13 +193,13 @@ fn whole_files() {
     let path = std::env::temp_dir().join(format!("thikbromu-bench-{}.track", std::process::id()));
     for (name, file) in files {
         std::fs::write(&path, file).expect("a file to list");
-        let (ours, plain) = both(
-            21,
-            10,
+        row(
+            &format!("whole file through the program, {name}"),
+            (21, 10),
+            Some((1, "files")),
             || list_by(&mut Command::new(program), &path),
             || list_by(Command::new(&own).arg("plain"), &path),
         );
-        row(&format!("whole file through the program, {name}"), ours, plain, Some((1.0, "files")));
     }
     std::fs::remove_file(&path).expect("the file to list");
 }
