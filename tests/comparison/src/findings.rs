@@ -1,12 +1,11 @@
 //! 01, "Findings": the list of a track's findings.
 
 use crate::report::{Element, Group};
-use crate::sectors::filled;
 use crate::terms::{self, answer};
 use second_program::cells;
 use second_program::findings::{self, Finding};
 use second_program::random::Random;
-use second_program::track_builder::{odd_track, standard_track, turn, SectorPlan, TrackBuilder};
+use second_program::track_builder::{filled, nine_sectors, odd_track, standard_track, turn, SectorPlan, TrackBuilder};
 use thikbromu::boundary::{self, FindingRecord, FINDING_NUMBERS};
 use thikbromu::Track;
 
@@ -85,7 +84,7 @@ fn sectors_on(count: usize, n: usize, drive_track: u8) -> Vec<u8> {
         builder.write_sector(&SectorPlan::standard(drive_track, 0, number as u8, 0xE5));
         builder.write_repeated(0x4E, 4);
     }
-    filled(&builder, n)
+    filled(builder.cells().to_vec(), n)
 }
 
 /// Each kind just inside and just outside its rule.
@@ -117,17 +116,11 @@ pub fn edges(totals: &mut (usize, usize)) {
     ];
     for (_, change) in &odd {
         for value in (0..12).chain([83, 84, 127, 128]).chain(243..=249).chain([255]) {
-            let mut builder = TrackBuilder::new();
-            builder.write_repeated(0x4E, 60);
-            for number in 1..=9 {
-                builder.write_repeated(0x00, 12);
-                let mut plan = SectorPlan::standard(5, 0, number, 0x11);
-                if number == 4 {
-                    change(&mut plan, value);
+            let mut builder = nine_sectors(5, 0, 0x11, |plan| {
+                if plan.number == 4 {
+                    change(plan, value);
                 }
-                builder.write_sector(&plan);
-                builder.write_repeated(0x4E, 40);
-            }
+            });
             builder.write_repeated(0x4E, 664);
             whole_track(&mut group, &mut seen, builder.cells(), (5, 0));
         }

@@ -6,7 +6,7 @@ use second_program::cells;
 use second_program::random::Random;
 use second_program::refusal::Refusal;
 use second_program::sectors::{self, SectorRecord};
-use second_program::track_builder::{odd_track, standard_track, turn, SectorPlan, TrackBuilder};
+use second_program::track_builder::{filled, odd_track, standard_track, turn, SectorPlan, TrackBuilder};
 use thikbromu::boundary::{self, SECTOR_NUMBERS};
 
 /// A packed track: its bytes and its number of cells.
@@ -154,18 +154,6 @@ pub fn standard(totals: &mut (usize, usize)) {
     group.close(totals);
 }
 
-/// A track of one sector or several, filled up with 4E to so many cells.
-pub fn filled(builder: &TrackBuilder, n: usize) -> Vec<u8> {
-    let mut track_cells = builder.cells().to_vec();
-    let mut filling = TrackBuilder::new();
-    filling.write_repeated(0x4E, (n / 16) + 1);
-    while track_cells.len() < n {
-        track_cells.push(filling.cells()[track_cells.len() % 16]);
-    }
-    track_cells.truncate(n);
-    track_cells
-}
-
 pub fn shapes(totals: &mut (usize, usize)) {
     let mut random = Random::new(21);
     let mut group = Group::new("data marks at every distance from 150 to 800");
@@ -181,7 +169,7 @@ pub fn shapes(totals: &mut (usize, usize)) {
                 builder.write_gap_cells(distance - 160);
             }
             builder.write_data(0xFB, &plan.data, 0);
-            let mut track_cells = filled(&builder, 20_000 + phase);
+            let mut track_cells = filled(builder.cells().to_vec(), 20_000 + phase);
             if phase == 5 {
                 // The data goes over the index.
                 track_cells = turn(&track_cells, 20_000 - distance);
@@ -203,7 +191,7 @@ pub fn shapes(totals: &mut (usize, usize)) {
         plan.data_mark = Some(0xF6 + (code / 4) % 10);
         plan.data_check_error = u16::from(code % 3 == 0);
         builder.write_sector(&plan);
-        let track = packed(&filled(&builder, 20_001));
+        let track = packed(&filled(builder.cells().to_vec(), 20_001));
         whole_track(&mut group, &mut random, &track, (0, 1));
     }
     group.close(totals);
@@ -216,7 +204,7 @@ pub fn shapes(totals: &mut (usize, usize)) {
             builder.write_repeated(0x4E, 10);
         }
         for n in [100_000, 131_072] {
-            let track = packed(&filled(&builder, n));
+            let track = packed(&filled(builder.cells().to_vec(), n));
             whole_track(&mut group, &mut random, &track, (0, 0));
         }
     }

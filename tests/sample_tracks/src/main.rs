@@ -1,44 +1,14 @@
 //! Writes the track files of samples/ into the folder that its argument names. samples/README.md says what each shows.
 
-use second_program::cells;
 use second_program::flux_tracks::flux_track_of;
 use second_program::random::Random;
-use second_program::track_builder::{standard_track, turn, SectorPlan, TrackBuilder, STANDARD_TRACK_CELLS};
+use second_program::track_builder::{nine_sectors, standard_track, turn, SectorPlan, TrackBuilder, STANDARD_TRACK_CELLS};
+use second_program::track_files::{file_of_cells, file_of_timings};
 use std::path::Path;
-
-/// A count or a timing: 32 bits, low byte first.
-fn number(value: usize) -> [u8; 4] {
-    u32::try_from(value).expect("32 bits").to_le_bytes()
-}
-
-/// A track file: its place, and then its cells or its timings. The count of the other section is 0.
-fn track_file(track: u8, side: u8, track_cells: &[u8], timings: &[u32]) -> Vec<u8> {
-    let mut file = number(2).to_vec();
-    file.extend([track, side]);
-    file.extend(number(track_cells.len()));
-    file.extend(cells::pack(track_cells));
-    file.extend(number(timings.len()));
-    for timing in timings {
-        file.extend(timing.to_le_bytes());
-    }
-    file
-}
-
-fn cells_file(track: u8, side: u8, track_cells: &[u8]) -> Vec<u8> {
-    track_file(track, side, track_cells, &[])
-}
 
 /// The nine standard sectors of a track, each changed by `change`, with the standard track's gaps, and 4E up to its length.
 fn changed(track: u8, change: impl Fn(&mut SectorPlan)) -> Vec<u8> {
-    let mut builder = TrackBuilder::new();
-    builder.write_repeated(0x4E, 60);
-    for sector in 1..=9 {
-        builder.write_repeated(0x00, 12);
-        let mut plan = SectorPlan::standard(track, 0, sector, 0xE5);
-        change(&mut plan);
-        builder.write_sector(&plan);
-        builder.write_repeated(0x4E, 40);
-    }
+    let mut builder = nine_sectors(track, 0, 0xE5, change);
     while builder.cells().len() < STANDARD_TRACK_CELLS {
         builder.write_byte(0x4E);
     }
@@ -62,7 +32,7 @@ fn standard_flux() -> Vec<u8> {
     let mut random = Random::new(1);
     let distances: Vec<i64> = gaps.iter().map(|&g| random.between(1_950 * g as i64, 2_050 * g as i64)).collect();
     let shifts: Vec<i64> = (0..=gaps.len()).map(|_| random.between(-250, 250)).collect();
-    track_file(0, 0, &[], &flux_track_of(&gaps, &distances, &shifts).timings)
+    file_of_timings(0, 0, &flux_track_of(&gaps, &distances, &shifts).timings)
 }
 
 /// A long track: 4E goes on to 104,000 cells.
@@ -71,7 +41,7 @@ fn long_track() -> Vec<u8> {
     let mut more = TrackBuilder::new();
     more.write_repeated(0x4E, 250);
     track_cells.extend(more.cells());
-    cells_file(0, 0, &track_cells)
+    file_of_cells(0, 0, &track_cells)
 }
 
 /// Eleven sectors: the number 5 stands twice, and one number is 247.
@@ -86,7 +56,7 @@ fn sector_numbers() -> Vec<u8> {
     while builder.cells().len() < 102_000 {
         builder.write_byte(0x4E);
     }
-    cells_file(12, 0, builder.cells())
+    file_of_cells(12, 0, builder.cells())
 }
 
 /// IDs that no formatting writes: another track, a track and a side that no drive has, another size, another mark.
@@ -98,7 +68,7 @@ fn id_fields() -> Vec<u8> {
         8 => plan.id_mark = 0xFC,
         _ => {}
     });
-    cells_file(7, 0, &track_cells)
+    file_of_cells(7, 0, &track_cells)
 }
 
 /// A data mark that is not usual, an ID with a bad check, an ID without data, data with a bad check.
@@ -110,7 +80,7 @@ fn checks() -> Vec<u8> {
         8 => plan.data_check_error = 0x8000,
         _ => {}
     });
-    cells_file(30, 0, &track_cells)
+    file_of_cells(30, 0, &track_cells)
 }
 
 /// A sector hidden in the data of another: its ID stands in the data of sector 5.
@@ -122,7 +92,7 @@ fn sector_within_sector() -> Vec<u8> {
     hidden.write_id(0xFE, [3, 0, 16, 2], 0);
     let at = data_of_5 + 16 * 100;
     track_cells[at..at + hidden.cells().len()].copy_from_slice(hidden.cells());
-    cells_file(3, 0, &track_cells)
+    file_of_cells(3, 0, &track_cells)
 }
 
 /// Cells that are no MFM: ones side by side, and 2,000 cells without a flux transition.
@@ -130,14 +100,14 @@ fn odd_cells() -> Vec<u8> {
     let mut track_cells = standard_track(40, 0, 0xE5);
     track_cells[91_001..91_009].fill(1);
     track_cells[95_000..97_000].fill(0);
-    cells_file(40, 0, &track_cells)
+    file_of_cells(40, 0, &track_cells)
 }
 
 fn main() {
     let folder = std::env::args().nth(1).expect("the folder to write to");
     let standard = standard_track(0, 0, 0xE5);
     let all_aa: Vec<u8> = (0..100_000).map(|i| u8::from(i % 2 == 0)).collect();
-    let standard_file = cells_file(0, 0, &standard);
+    let standard_file = file_of_cells(0, 0, &standard);
     // The data of the last sector ends 200 cells after the index; its data mark stands 100 cells after it.
     let data_mark_of_9 = 1_152 + 8 * 9_824 + 704;
     let over_index = turn(&standard, 100_000 + 200 - (data_mark_of_9 + 8_288));
@@ -145,16 +115,16 @@ fn main() {
     let samples = [
         ("standard", standard_file.clone()),
         ("standard-flux", standard_flux()),
-        ("unformatted", cells_file(5, 0, &all_aa)),
-        ("unformatted-80", cells_file(80, 0, &all_aa)),
-        ("no-flux-80", cells_file(80, 0, &[0; 100_000])),
-        ("extra-track", cells_file(81, 1, &standard_track(81, 1, 0xE5))),
+        ("unformatted", file_of_cells(5, 0, &all_aa)),
+        ("unformatted-80", file_of_cells(80, 0, &all_aa)),
+        ("no-flux-80", file_of_cells(80, 0, &[0; 100_000])),
+        ("extra-track", file_of_cells(81, 1, &standard_track(81, 1, 0xE5))),
         ("long-track", long_track()),
         ("sector-numbers", sector_numbers()),
         ("id-fields", id_fields()),
         ("checks", checks()),
-        ("data-over-index", cells_file(0, 0, &over_index)),
-        ("data-behind-index", cells_file(0, 0, &behind_index)),
+        ("data-over-index", file_of_cells(0, 0, &over_index)),
+        ("data-behind-index", file_of_cells(0, 0, &behind_index)),
         ("sector-within-sector", sector_within_sector()),
         ("odd-cells", odd_cells()),
         ("cut-short", standard_file[..standard_file.len() - 1].to_vec()),

@@ -186,15 +186,39 @@ impl SectorPlan {
 /// FE, four ID bytes, check, 22 of 4E, 12 of 00, three syncs A1, FB, 512 bytes,
 /// check, 40 of 4E." The numbers are 1 to 9. One cell to an element.
 pub fn standard_track(track: u8, side: u8, filler: u8) -> Vec<u8> {
+    let mut builder = nine_sectors(track, side, filler, |_| {});
+    builder.write_repeated(0x4E, 664);
+    builder.cells
+}
+
+/// The standard track up to its nine records, each of which `change` may change.
+pub fn nine_sectors(
+    track: u8,
+    side: u8,
+    filler: u8,
+    change: impl Fn(&mut SectorPlan),
+) -> TrackBuilder {
     let mut builder = TrackBuilder::new();
     builder.write_repeated(0x4E, 60);
     for number in 1..=9 {
+        let mut plan = SectorPlan::standard(track, side, number, filler);
+        change(&mut plan);
         builder.write_repeated(0x00, 12);
-        builder.write_sector(&SectorPlan::standard(track, side, number, filler));
+        builder.write_sector(&plan);
         builder.write_repeated(0x4E, 40);
     }
-    builder.write_repeated(0x4E, 664);
-    builder.cells
+    builder
+}
+
+/// Cells followed by those of bytes 4E up to n cells, or cut at n.
+pub fn filled(mut track_cells: Vec<u8>, n: usize) -> Vec<u8> {
+    let mut filling = TrackBuilder::new();
+    filling.write_byte(0x4E);
+    while track_cells.len() < n {
+        track_cells.push(filling.cells()[track_cells.len() % 16]);
+    }
+    track_cells.truncate(n);
+    track_cells
 }
 
 /// The track turned: the cell at place i goes to place i + `by`, round the track.

@@ -3,18 +3,9 @@
 
 use super::{FilePlan, Files, NamedFile};
 use crate::cells;
-use crate::track_builder::{standard_track, turn, SectorPlan, TrackBuilder, STANDARD_TRACK_CELLS};
-
-/// Cells followed by those of bytes 4E up to n cells, or cut at n.
-pub(super) fn filled(mut track_cells: Vec<u8>, n: usize) -> Vec<u8> {
-    let mut filling = TrackBuilder::new();
-    filling.write_byte(0x4E);
-    while track_cells.len() < n {
-        track_cells.push(filling.cells()[track_cells.len() % 16]);
-    }
-    track_cells.truncate(n);
-    track_cells
-}
+use crate::track_builder::{
+    filled, nine_sectors, standard_track, turn, SectorPlan, TrackBuilder, STANDARD_TRACK_CELLS,
+};
 
 /// 01's four whole listings, and the same tracks as timings.
 pub(super) fn printed_listings() -> Vec<NamedFile> {
@@ -155,17 +146,11 @@ pub(super) fn many_sectors() -> Vec<NamedFile> {
 
 /// A standard track at T 5 whose fourth sector is changed.
 fn one_odd_sector(change: impl Fn(&mut SectorPlan)) -> Vec<u8> {
-    let mut builder = TrackBuilder::new();
-    builder.write_repeated(0x4E, 60);
-    for number in 1..=9 {
-        let mut plan = SectorPlan::standard(5, 0, number, 0x11);
-        if number == 4 {
-            change(&mut plan);
+    let builder = nine_sectors(5, 0, 0x11, |plan| {
+        if plan.number == 4 {
+            change(plan);
         }
-        builder.write_repeated(0x00, 12);
-        builder.write_sector(&plan);
-        builder.write_repeated(0x4E, 40);
-    }
+    });
     filled(builder.cells().to_vec(), STANDARD_TRACK_CELLS)
 }
 

@@ -1,12 +1,11 @@
 //! Files made at random, each by its seed: odd tracks, mixed mistakes, changed bytes,
 //! any bytes.
 
-use super::made_tracks::filled;
 use super::refused_files::{short_files, timings_of_count, LONGEST, TOO_LONG};
 use super::{file_of_cells, file_of_timings, named, FilePlan, NamedFile};
 use crate::flux_tracks::timings_of_cells;
 use crate::random::Random;
-use crate::track_builder::{odd_sector, odd_track, turn, TrackBuilder};
+use crate::track_builder::{filled, odd_sector, odd_track, turn, TrackBuilder};
 
 /// A short track with odd sectors, most of them of 128 bytes so that several find
 /// room, turned by a random number of cells. One cell to an element.
