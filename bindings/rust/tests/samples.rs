@@ -1,7 +1,8 @@
 //! The samples' listings, printed from the crate's findings.
 
-use std::fs;
-use std::path::{Path, PathBuf};
+mod common;
+
+use common::samples;
 use thikbromu::{separate_to_vec, Cells, Track};
 
 fn number_at(file: &[u8], place: usize) -> usize {
@@ -34,16 +35,10 @@ fn listing_of(file: &[u8]) -> String {
 
 #[test]
 fn every_sample() {
-    let folder = Path::new(env!("CARGO_MANIFEST_DIR")).join("../../samples");
-    let entries = fs::read_dir(folder).unwrap().map(|entry| entry.unwrap().path());
-    let files: Vec<PathBuf> =
-        entries.filter(|path| path.extension().is_some_and(|extension| extension == "track")).collect();
-    assert!(!files.is_empty());
-    for path in files {
-        let listing = fs::read_to_string(path.with_extension("listing")).unwrap();
+    for sample in samples() {
         // What is no track file has no cells to list.
-        if listing != "refused 15\n" {
-            assert_eq!(listing_of(&fs::read(&path).unwrap()), listing, "{}", path.display());
+        if sample.listing != "refused 15\n" {
+            assert_eq!(listing_of(&sample.file), sample.listing, "{}", sample.name);
         }
     }
 }

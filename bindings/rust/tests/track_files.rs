@@ -1,8 +1,9 @@
 //! Track files in portions, and their listings.
 
-use std::fs;
+mod common;
+
+use common::samples;
 use std::io::{self, Read};
-use std::path::Path;
 use thikbromu::{Refusal, Sector, TrackFile};
 
 const STANDARD: &[u8] = include_bytes!("../../../samples/standard.track");
@@ -22,19 +23,14 @@ fn fed(file: &[u8], size: usize) -> (TrackFile, usize) {
 
 #[test]
 fn every_sample_however_it_is_cut() {
-    let folder = Path::new(env!("CARGO_MANIFEST_DIR")).join("../../samples");
-    for entry in fs::read_dir(folder).unwrap() {
-        let path = entry.unwrap().path();
-        if path.extension().is_some_and(|extension| extension == "track") {
-            let file = fs::read(&path).unwrap();
-            let listing = fs::read_to_string(path.with_extension("listing")).unwrap();
-            for size in [1, 7, 4096, file.len()] {
-                let (track_file, taken) = fed(&file, size);
-                assert_eq!(taken, file.len());
-                assert_eq!(track_file.listing(), listing, "{} in portions of {size}", path.display());
-            }
-            assert_eq!(TrackFile::read_from(&file[..]).unwrap().listing(), listing);
+    for sample in samples() {
+        let file = &sample.file;
+        for size in [1, 7, 4096, file.len()] {
+            let (track_file, taken) = fed(file, size);
+            assert_eq!(taken, file.len());
+            assert_eq!(track_file.listing(), sample.listing, "{} in portions of {size}", sample.name);
         }
+        assert_eq!(TrackFile::read_from(&file[..]).unwrap().listing(), sample.listing);
     }
 }
 
