@@ -3,7 +3,8 @@
 //!
 //! This is a thin, safe layer over the verified library. "01" in these pages is its scope paper, `docs/01-scope.md`. Each function gives
 //! what 01 says, or one of its [refusals](Refusal), judged in the order in which the function names them. Nothing is asked of the values
-//! passed: every number and every slice has an answer, and no function panics.
+//! passed: every number and every slice has an answer, and no function panics. [`boundary`] has the library's exports as they are, for
+//! callers who lend their own memory.
 //!
 //! A track of 100,000 cells, every second one a one:
 //!
