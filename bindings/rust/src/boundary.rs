@@ -2,8 +2,8 @@
 //! gives goes to the front of what is lent, and what stands behind it keeps its contents. The other types and functions of this crate go
 //! over these.
 //!
-//! A track is `cells` cells at the front of `packed`, eight to a byte, highest bit first; `track` and `side` are the drive's. Cells past the
-//! bytes are zeros, and so is every cell of a track of none.
+//! A track is `cells` cells at the front of `packed`, eight to a byte, highest bit first; `track` and `side` are the drive's. Cells past
+//! the bytes are zeros, and so is every cell of a track of none.
 //!
 //! A call that 01 refuses writes nothing, but that a record or a count table beside a refusal is all zeros, and that a refused file leaves
 //! zeros for its cells.

@@ -66,9 +66,7 @@ pub fn portions(totals: &mut (usize, usize)) {
                     u32::from(at_once(&file.bytes[..read]).is_some())
                 })
                 .collect();
-            let mut typed = TrackFile::new();
-            let typed_stopped: Vec<u32> = portions.iter().map(|portion| u32::from(typed.feed(portion))).collect();
-            group.same((stopped, typed_stopped), (judged.clone(), judged), given);
+            group.same(&stopped, &judged, given);
             let (mut after, mut out) = (cells.clone(), Lent::new(LISTING));
             let length = file_listing(state.part(), after.part(), out.part());
             group.same((length, out.into_all()), (expected.len(), Lent::expected(LISTING, &expected)), given);
@@ -83,8 +81,12 @@ pub fn portions(totals: &mut (usize, usize)) {
             let buffer = Lent::expected(ROOM, &packed);
             group.same((ours, place.into_all()), (second_answer, Lent::expected(2, &front)), given);
             group.same((cells.into_all(), after.into_all()), (buffer.clone(), buffer), given);
-            group.same(typed.clone().listing().as_bytes(), &expected[..], given);
-            group.same(answer(typed.finish()).map(read_cells_of), second.clone(), given);
+            // The same by the crate's reader, which keeps state and cells itself.
+            let mut reader = TrackFile::new();
+            let stopped: Vec<u32> = portions.iter().map(|portion| u32::from(reader.feed(portion))).collect();
+            group.same(stopped, judged, given);
+            group.same(reader.clone().listing().as_bytes(), &expected[..], given);
+            group.same(answer(reader.finish()).map(read_cells_of), second.clone(), given);
             if let Ok(track) = &second {
                 let mut out = Lent::new(LISTING);
                 let (bytes, n, drive) = (&track.bytes, track.n, (track.drive_track, track.drive_side));
