@@ -254,6 +254,8 @@ fn listings_that_the_paper_prints() {
     assert_eq!(lines(Track::new(&[0xAA; 12_500], 100_000, 80, 0)), [nos]);
     assert_eq!(lines(Track::new(&[0; 12_500], 100_000, 80, 0)), [nos, "21 NFA level 1 place 0 detail 100000"]);
     assert!(lines(standard()).is_empty());
+    let listing = Track::new(&[0xAA; 12_500], 100_000, 5, 0).listing();
+    assert_eq!(listing, format!("T05 H0 cells 100000 sectors 0 findings 2\n{nos}\n4 TNF level 2 place 0 detail 0\n"));
 }
 
 #[test]
