@@ -17,6 +17,8 @@ mod sectors;
 mod terms;
 mod track_cells;
 
+use std::sync::Mutex;
+
 type Part = fn(&mut (usize, usize));
 
 /// The groups of cases, by their module.
@@ -52,14 +54,25 @@ const PARTS: [(&str, Part); 27] = [
 
 fn main() {
     let chosen: Vec<String> = std::env::args().skip(1).collect();
-    let mut totals = (0, 0);
-    for (name, run) in PARTS {
-        if chosen.is_empty() || chosen.iter().any(|choice| choice == name) {
-            run(&mut totals);
-        }
-    }
-    println!("{} passed, {} failed", totals.0, totals.1);
-    if totals.1 > 0 {
+    let parts = PARTS.iter().filter(|(name, _)| chosen.is_empty() || chosen.iter().any(|choice| choice == name));
+    let left = Mutex::new(parts);
+    let totals = std::thread::scope(|scope| {
+        let workers = [scope.spawn(|| run_all(&left)), scope.spawn(|| run_all(&left))];
+        workers.map(|worker| worker.join().expect("a group stopped"))
+    });
+    let (passed, failed) = (totals[0].0 + totals[1].0, totals[0].1 + totals[1].1);
+    println!("{passed} passed, {failed} failed");
+    if failed > 0 {
         std::process::exit(1);
+    }
+}
+
+/// Runs groups as long as some are left. The groups share nothing, so two workers take them in turn.
+fn run_all<'a>(left: &Mutex<impl Iterator<Item = &'a (&'a str, Part)>>) -> (usize, usize) {
+    let mut totals = (0, 0);
+    loop {
+        let next = left.lock().expect("taking a group does not stop").next();
+        let Some((_, run)) = next else { return totals };
+        run(&mut totals);
     }
 }
