@@ -7,11 +7,11 @@ pub use lent::step_in_place;
 pub use lent::step_lent;
 use refusals::Refusal;
 ghost use mathlib.Core.Path.{_≡_};
-ghost use mathlib.Core.Bool.{cond};
-ghost use Prim.Native.Nat.{ℕ, _+_, _-_, _*_, _/_, _≤_, _<_};
+ghost use mathlib.Core.Bool.{cond, true};
+ghost use Prim.Native.Nat.{ℕ, _+_, _-_, _*_, _/_, _%_, _≤_, _<_};
 ghost use lib.Dec.{eqb};
 ghost use lib.ListN.{length};
-ghost use lib.IntN.{pos};
+ghost use lib.IntN.{pos, subℕ};
 ghost use Rattle.basis.specs.Lists.{writtenOver};
 ghost use Rattle.refusals.specs.RefusedCalls.Answer.{gives};
 ghost use Rattle.cells.specs.CellsAndBytes.{bytesFor, packed, withOne};
@@ -84,10 +84,9 @@ impl Separator {
         }
         let residual = self.residual;
         let r = usable_residual(residual);
-        let u = (timing as i32) + r;
-        let n = (u + HALF_WINDOW) / WINDOW;
-        let e = u - WINDOW * n;
-        let cells = n as u32;
+        let part = ((timing % WHOLE_WINDOW) as i32) + r;
+        let cells = timing / WHOLE_WINDOW + cells_in(part);
+        let e = offset_in(part);
         let next = Separator { residual: half(e) };
         Stepped {
             taken: Taken::Cells(cells),
@@ -129,6 +128,30 @@ pub fn separate(timings: &[u32], cells: &mut [u8]) -> Separated
 pub fn first_out(timings: &[u32]) -> usize
     ensures { λ r. ⌜ r ≡ firstOut (now (timings .entry)) ⌝ }
 {
+    if all_in_range(timings) {
+        return timings.len();
+    }
+    search_out(timings)
+}
+
+// Whether every timing is in its range. No turn of the loop can be the last before the end, so that the compiler can test several
+// timings at once.
+fn all_in_range(timings: &[u32]) -> bool
+    ensures { λ r. ⌜ (r ≡ true → firstOut (now (timings .entry)) ≡ length (now (timings .entry))) ⌝ }
+{
+    let mut all = true;
+    let mut i: usize = 0;
+    while i < timings.len() {
+        all = all & timing_in_range(timings[i]);
+        i += 1;
+    }
+    all
+}
+
+// As first_out, one timing after another.
+fn search_out(timings: &[u32]) -> usize
+    ensures { λ r. ⌜ r ≡ firstOut (now (timings .entry)) ⌝ }
+{
     let mut i: usize = 0;
     while i < timings.len() {
         if !timing_in_range(timings[i]) {
@@ -140,6 +163,8 @@ pub fn first_out(timings: &[u32]) -> usize
 }
 
 // The window, its half, and the residuals that a step can leave, in nanoseconds.
+const WHOLE_WINDOW: u32 = 2000;
+
 const WINDOW: i32 = 2000;
 
 const HALF_WINDOW: i32 = 1000;
@@ -166,6 +191,24 @@ fn usable_residual(residual: i32) -> i32
         return 0;
     }
     residual
+}
+
+// A step divides the timing alone, so that it does not wait for the residual before it. The rest of that division and the residual are
+// `part`, a part of the last window: these say whether it makes one cell more, and how far from that cell's centre it is.
+fn cells_in(part: i32) -> u32
+    ensures { λ r. ⌜ ((b : ℕ) → subℕ b 1000 ≡ part → b < 4000 → r ≡ b / 2000) ⌝ }
+{
+    if part < HALF_WINDOW { 0 } else { 1 }
+}
+
+fn offset_in(part: i32) -> i32
+    ensures { λ r. ⌜ ((b : ℕ) → subℕ b 1000 ≡ part → b < 4000 → r ≡ subℕ (b % 2000) 1000) ⌝ }
+{
+    if part < HALF_WINDOW {
+        part
+    } else {
+        part - WINDOW
+    }
 }
 
 // Half of an offset, rounded towards zero.

@@ -1,5 +1,5 @@
 -- `flux::Separator::step` meets its contract. Assumes nothing.
-use Prim.Native.Nat.{ℕ, _≤_}
+use Prim.Native.Nat.{ℕ, _+_, _/_, _≤_}
 use mathlib.Core.Path.{_≡_, sym, _∙_, ap, subst}
 use mathlib.Core.Bool.{true}
 use native.Mathlib.Omega.{arith}
@@ -11,11 +11,11 @@ use lib.Signed.{nonNeg}
 use mir.Syntax.{w32}
 use mir.Val.{Fits}
 use mir.Facts.{toZ-ofZ}
-use Rattle.flux.specs.Rule.{inRange, usable, halved, halfWindow}
+use Rattle.flux.specs.Rule.{inRange, usable, cellsAt, halved, halfWindow}
 use Rattle.flux.proofs.Lifted.{Kept}
 use Rattle.flux.proofs.Timing.{range-of}
 use Rattle.flux.proofs.Residual.{usable-kept}
-use Rattle.flux.proofs.MachineStep.{t-fits, u-fits, sum-fits, n-fits, windows-fits, e-fits, n-is, e-is, cells-small}
+use Rattle.flux.proofs.MachineStep.{part-fits, part-is, part-small, n-is, e-is, cells-small}
 use Rattle.flux.proofs.Stepping.{step-refused, step-taken}
 use Rattle.flux.proofs.Separator.step.Statement.{statement}
 use Rattle.flux.proofs.Separator.step.Tie as tie
@@ -42,40 +42,40 @@ short c = range-of (T₀ c) (ranged c) .1
 kept : (c : tie.After-usable-residual) → Kept halfWindow (c .usable-residual .result)
 kept c = subst (Kept halfWindow) (sym (c .usable-residual .ensures)) (usable-kept _)
 
-cast-u : tie.Need-cast-u
-cast-u c = t-fits (T₀ c) (short c) _ (kept c)
+cast-part : tie.Need-cast-part
+cast-part c = search needs
 
-add-u : tie.Need-add-u
-add-u c = u-fits (T₀ c) (short c) _ (kept c)
+add-part : tie.Need-add-part
+add-part c = part-fits (T₀ c) (short c) _ (kept c)
 
-add-n : tie.Need-add-n
-add-n c = sum-fits (T₀ c) (short c) _ (kept c)
+cells-in-requires : tie.Need-cells-in-requires
+cells-in-requires c κs = search needs
 
-div-n : tie.Need-div-n
-div-n c = (omega arith, n-fits (T₀ c) (short c) _ (kept c))
+-- the cells of the timing alone and of the part
+n-cells : (c : tie.After-cells-in) → T₀ (c .before) / 2000 + c .cells-in .result ≡ cellsAt halfWindow (c .before .usable-residual .result) (T₀ (c .before))
+n-cells c =
+    let a = c .before in
+    ap (λ (k : ℕ). T₀ a / 2000 + k) (c .cells-in .ensures _ (part-is (T₀ a) (short a) _ (kept a)) (part-small (T₀ a) (short a) _ (kept a)))
+    ∙ n-is (T₀ a) (short a) _ (kept a)
 
-mul-e : tie.Need-mul-e
-mul-e c = windows-fits (T₀ c) (short c) _ (kept c)
+add-cells : tie.Need-add-cells
+add-cells c =
+    let a = c .before in
+    record { fits = omega (arith, n-cells c, cells-small (T₀ a) (short a) _ (kept a)) }
 
-sub-e : tie.Need-sub-e
-sub-e c = e-fits (T₀ c) (short c) _ (kept c)
-
-cast-cells : tie.Need-cast-cells
-cast-cells c =
-    let k = cells-small (T₀ c) (short c) _ (kept c) in
-    subst (λ (z : ℤ). T (nonNeg z) × Fits w32 (natAbs z)) (sym (n-is (T₀ c) (short c) _ (kept c))) (tt, record { fits = omega arith })
+offset-in-requires : tie.Need-offset-in-requires
+offset-in-requires c κs = search needs
 
 half-requires : tie.Need-half-requires
 half-requires c κs = search needs
 
 returns-2 : tie.Need-returns-2
 returns-2 c =
-    let a = c .before in
+    let a = c .before .before .before in
     let held = toZ-ofZ (record { sfits = a .before .struct-told .given .0 .1 }) in
     let r = a .usable-residual .ensures ∙ ap usable held in
-    step-taken _ _ (ranged a) r
-    (ap natAbs (n-is (T₀ a) (short a) _ (kept a)))
-    (toZ-ofZ (record { sfits = c .half .ok }) ∙ c .half .ensures ∙ ap halved (e-is (T₀ a) (short a) _ (kept a)))
+    let e = c .before .offset-in .ensures _ (part-is (T₀ a) (short a) _ (kept a)) (part-small (T₀ a) (short a) _ (kept a)) ∙ e-is (T₀ a) (short a) _ (kept a) in
+    step-taken _ _ (ranged a) r (n-cells (c .before .before)) (toZ-ofZ (record { sfits = c .half .ok }) ∙ c .half .ensures ∙ ap halved (toZ-ofZ (record { sfits = c .before .offset-in .ok }) ∙ e))
 
 pub step-spec : {M : Type 1} → statement M
 step-spec =
@@ -84,12 +84,10 @@ step-spec =
     timing-in-range-requires
     returns
     usable-residual-requires
-    cast-u
-    add-u
-    add-n
-    div-n
-    mul-e
-    sub-e
-    cast-cells
+    cast-part
+    add-part
+    cells-in-requires
+    add-cells
+    offset-in-requires
     half-requires
     returns-2)
