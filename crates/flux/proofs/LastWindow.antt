@@ -1,4 +1,4 @@
--- A part of a timing, by the test of half a window: b stands for b - 1000. Assumes nothing.
+-- A reading z without the whole windows of its timing, by the test of half a window: z is b - 1000, `subℕ b 1000`. Assumes nothing.
 use Prim.Native.Nat.{ℕ, _+_, _%_, _≤_, _<_}
 use mathlib.Core.Path.{_≡_, sym, _∙_, ap, subst}
 use mathlib.Core.Bool.{true, false}
@@ -6,7 +6,7 @@ use mathlib.Core.Logic.{⊎-elim}
 use native.Mathlib.Omega.{arith}
 use lib.Dec.{T}
 use lib.IntN.{ℤ, pos, negsuc, subℕ, _-ℤ_}
-use lib.Signed.{leZ, ltZ, mag}
+use lib.Signed.{leZ, ltZ}
 use mir.Syntax.{w32}
 use mir.Val.{SFits}
 use Rattle.flux.proofs.Differences.{lt-or-le, sub-same, pos-sub, minus-sub, sub-parts}

@@ -1,5 +1,5 @@
--- The machine's signed arithmetic in a step: each number that it makes is the rule's, and fits an `i32`. Assumes nothing.
-use Prim.Native.Nat.{ℕ, zero, suc, _+_, _*_, _/_, _%_, _≤_, _<_}
+-- The machine's arithmetic in a step: each number that it makes is the rule's, and a signed one fits an `i32`. Assumes nothing.
+use Prim.Native.Nat.{ℕ, zero, suc, _+_, _/_, _%_, _≤_, _<_}
 use mathlib.Core.Path.{_≡_, sym, _∙_, ap, subst}
 use native.Mathlib.Omega.{arith}
 use lib.IntN.{ℤ, pos, negsuc, negℤ, subℕ, _+ℤ_}
@@ -39,13 +39,10 @@ module _ (t : ℕ) (short : t ≤ 10000000) (r : ℤ) (kept : Kept halfWindow r)
   fits-sub : (m : ℕ) → m < 2147483648 → SFits w32 (subℕ m 1000)
   fits-sub m k = record { sfits = mag-sub m 1000 2147483648 k (omega arith) }
 
-  fits-pos : (m : ℕ) → m < 2147483648 → SFits w32 (pos m)
-  fits-pos m k = record { sfits = k }
-
   r-fits : SFits w32 r
   r-fits = let h = bound in subst (SFits w32) (kept .is) (fits-sub b (omega arith))
 
-  -- the rest of the timing's division by a window, and the residual
+  -- u without the timing's whole windows
   abbrev part : ℤ
   part = toZ w32 (t % 2000) +ℤ readBack r
 
@@ -71,7 +68,7 @@ module _ (t : ℕ) (short : t ≤ 10000000) (r : ℤ) (kept : Kept halfWindow r)
   pub cells-small : cellsAt halfWindow r t ≤ 5000
   cells-small = let h = bound in omega (arith, cells-are)
 
-  -- the windows of the timing alone, and what the part adds
+  -- the timing's whole windows, and what the part adds: n, and e
   pub n-is : t / 2000 + (t % 2000 + b) / 2000 ≡ cellsAt halfWindow r t
   n-is = omega (arith, cells-are)
 

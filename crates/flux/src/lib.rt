@@ -84,8 +84,9 @@ impl Separator {
         }
         let residual = self.residual;
         let r = usable_residual(residual);
-        let part = ((timing % WHOLE_WINDOW) as i32) + r;
-        let cells = timing / WHOLE_WINDOW + cells_in(part);
+        // 01's u without the timing's whole windows: a division of u would make each step wait for the one before it.
+        let part = ((timing % TIMING_WINDOW) as i32) + r;
+        let cells = timing / TIMING_WINDOW + cells_in(part);
         let e = offset_in(part);
         let next = Separator { residual: half(e) };
         Stepped {
@@ -134,8 +135,26 @@ pub fn first_out(timings: &[u32]) -> usize
     search_out(timings)
 }
 
-// Whether every timing is in its range. No turn of the loop can be the last before the end, so that the compiler can test several
-// timings at once.
+// The window, of a timing and of an offset, its half, and the residuals that a step can leave, in nanoseconds.
+const TIMING_WINDOW: u32 = 2000;
+
+const WINDOW: i32 = 2000;
+
+const HALF_WINDOW: i32 = 1000;
+
+const LEAST_RESIDUAL: i32 = -500;
+
+const MOST_RESIDUAL: i32 = 499;
+
+// Whether a timing is in its range.
+fn timing_in_range(timing: u32) -> bool
+    ensures { λ r. ⌜ r ≡ inRange timing ⌝ }
+{
+    (SHORTEST_TIMING <= timing) & (timing <= LONGEST_TIMING)
+}
+
+// Whether every timing is in its range. The loop goes on to the end whatever it finds, so that the compiler can test several timings
+// at once.
 fn all_in_range(timings: &[u32]) -> bool
     ensures { λ r. ⌜ (r ≡ true → firstOut (now (timings .entry)) ≡ length (now (timings .entry))) ⌝ }
 {
@@ -162,24 +181,6 @@ fn search_out(timings: &[u32]) -> usize
     i
 }
 
-// The window, its half, and the residuals that a step can leave, in nanoseconds.
-const WHOLE_WINDOW: u32 = 2000;
-
-const WINDOW: i32 = 2000;
-
-const HALF_WINDOW: i32 = 1000;
-
-const LEAST_RESIDUAL: i32 = -500;
-
-const MOST_RESIDUAL: i32 = 499;
-
-// Whether a timing is in its range.
-fn timing_in_range(timing: u32) -> bool
-    ensures { λ r. ⌜ r ≡ inRange timing ⌝ }
-{
-    (SHORTEST_TIMING <= timing) & (timing <= LONGEST_TIMING)
-}
-
 // A residual that is outside -500 to 499 counts as 0.
 fn usable_residual(residual: i32) -> i32
     ensures { λ r. ⌜ r ≡ usable residual ⌝ }
@@ -193,14 +194,14 @@ fn usable_residual(residual: i32) -> i32
     residual
 }
 
-// A step divides the timing alone, so that it does not wait for the residual before it. The rest of that division and the residual are
-// `part`, a part of the last window: these say whether it makes one cell more, and how far from that cell's centre it is.
+// The cells of a reading without the whole windows of its timing: none below half a window, else one.
 fn cells_in(part: i32) -> u32
     ensures { λ r. ⌜ ((b : ℕ) → subℕ b 1000 ≡ part → b < 4000 → r ≡ b / 2000) ⌝ }
 {
     if part < HALF_WINDOW { 0 } else { 1 }
 }
 
+// The offset of such a reading.
 fn offset_in(part: i32) -> i32
     ensures { λ r. ⌜ ((b : ℕ) → subℕ b 1000 ≡ part → b < 4000 → r ≡ subℕ (b % 2000) 1000) ⌝ }
 {

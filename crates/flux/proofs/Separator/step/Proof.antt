@@ -5,11 +5,6 @@ use mathlib.Core.Bool.{true}
 use native.Mathlib.Omega.{arith}
 use borrow.Author.Needs.{needs}
 use borrow.Author.Tests.{not-true, not-false}
-use lib.Dec.{T}
-use lib.IntN.{ℤ, natAbs}
-use lib.Signed.{nonNeg}
-use mir.Syntax.{w32}
-use mir.Val.{Fits}
 use mir.Facts.{toZ-ofZ}
 use Rattle.flux.specs.Rule.{inRange, usable, cellsAt, halved, halfWindow}
 use Rattle.flux.proofs.Lifted.{Kept}
