@@ -2,15 +2,15 @@
  * The library's routines for C and C++. Link target/staticlib/libthikbromu.a, which `rt staticlib thikbromu` writes.
  *
  * "01" is the scope paper, docs/01-scope.md. What each routine gives is proved; the statements are the `ensures` clauses in
- * crates/thikbromu/src/lib.rt. That these declarations are its own is not proved: .ci/bindings compares the names and calls every routine.
+ * crates/thikbromu/src. That these declarations are its own is not proved: .ci/bindings compares the names and calls every routine.
  *
  * Answers. A routine that 01 refuses some calls of returns 0 where it accepts the call, else the refusal's number
  * (enum thikbromu_refusal). At `value` it stores what the call gives, or what the refusal gives also. Beside a refusal nothing else is
- * written, but that a record or a count table is set to zeros. The refusals of a routine are judged in the order in which its comment
- * names them, and the first that holds is given.
+ * written, but that a record or a count table is set to zeros, and that the cells of a file which thikbromu_file_finish refuses are cleared.
+ * The refusals of a routine are judged in the order in which its comment names them, and the first that holds is given.
  *
  * What a caller must see to:
- * - each address is valid for its length, counted in elements; it is not NULL, also where the length is 0;
+ * - each address is valid for its length, counted in elements, and aligned for its type; it is not NULL, also where the length is 0;
  * - memory that a routine writes overlaps nothing else that is passed to it;
  * - a bool is 0 or 1.
  * Nothing is asked of the values: every number, and all contents of the memory, have an answer.
@@ -131,8 +131,8 @@ uint64_t thikbromu_cell(const uint8_t *bytes, size_t length, size_t n, size_t p)
 /* The word of k cells from p, the first of them its highest bit; a k above 64 counts as 64. */
 uint64_t thikbromu_word(const uint8_t *bytes, size_t length, size_t n, size_t p, size_t k);
 
-/* The least place from `from` and before `to`, counted on past n, at which the word x of k cells stands. Where there is none, the greater
- * of the two. */
+/* The least place from `from` and before `to`, counted on past n, at which the word x of k cells stands; a k above 64 counts as 64.
+ * Where there is none, the greater of the two. */
 size_t thikbromu_find_word(const uint8_t *bytes, size_t length, size_t n, uint64_t x, size_t k, size_t from, size_t to);
 
 /* Sets the first k bytes, or all where there are fewer, to 0. */
@@ -204,12 +204,14 @@ uint32_t thikbromu_finding_records(const uint8_t *bytes, size_t length, size_t n
 /*
  * A track file, taken in portions that are cut anywhere between two bytes: start, then feed for each portion, then finish or listing. The
  * caller keeps the state, thirteen numbers or more, and the cells, 16,384 bytes or more, from call to call, and lends both to each; nothing
- * is asked of what they hold. A state of fewer numbers is not written, and counts, as one that no call leaves, as a file that is refused
- * with 15.
+ * is asked of what they hold. A state of fewer numbers is not written. It counts as a file that is refused with 15, and so do numbers that
+ * are those of no reader. Other numbers that no call leaves are taken as the reader that they make up: what the calls then answer says
+ * nothing of a file.
  *
  * Refusals of a file: 10 (with 16,384) at once where the cells have too little room, and then nothing is written to them; 15 at once where
  * the place count is not 2; 2 at once for a cell count above 131,072; 7 at once for a flux count above 65,536. Otherwise 15 is judged over
- * the whole file, then 8, 9. The track, the side and fewer than 20,000 cells are not judged here: the routines on a track do that.
+ * the whole file, then 8, 9. thikbromu_file_finish does not judge the track, the side and fewer than 20,000 cells: the routines on a track
+ * do. thikbromu_file_listing refuses as thikbromu_listing does, after these.
  */
 /* The beginning, before any byte: clears the cells. */
 void thikbromu_file_start(uint64_t *state, size_t numbers, uint8_t *cells, size_t room);

@@ -5,8 +5,8 @@
 //! A track is `cells` cells at the front of `packed`, eight to a byte, highest bit first; `track` and `side` are the drive's. Cells past
 //! the bytes are zeros, and so is every cell of a track of none.
 //!
-//! A call that 01 refuses writes nothing, but that a record or a count table beside a refusal is all zeros, and that a refused file leaves
-//! zeros for its cells.
+//! A call that 01 refuses writes nothing, but that a record or a count table beside a refusal is all zeros, and that a file which
+//! [`file_finish`] refuses leaves zeros for its cells, unless they have too little room: then they are kept.
 //!
 //! ```
 //! use thikbromu::boundary::{finding_records, FindingRecord};
@@ -201,8 +201,8 @@ pub fn word(packed: &[u8], cells: usize, place: usize, length: usize) -> u64 {
     unsafe { thikbromu_word(packed.as_ptr(), packed.len(), cells, place, length) }
 }
 
-/// The least place from `from` and before `to`, counted on past the index, at which the word of `length` cells stands. Where there is
-/// none, the greater of the two.
+/// The least place from `from` and before `to`, counted on past the index, at which the word of `length` cells stands; a length above
+/// 64 counts as 64. Where there is none, the greater of the two.
 #[inline]
 pub fn find_word(packed: &[u8], cells: usize, word: u64, length: usize, from: usize, to: usize) -> usize {
     // SAFETY: the address and the length are those of one slice, which is only read.
@@ -426,8 +426,9 @@ pub fn finding_records(
 ///
 /// The file is taken in portions that are cut anywhere between two bytes: `file_start`, then [`file_feed`] for each portion, then
 /// [`file_finish`] or [`file_listing`]. The caller keeps the state, thirteen numbers or more, and the packed cells, 16,384 bytes or more,
-/// from call to call. A state of fewer numbers is not written, and counts, as one that no call leaves, as a file that is refused with
-/// [`NotATrackFile`](Refusal::NotATrackFile). [`TrackFile`](crate::TrackFile) keeps both itself.
+/// from call to call. A state of fewer numbers is not written. It counts as a file that is refused with
+/// [`NotATrackFile`](Refusal::NotATrackFile), and so do numbers that are those of no reader. Other numbers that no call leaves are taken as
+/// the reader that they make up: what the calls then answer says nothing of a file. [`TrackFile`](crate::TrackFile) keeps both itself.
 #[inline]
 pub fn file_start(state: &mut [u64], packed: &mut [u8]) {
     // SAFETY: each address and length are those of one slice, lent to this call alone.
@@ -474,7 +475,8 @@ pub fn file_finish(state: &[u64], packed: &mut [u8], place: &mut [u32]) -> Resul
 }
 
 /// The end of a track file, in place of [`file_finish`]: its listing at the front of `out`, or as much as there is room for. Gives the
-/// length of the whole, which is at most [`LONGEST_LISTING`](crate::LONGEST_LISTING). A refused file gives "refused" and a number.
+/// length of the whole, which is at most [`LONGEST_LISTING`](crate::LONGEST_LISTING). A refused file gives "refused", a
+/// space, the number and a line end.
 #[inline]
 pub fn file_listing(state: &[u64], packed: &mut [u8], out: &mut [u8]) -> usize {
     // SAFETY: each address and length are those of one slice; `packed` and `out` are lent to this call alone.

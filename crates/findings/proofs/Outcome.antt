@@ -10,9 +10,9 @@ use lib.ListN.{length, take, drop, length-take}
 use lib.Seq.{take-all}
 use Rattle.basis.specs.Lists.{joined}
 use Rattle.cells.specs.CellsAndBytes.{cell, bytesFor}
-use Rattle.findings.specs.Calls.{findingsAnswer, written, numbersOf}
+use Rattle.findings.specs.Calls.{findingsAnswer, numbersOf}
 use Rattle.findings.specs.Findings.{levels, found, ofKind, findingsOf}
-use Rattle.findings.specs.PrivateContracts.{kinds, sectorsIn, Added}
+use Rattle.findings.specs.PrivateContracts.{countWritten, kinds, sectorsIn, Added}
 use Rattle.findings.specs.declared.Finding.{Finding}
 use Rattle.findings.proofs.Bounds.{sectors-kept}
 use Rattle.findings.proofs.MostFindings.{few-findings}
@@ -66,27 +66,27 @@ findings-few bytes N T few = few-findings (cell bytes N) N T (sectorsOf bytes N)
 module _ (bytes : List ℕ) (N T H room : ℕ) where
   pub plan-refused : (number value : ℕ) → refused number value ≡ findingsAnswer bytes N T H room
       → (refused number value ≡ findingsAnswer bytes N T H room)
-      × ((0 ≡ written (findingsAnswer bytes N T H room)) × ((_≡_ {A = List ℕ} [] (numbersOf [])) × ((0 ≤ 901) × (0 ≤ room))))
+      × ((0 ≡ countWritten (findingsAnswer bytes N T H room)) × ((_≡_ {A = List ℕ} [] (numbersOf [])) × ((0 ≤ 901) × (0 ≤ room))))
   unfolding numbersOf
-  plan-refused number value e = (e, (ap written e, (refl, (omega arith, omega arith))))
+  plan-refused number value e = (e, (ap countWritten e, (refl, (omega arith, omega arith))))
 
   module _ (m : ℕ) (e : sectorsAnswer bytes N T H ≡ gives m) (few : length (sectorsOf bytes N) ≤ 64) (numbers : List ℕ) (count : ℕ) (added : Added [] 0 (findingsOf bytes N T) numbers count) where
     pub plan-too-short : room < count
         → (refused 5 count ≡ findingsAnswer bytes N T H room)
-        × ((0 ≡ written (findingsAnswer bytes N T H room)) × ((_≡_ {A = List ℕ} [] (numbersOf [])) × ((0 ≤ 901) × (0 ≤ room))))
+        × ((0 ≡ countWritten (findingsAnswer bytes N T H room)) × ((_≡_ {A = List ℕ} [] (numbersOf [])) × ((0 ≤ 901) × (0 ≤ room))))
     plan-too-short h =
         let is : count ≡ length (findingsOf bytes N T) = omega (arith, added .count) in
         plan-refused 5 count (rw is (list-too-short bytes N T H m e room (omega arith)))
 
     pub plan-in-room : count ≤ room
         → (gives count ≡ findingsAnswer bytes N T H room)
-        × ((count ≡ written (findingsAnswer bytes N T H room))
+        × ((count ≡ countWritten (findingsAnswer bytes N T H room))
         × ((take (4 * count) numbers ≡ numbersOf (take count (findingsOf bytes N T))) × ((count ≤ 901) × (count ≤ room))))
     plan-in-room h =
         let fs = findingsOf bytes N T in
         let is : count ≡ length fs = omega (arith, added .count) in
         let g : gives count ≡ findingsAnswer bytes N T H room = rw is (list-in-room bytes N T H m e room (omega arith)) in
-        (g, (ap written g, (added .front ∙ ap numbersOf (sym (take-all count fs (omega arith))), (omega (arith, findings-few bytes N T few), h))))
+        (g, (ap countWritten g, (added .front ∙ ap numbersOf (sym (take-all count fs (omega arith))), (omega (arith, findings-few bytes N T few), h))))
 
 -- an answer gives k or refuses
 data Judged (k : ℕ) : Answer ℕ → Type 0 where
@@ -108,13 +108,13 @@ judged bytes N T H room =
 
 -- as many numbers are there as are to be written, and writing them is what the call promises
 module _ (fs : List Finding) (numbers list : List ℕ) where
-  enough : (answer : Answer ℕ) → Judged (length fs) answer → (count : ℕ) → count ≡ written answer → take (4 * count) numbers ≡ numbersOf (take count fs)
+  enough : (answer : Answer ℕ) → Judged (length fs) answer → (count : ℕ) → count ≡ countWritten answer → take (4 * count) numbers ≡ numbersOf (take count fs)
       → 4 * count ≤ length numbers
   enough answer accepts count e front =
       omega (arith, ap length front, length-take (4 * count) numbers, length-numbers (take count fs), length-take count fs)
   enough answer (refuses number value) count e front = omega arith
 
-  after : (answer : Answer ℕ) → Judged (length fs) answer → (count : ℕ) → count ≡ written answer → take (4 * count) numbers ≡ numbersOf (take count fs)
+  after : (answer : Answer ℕ) → Judged (length fs) answer → (count : ℕ) → count ≡ countWritten answer → take (4 * count) numbers ≡ numbersOf (take count fs)
       → take (4 * count) numbers ++ drop (4 * count) list ≡ bufferAfter answer (numbersOf fs) list
   unfolding bufferAfter
   after answer accepts count e front =
@@ -122,25 +122,25 @@ module _ (fs : List Finding) (numbers list : List ℕ) where
       rw (front, take-all count fs (omega arith), n)
   after answer (refuses number value) count e front = rw e
 
-few : (fs : List Finding) (answer : Answer ℕ) → Judged (length fs) answer → written answer ≤ length fs
+few : (fs : List Finding) (answer : Answer ℕ) → Judged (length fs) answer → countWritten answer ≤ length fs
 few fs answer accepts = omega arith
 few fs answer (refuses number value) = omega arith
 
-pub written-few : (bytes : List ℕ) (N T H room : ℕ) → written (findingsAnswer bytes N T H room) ≤ length (findingsOf bytes N T)
+pub written-few : (bytes : List ℕ) (N T H room : ℕ) → countWritten (findingsAnswer bytes N T H room) ≤ length (findingsOf bytes N T)
 written-few bytes N T H room = few (findingsOf bytes N T) (findingsAnswer bytes N T H room) (judged bytes N T H room)
 
 -- the same of the findings themselves
-front : (fs list : List Finding) (answer : Answer ℕ) → Judged (length fs) answer → take (written answer) fs ++ drop (written answer) list ≡ bufferAfter answer fs list
+front : (fs list : List Finding) (answer : Answer ℕ) → Judged (length fs) answer → take (countWritten answer) fs ++ drop (countWritten answer) list ≡ bufferAfter answer fs list
 unfolding bufferAfter
 front fs list answer accepts = rw (take-all (length fs) fs (omega arith))
 front fs list answer (refuses number value) = refl
 
 pub findings-written : (bytes : List ℕ) (N T H room : ℕ) (list : List Finding)
-    → take (written (findingsAnswer bytes N T H room)) (findingsOf bytes N T) ++ drop (written (findingsAnswer bytes N T H room)) list
+    → take (countWritten (findingsAnswer bytes N T H room)) (findingsOf bytes N T) ++ drop (countWritten (findingsAnswer bytes N T H room)) list
     ≡ bufferAfter (findingsAnswer bytes N T H room) (findingsOf bytes N T) list
 findings-written bytes N T H room list = front (findingsOf bytes N T) list (findingsAnswer bytes N T H room) (judged bytes N T H room)
 
-module _ (bytes : List ℕ) (N T H room count : ℕ) (numbers : List ℕ) (e : count ≡ written (findingsAnswer bytes N T H room))
+module _ (bytes : List ℕ) (N T H room count : ℕ) (numbers : List ℕ) (e : count ≡ countWritten (findingsAnswer bytes N T H room))
     (front : take (4 * count) numbers ≡ numbersOf (take count (findingsOf bytes N T))) where
   pub numbers-enough : 4 * count ≤ length numbers
   numbers-enough = enough (findingsOf bytes N T) numbers numbers (findingsAnswer bytes N T H room) (judged bytes N T H room) count e front

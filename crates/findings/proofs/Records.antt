@@ -15,9 +15,9 @@ use Rattle.basis.proofs.Lists.{is-listed, listed-more}
 use Rattle.basis.proofs.Tables.{below, passes-below}
 use Rattle.refusals.specs.RefusedCalls.{Answer, bufferAfter}
 use Rattle.refusals.specs.RefusedCalls.Answer.{gives, refused}
-use Rattle.findings.specs.Calls.{findingsAnswer, listAfter, numbersOf, written}
+use Rattle.findings.specs.Calls.{findingsAnswer, listAfter, numbersOf}
 use Rattle.findings.specs.Findings.{levels, findingOf, ofKind, findingsOf}
-use Rattle.findings.specs.PrivateContracts.{findingAt}
+use Rattle.findings.specs.PrivateContracts.{countWritten, findingAt}
 use Rattle.findings.specs.Rules.{Hit}
 use Rattle.findings.specs.declared.Finding.{Finding}
 use Rattle.findings.proofs.Outcome.{findings-follow}
@@ -106,11 +106,11 @@ Counts all room (gives count) = (count ≡ all) × (count ≤ room)
 Counts all room (refused number value) = Unit {0}
 
 module _ (xs list : List Finding) where
-  few-written : (a : Answer ℕ) → Counts (length xs) (length list) a → written a ≤ length xs
+  few-written : (a : Answer ℕ) → Counts (length xs) (length list) a → countWritten a ≤ length xs
   few-written (gives count) e = omega (arith, e .0)
   few-written (refused number value) e = omega arith
 
-  after-is : (a : Answer ℕ) → Counts (length xs) (length list) a → take (written a) xs ++ drop (written a) list ≡ bufferAfter a xs list
+  after-is : (a : Answer ℕ) → Counts (length xs) (length list) a → take (countWritten a) xs ++ drop (countWritten a) list ≡ bufferAfter a xs list
   unfolding bufferAfter
   after-is (gives count) e = rw (take-all count xs (omega (arith, e .0)), e .0)
   after-is (refused number value) e = refl
@@ -132,7 +132,7 @@ module _ (bytes : List ℕ) (N T H : ℕ) where
   findings-narrow = narrow-kinds _ 21 (omega arith)
 
   -- the caller's list after as many stores as the answer has the call write
-  pub list-is : (list : List Finding) (numbers : List ℕ) (c : ℕ) → c ≡ written (findingsAnswer bytes N T H (length list)) → c ≤ length list
+  pub list-is : (list : List Finding) (numbers : List ℕ) (c : ℕ) → c ≡ countWritten (findingsAnswer bytes N T H (length list)) → c ≤ length list
       → take (4 * c) numbers ≡ numbersOf (take c (findingsOf bytes N T)) → filled (findingAt numbers) list c ≡ listAfter bytes N T H list
   list-is list numbers c e h n =
       let a = findingsAnswer bytes N T H (length list) in

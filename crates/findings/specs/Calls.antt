@@ -27,11 +27,6 @@ findingsAnswer bytes N T H room =
     (countJudged (length (sectorsOf bytes N))
     (cond (ltb room (length (findingsOf bytes N T))) (refused 5 (length (findingsOf bytes N T))) (gives (length (findingsOf bytes N T)))))
 
--- how many findings an answer says are written: none beside a refusal
-abbrev pub written : Answer ℕ → ℕ
-written (gives count) = count
-written (refused number value) = 0
-
 -- the caller's list of finding records afterwards
 abbrev pub listAfter : List ℕ → (N T H : ℕ) → List Finding → List Finding
 listAfter bytes N T H list = bufferAfter (findingsAnswer bytes N T H (length list)) (findingsOf bytes N T) list

@@ -13,6 +13,8 @@ use Rattle.findings.specs.Calls.{numbersOf}
 use Rattle.findings.specs.declared.Finding.{Finding}
 use Rattle.findings.specs.declared.cell_rules.Gaps.{Gaps}
 use Rattle.findings.specs.declared.rules.Seen.{Seen}
+use Rattle.refusals.specs.RefusedCalls.{Answer}
+use Rattle.refusals.specs.RefusedCalls.Answer.{gives, refused}
 use Rattle.sectors.specs.Sectors.{noSector}
 use Rattle.sectors.specs.declared.Sector.{Sector}
 use Rattle.sectors.specs.declared.Sectors.{Sectors}
@@ -96,3 +98,8 @@ findingAt numbers i =
       place = getD numbers (4 * i + 2) 0;
       detail = getD numbers (4 * i + 3) 0;
     }
+
+-- how many findings an answer says are written: none beside a refusal
+abbrev pub countWritten : Answer ℕ → ℕ
+countWritten (gives count) = count
+countWritten (refused number value) = 0

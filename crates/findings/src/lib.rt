@@ -12,9 +12,9 @@ ghost use mathlib.Core.Path.{_≡_};
 ghost use Prim.Native.Nat.{_+_, _*_, _/_, _%_, _<_, _≤_};
 ghost use mathlib.Core.List.{_++_};
 ghost use lib.ListN.{length, take, drop};
-ghost use Rattle.findings.specs.Calls.{foundAnswer, findingsAnswer, written, numbersOf, numbersAfter};
+ghost use Rattle.findings.specs.Calls.{foundAnswer, findingsAnswer, numbersOf, numbersAfter};
 ghost use Rattle.findings.specs.Findings.{findingsOf};
-ghost use Rattle.findings.specs.PrivateContracts.{findingAt};
+ghost use Rattle.findings.specs.PrivateContracts.{countWritten, findingAt};
 
 // A finding: its kind from 1 to 21, the kind's level, its place in cells, and its detail.
 #[repr(C)]
@@ -62,7 +62,7 @@ fn plan(
     room: usize,
 ) -> Planned
     ensures answer { λ r. ⌜ foundAnswer (r .answer) ≡ findingsAnswer (now (bytes .entry)) n track side room ⌝ }
-    ensures count { λ r. ⌜ r .count ≡ written (findingsAnswer (now (bytes .entry)) n track side room) ⌝ }
+    ensures count { λ r. ⌜ r .count ≡ countWritten (findingsAnswer (now (bytes .entry)) n track side room) ⌝ }
     ensures numbers { λ r. ⌜ take (4 * r .count) (now (numbers .exit)) ≡ numbersOf (take (r .count) (findingsOf (now (bytes .entry)) n track)) ⌝ }
     ensures bounds { λ r. ⌜ (r .count ≤ 901) × (r .count ≤ room) ⌝ }
 {

@@ -22,7 +22,7 @@ use Rattle.track_file.specs.declared.TakenTimings.{TakenTimings}
 use Rattle.track_file.specs.declared.TakenTimings.the-variants.{InRange, OutOfRange}
 use Rattle.track_file.specs.declared.Reader.{Reader}
 use Rattle.track_file.specs.declared.Reader.the-variants.{PlaceCount, Track, Side, CellCount, PackedCells, FluxCount, Timings, AllCells, AllTimings, NotATrackFile, Stopped}
-use Rattle.reader_numbers.specs.Numbers.{kindOf, firstByte, secondByte, thirdByte, lowered, takenKind, takenCount, cellsTaken, takenResidual, row, stateOf, numberFrom, takenFrom, lowRefusal, highRefusal, refusalFrom, earlyFrom, lateFrom, readerFrom, readerAsGiven, atFront, readerOf, stateAfter}
+use Rattle.reader_numbers.specs.Numbers.{bytesHeld, firstByte, secondByte, thirdByte, lowered, takenKind, takenCount, cellsTaken, takenResidual, row, stateOf, numberFrom, takenFrom, lowRefusal, highRefusal, refusalFrom, earlyFrom, lateFrom, readerFrom, readerAsGiven, atFront, readerOf, stateAfter}
 use Rattle.reader_numbers.specs.Portions.{AllBytes, stateAfterAll, bufferAfterAll, stateThrough, bufferThrough}
 use Rattle.reader_numbers.proofs.Held.{HeldPlace, HeldNumber, HeldTaken, Held, held-start, held-after}
 use Rattle.reader_numbers.proofs.Residuals.{raised-small, lowered-raised}
@@ -32,7 +32,7 @@ place-back : (place : Place) → HeldPlace place → record { track = place .tra
 place-back place h = rw (mod-eq-of-lt (h .0), mod-eq-of-lt (h .1))
 
 number-back : (number : Number) → HeldNumber number
-    → numberFrom (kindOf number) (firstByte number % 256) (secondByte number % 256) (thirdByte number % 256) ≡ number
+    → numberFrom (bytesHeld number) (firstByte number % 256) (secondByte number % 256) (thirdByte number % 256) ≡ number
 unfolding numberFrom
 number-back Empty h = refl
 number-back (One a) h = rw (mod-eq-of-lt h)

@@ -16,7 +16,7 @@ use Rattle.track_file.specs.declared.TakenTimings.{TakenTimings}
 use Rattle.track_file.specs.declared.TakenTimings.the-variants.{InRange, OutOfRange}
 use Rattle.track_file.specs.declared.Reader.{Reader}
 use Rattle.track_file.specs.declared.Reader.the-variants.{NotATrackFile, Stopped}
-use Rattle.reader_numbers.specs.Numbers.{kindOf, firstByte, secondByte, thirdByte, lowered, takenKind, takenCount, cellsTaken, takenResidual, row, noPlace, stateOf, numberFrom, takenFrom, readerFrom, readerAsGiven, atFront, readerOf, stateAfter}
+use Rattle.reader_numbers.specs.Numbers.{bytesHeld, firstByte, secondByte, thirdByte, lowered, takenKind, takenCount, cellsTaken, takenResidual, row, noPlace, stateOf, numberFrom, takenFrom, readerFrom, readerAsGiven, atFront, readerOf, stateAfter}
 
 -- the timings taken
 module _ (kind count cells residual : ℕ) where
@@ -29,7 +29,7 @@ module _ (kind count cells residual : ℕ) where
   taken-in e r = rw (ne-eqb kind 0 e) (ap (λ (z : ℤ). InRange count cells (record { residual = z })) r)
 
 -- thirteen numbers
-pub row-made : (phase : ℕ) (place : Place) (count at : ℕ) (number : Number) (taken : TakenTimings) {k a b c t n m r : ℕ} → k ≡ kindOf number
+pub row-made : (phase : ℕ) (place : Place) (count at : ℕ) (number : Number) (taken : TakenTimings) {k a b c t n m r : ℕ} → k ≡ bytesHeld number
     → a ≡ firstByte number → b ≡ secondByte number → c ≡ thirdByte number → t ≡ takenKind taken → n ≡ takenCount taken → m ≡ cellsTaken taken
     → r ≡ takenResidual taken
     → phase ∷ place .track ∷ place .side ∷ count ∷ at ∷ k ∷ a ∷ b ∷ c ∷ t ∷ n ∷ m ∷ r ∷ [] ≡ row phase place count at number taken

@@ -1,13 +1,14 @@
 -- The reader of a track file as thirteen numbers, for callers that cannot hold it:
 --
 --   0      1      2     3              4     5     6 7 8     9      10       11     12
---   phase  track  side  count          at    kind  bytes     taken  timings  cells  residual
+--   phase  track  side  count          at    held  bytes     taken  timings  cells  residual
 --                       or refusal                                  or value
 --
--- Number 0 tells the phase, 0 to 10 in the reader's order; 5 how many bytes of a count or a timing are read, and 6 to 8 are these bytes; 9
--- is 1 where all timings so far are in range. What a phase does not hold is 0. A refusal goes as its number in 01's table and what it
--- gives also. The main property: the numbers of a reader, with any numbers after them, give that reader (`read-back`, in proofs/Laws),
--- and numbers that are no reader's give a file that is refused with 15. Assumes nothing.
+-- Number 0 tells the phase, 0 to 10 in the reader's order; 3 is the cells of the file, or while timings are read how many are left; 5 how
+-- many bytes of a count or a timing are read, and 6 to 8 are these bytes; 9 is 1 where all timings so far are in range, and else 10 is the
+-- index of the first that is not. What a phase does not hold is 0. A refusal goes as its number in 01's table and what it gives also. The
+-- main property: the numbers of a reader that the code can hold, with any numbers after them, give that reader (`read-back`, in
+-- proofs/Laws), and numbers that are no reader's give a file that is refused with 15. Assumes nothing.
 use Prim.Native.Nat.{ℕ, _%_}
 use mathlib.Core.Bool.{Bool, true, false, cond, _&&_}
 use mathlib.Core.List.{List, [], _∷_}
@@ -27,11 +28,11 @@ use Rattle.track_file.specs.declared.Reader.{Reader}
 use Rattle.track_file.specs.declared.Reader.the-variants.{PlaceCount, Track, Side, CellCount, PackedCells, FluxCount, Timings, AllCells, AllTimings, NotATrackFile, Stopped}
 
 -- a count or a timing of which some bytes are read: how many, and the bytes
-abbrev pub kindOf : Number → ℕ
-kindOf Empty = 0
-kindOf (One a) = 1
-kindOf (Two a b) = 2
-kindOf (Three a b c) = 3
+abbrev pub bytesHeld : Number → ℕ
+bytesHeld Empty = 0
+bytesHeld (One a) = 1
+bytesHeld (Two a b) = 2
+bytesHeld (Three a b c) = 3
 
 abbrev pub firstByte : Number → ℕ
 firstByte Empty = 0
@@ -51,7 +52,7 @@ thirdByte (One a) = 0
 thirdByte (Two a b) = 0
 thirdByte (Three a b c) = c
 
--- a residual goes as itself and 2^31, which is never below 0
+-- a residual goes as the sum of itself and 2^31, which is never below 0
 unfoldable pub raised : ℤ → ℕ
 raised residual = natAbs (residual +ℤ pos 2147483648)
 
@@ -78,7 +79,7 @@ takenResidual (OutOfRange index) = 0
 -- the thirteen numbers, from what they stand for
 unfoldable pub row : ℕ → Place → ℕ → ℕ → Number → TakenTimings → List ℕ
 row phase place count at number taken =
-    phase ∷ place .track ∷ place .side ∷ count ∷ at ∷ kindOf number ∷ firstByte number ∷ secondByte number ∷ thirdByte number ∷ takenKind taken
+    phase ∷ place .track ∷ place .side ∷ count ∷ at ∷ bytesHeld number ∷ firstByte number ∷ secondByte number ∷ thirdByte number ∷ takenKind taken
     ∷ takenCount taken ∷ cellsTaken taken ∷ takenResidual taken ∷ []
 
 -- a place that is not known yet

@@ -8,7 +8,7 @@ ghost use mathlib.Core.Path.{_≡_};
 ghost use Prim.Native.Nat.{_≤_};
 ghost use lib.ListN.{length};
 ghost use Rattle.basis.specs.Lists.{writtenOver};
-ghost use Rattle.reader_numbers.specs.Numbers.{kindOf, firstByte, secondByte, thirdByte, raised, takenKind, takenCount, cellsTaken, takenResidual, row, stateOf, stateAfter};
+ghost use Rattle.reader_numbers.specs.Numbers.{bytesHeld, firstByte, secondByte, thirdByte, raised, takenKind, takenCount, cellsTaken, takenResidual, row, stateOf, stateAfter};
 
 // Keeps a reader's numbers at the front of `state`, where there is room for all of them.
 pub fn keep(reader: Reader, state: &mut [u64])
@@ -88,7 +88,7 @@ fn row(
         place.side as u64,
         count as u64,
         at as u64,
-        kind_of(number),
+        bytes_held(number),
         first_byte(number),
         second_byte(number),
         third_byte(number),
@@ -100,8 +100,8 @@ fn row(
 }
 
 // How many bytes of a count or a timing are read, and these bytes.
-fn kind_of(number: Number) -> u64
-    ensures { λ r. ⌜ r ≡ kindOf number ⌝ }
+fn bytes_held(number: Number) -> u64
+    ensures { λ r. ⌜ r ≡ bytesHeld number ⌝ }
 {
     match number {
         Number::Empty => 0,

@@ -2,7 +2,8 @@
 //
 // A routine that 01 refuses some calls of returns a number: 0 where the call is accepted, else the refusal's number in
 // 01's table. What the call gives, or what the refusal gives also, is stored at `value`; beside a refusal nothing else is written,
-// but that a record or a count table is set to zeros, as 01 says.
+// but that a record or a count table is set to zeros, as 01 says, and that the cells of a file which `thikbromu_file_finish` refuses are
+// cleared.
 //
 // What the boundary asks of a caller in another language: each address is valid for its length, lent memory does not
 // overlap what else is passed, and a bool is 0 or 1. The routines ask nothing of the values.

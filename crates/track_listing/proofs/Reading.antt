@@ -18,7 +18,8 @@ use Rattle.track_file.specs.Portions.{startOf, startCells, readerAfter, cellsAf
 use Rattle.track_file.specs.declared.Reader.{Reader}
 use Rattle.track_file.proofs.Portions.{cells-then}
 use Rattle.track_listing.specs.declared.Input.{Input}
-use Rattle.track_listing.specs.Reading.{bytesRead, endedAfter, oneMore, failuresAfter, inputAfter, TakenRead, OneRead, inputThrough, portionsOf, begun, goesOn, EachNeeded, AllReads, ReadThrough, written, ListedInput}
+use Rattle.track_listing.specs.Reading.{bytesRead, endedAfter, oneMore, failuresAfter, inputAfter, OneRead, inputThrough, portionsOf, begun, goesOn, EachNeeded, AllReads, written, ListedInput}
+use Rattle.track_listing.specs.PrivateContracts.{TakenRead, ReadThrough}
 
 -- the three answers of a read, by the tests on its number
 module _ (reader : Reader) where

@@ -24,10 +24,11 @@ endedAfter (pos zero) reader = true
 endedAfter (pos (suc n)) reader = isStopped reader
 endedAfter (negsuc k) reader = false
 
--- how many reads have failed since one did not; 16 is the most
+-- one more failure, up to 16
 abbrev pub oneMore : ℕ → ℕ
 oneMore failures = cond (ltb failures 16) (failures + 1) failures
 
+-- how many reads have failed since one did not
 unfoldable pub failuresAfter : ℤ → ℕ → ℕ
 failuresAfter (pos n) failures = 0
 failuresAfter (negsuc k) failures = oneMore failures
@@ -41,13 +42,8 @@ inputAfter input got portion =
       failures = failuresAfter got (input .failures);
     }
 
--- one read, that answered some number and left this portion
-pub record TakenRead (input : Input) (portion before : List ℕ) (next : Input) (after : List ℕ) : Type 0 where
-  pub got : ℤ
-  pub input-is : next ≡ inputAfter input got portion
-  pub cells-are : after ≡ cellsAfter (input .reader) (bytesRead got portion) before
-
--- a read: what it answered, and the portion that it left
+-- a read: what it answered, and the portion that it left. The answer is at most the portion's length, by the contract of `read`, which
+-- nothing here needs
 pub record OneRead : Type 0 where
   pub got : ℤ
   pub portion : List ℕ
@@ -75,17 +71,10 @@ unfoldable pub EachNeeded : Input → List OneRead → Type 0
 EachNeeded input [] = Unit
 EachNeeded input (read ∷ reads) = (goesOn input ≡ true) × EachNeeded (inputAfter input (read .got) (read .portion)) reads
 
--- the reads that are made from an input on: none after the end, and none is left out but after 2^64 - 1, which no run takes
+-- the reads that are made from an input on: none after the end, and none missing before it, unless 2^64 - 1 were made, which no run does
 pub record AllReads (first : Input) (reads : List OneRead) : Type 0 where
   pub none-after : EachNeeded first reads
   pub to-end : goesOn (inputThrough first reads) ≡ true → length reads ≡ 18446744073709551615
-
--- what the loop leaves: there are reads that led from its first input to its last
-pub record ReadThrough (first : Input) (before : List ℕ) (last : Input) (after : List ℕ) : Type 0 where
-  pub reads : List OneRead
-  pub all : AllReads first reads
-  pub input-is : last ≡ inputThrough first reads
-  pub cells-are : after ≡ cellsAfterAll (first .reader) (portionsOf reads) before
 
 -- what is written of an input that is read with this cell buffer: where the reads ended it, the listing of the file that their bytes make
 -- up, and else nothing

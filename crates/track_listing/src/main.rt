@@ -10,7 +10,8 @@ ghost use mathlib.Core.Bool.{cond};
 ghost use Prim.Native.Nat.{_-_, _<_, _≤_};
 ghost use lib.ListN.{length};
 ghost use Rattle.track_file.specs.Portions.{cellsAfter};
-ghost use Rattle.track_listing.specs.Reading.{bytesRead, endedAfter, oneMore, failuresAfter, inputAfter, TakenRead, begun, goesOn, ReadThrough, ListedInput};
+ghost use Rattle.track_listing.specs.Reading.{bytesRead, endedAfter, oneMore, failuresAfter, inputAfter, begun, goesOn, ListedInput};
+ghost use Rattle.track_listing.specs.PrivateContracts.{TakenRead, ReadThrough};
 
 // A read that fails may have been interrupted, so it is tried again, but not for ever.
 const MOST_FAILURES: u32 = 16;

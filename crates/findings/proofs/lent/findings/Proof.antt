@@ -55,9 +55,9 @@ use denote.Triple.Clauses.{ensured, lasts}
 use denote.Triple.Table.{entered, cited}
 use denote.Triple.Walked.{says, Stays, stay-slice, stay-none-slice, stay-none, walkOf, AllGo, goes-slice, goes-none-slice, goes-none, Walks, ends-at, walked, walk-meets}
 use denote.Exit.{yes}
-use Rattle.findings.specs.Calls.{findingsAnswer, numbersOf, written}
+use Rattle.findings.specs.Calls.{findingsAnswer, numbersOf}
 use Rattle.findings.specs.Findings.{findingsOf}
-use Rattle.findings.specs.PrivateContracts.{findingAt}
+use Rattle.findings.specs.PrivateContracts.{countWritten, findingAt}
 use Rattle.findings.specs.declared.Finding.{Finding}
 use Rattle.findings.specs.declared.Planned.{Planned}
 use Rattle.findings.proofs.Finding as T
@@ -160,7 +160,7 @@ module _ {M : Type 1} (𝓤 : URA M) (H : Heap 𝓤) (A : Atoms 𝓤) (W : Given
 
   -- what `plan` ensures of the plan p and of the numbers ns
   abbrev Counted : Planned → Type 0
-  Counted p = p .count ≡ written (findingsAnswer (y .now) n track side (length xs))
+  Counted p = p .count ≡ countWritten (findingsAnswer (y .now) n track side (length xs))
 
   abbrev Listed : Planned → List ℕ → Type 0
   Listed p ns = take (4 * p .count) ns ≡ numbersOf (take (p .count) (findingsOf (y .now) n track))

@@ -10,8 +10,8 @@ cast-t7 c = search needs
 cast-t8 : tie.Need-cast-t8
 cast-t8 c = search needs
 
-kind-of-requires : tie.Need-kind-of-requires
-kind-of-requires c κs = search needs
+bytes-held-requires : tie.Need-bytes-held-requires
+bytes-held-requires c κs = search needs
 
 first-byte-requires : tie.Need-first-byte-requires
 first-byte-requires c κs = search needs
@@ -35,7 +35,7 @@ taken-residual-requires : tie.Need-taken-residual-requires
 taken-residual-requires c κs = search needs
 
 returns : tie.Need-returns
-returns c = row-made _ _ _ _ _ _ (c .before .before .before .before .before .before .before .kind-of .ensures) (c .before .before .before .before .before .before .first-byte .ensures) (c .before .before .before .before .before .second-byte .ensures) (c .before .before .before .before .third-byte .ensures) (c .before .before .before .taken-kind .ensures) (c .before .before .taken-count .ensures) (c .before .taken-cells .ensures) (c .taken-residual .ensures)
+returns c = row-made _ _ _ _ _ _ (c .before .before .before .before .before .before .before .bytes-held .ensures) (c .before .before .before .before .before .before .first-byte .ensures) (c .before .before .before .before .before .second-byte .ensures) (c .before .before .before .before .third-byte .ensures) (c .before .before .before .taken-kind .ensures) (c .before .before .taken-count .ensures) (c .before .taken-cells .ensures) (c .taken-residual .ensures)
 
 pub row-spec : {M : Type 1} → statement M
 row-spec =
@@ -43,7 +43,7 @@ row-spec =
     (tie.spec
     cast-t7
     cast-t8
-    kind-of-requires
+    bytes-held-requires
     first-byte-requires
     second-byte-requires
     third-byte-requires
