@@ -11,6 +11,7 @@ use Rattle.flux.specs.declared.Separator.{Separator}
 use Rattle.flux.specs.declared.Taken.{Taken}
 use Rattle.flux.specs.declared.Taken.the-variants.{Cells, Refused}
 use Rattle.refusals.specs.declared.Refusal.{Refusal}
+use Rattle.track_file.specs.TrackFile.{fourBytes}
 use Rattle.track_file.specs.Portions.{numberAfter, countAfter, timingCells, takenStep, takenAfter, stepCells, takenCells}
 use Rattle.track_file.specs.declared.Number.{Number}
 use Rattle.track_file.specs.declared.Number.the-variants.{Empty, One, Two, Three}
@@ -40,9 +41,9 @@ module _ (number : Number) (byte : ℕ) where
   unfolding numberAfter
   third-byte a b e = rw e
 
-  pub fourth-byte : (a b c : ℕ) → number ≡ Three a b c → Whole (a + 256 * b + 65536 * c + 16777216 * byte) ≡ numberAfter number byte
+  pub fourth-byte : (a b c : ℕ) {whole : ℕ} → number ≡ Three a b c → whole ≡ fourBytes a b c byte → Whole whole ≡ numberAfter number byte
   unfolding numberAfter
-  fourth-byte a b c e = rw e
+  fourth-byte a b c e w = rw (e, w)
 
 -- the cells of a timing
 module _ (at n : ℕ) (buffer : List ℕ) where

@@ -4,7 +4,9 @@ use flux::Separator;
 use flux::Taken;
 use refusals::Refusal;
 ghost use mathlib.Core.Path.{_≡_};
-ghost use lib.ListN.{length, set};
+ghost use Prim.Native.Nat.{_≤_};
+ghost use lib.ListN.{length, set, drop};
+ghost use Rattle.track_file.specs.TrackFile.{fourBytes};
 ghost use Rattle.track_file.specs.Portions.{startOf, startCells, readerAfter, cellsAfter, isStopped, AtOnce, readAnswer, finishAnswer, leftAfter, WholeFile, numberAfter, countAfter, timingCells, takenAfter, takenCells, afterPlaceCount, afterCellCount, afterPackedByte, afterFluxCount, afterTiming, readerAfterByte, cellsAfterByte};
 
 // The bytes that a cell buffer must have: room for 131,072 cells.
@@ -79,7 +81,7 @@ pub fn start(cells: &mut [u8]) -> Reader
     Reader::PlaceCount(Number::Empty)
 }
 
-// A portion more of the file.
+// A portion more of the file: byte by byte, and after a byte the whole timings that follow.
 pub fn feed(reader: Reader, portion: &[u8], cells: &mut [u8]) -> Reader
     ensures reader { λ r. ⌜ r ≡ readerAfter reader (now (portion .entry)) ⌝ }
     ensures buffer { λ _. ⌜ now (cells .exit) ≡ cellsAfter reader (now (portion .entry)) (now (cells .entry)) ⌝ }
@@ -88,7 +90,9 @@ pub fn feed(reader: Reader, portion: &[u8], cells: &mut [u8]) -> Reader
     let mut i: usize = 0;
     while i < portion.len() {
         at = feed_byte(at, portion[i], cells);
-        i += 1;
+        let fed = feed_timings(at, portion, i + 1, cells);
+        at = fed.reader;
+        i = fed.to;
     }
     at
 }
@@ -185,6 +189,45 @@ fn clear_refused(read: Read, cells: &mut [u8])
                 cells::clear(cells, room);
             }
         }
+    }
+}
+
+// How far a portion is fed, and the reader there.
+struct FedTo {
+    reader: Reader,
+    to: usize,
+}
+
+// Where a timing begins at byte `from` of a portion: as many as the portion has whole, without the file's last, after which the reader
+// stands elsewhere. Each is taken at once: a reader made anew for each of its bytes took most of the time.
+fn feed_timings(reader: Reader, portion: &[u8], from: usize, cells: &mut [u8]) -> FedTo
+    requires { ⌜ from ≤ length (now portion) ⌝ }
+    ensures on { λ r. ⌜ from ≤ r .to ⌝ }
+    ensures within { λ r. ⌜ r .to ≤ length (now (portion .entry)) ⌝ }
+    ensures reader { λ r. ⌜ readerAfter (r .reader) (drop (r .to) (now (portion .entry))) ≡ readerAfter reader (drop from (now (portion .entry))) ⌝ }
+    ensures buffer { λ r. ⌜ cellsAfter (r .reader) (drop (r .to) (now (portion .entry))) (now (cells .exit)) ≡ cellsAfter reader (drop from (now (portion .entry))) (now (cells .entry)) ⌝ }
+{
+    let Reader::Timings(place, count, number, timings) = reader else {
+        return FedTo { reader, to: from };
+    };
+    let Number::Empty = number else {
+        return FedTo { reader, to: from };
+    };
+    let mut taken = timings;
+    let mut left = count;
+    let mut i = from;
+    while 4 <= portion.len() - i {
+        if left <= 1 {
+            break;
+        }
+        let timing = four_bytes(portion[i], portion[i + 1], portion[i + 2], portion[i + 3]);
+        taken = take_timing(taken, timing, cells);
+        left -= 1;
+        i += 4;
+    }
+    FedTo {
+        reader: Reader::Timings(place, left, Number::Empty, taken),
+        to: i,
     }
 }
 
@@ -392,8 +435,13 @@ fn extend(number: Number, byte: u8) -> Extended
         Number::Empty => Extended::Part(Number::One(byte)),
         Number::One(a) => Extended::Part(Number::Two(a, byte)),
         Number::Two(a, b) => Extended::Part(Number::Three(a, b, byte)),
-        Number::Three(a, b, c) => Extended::Whole(
-            (a as u32) + 256 * (b as u32) + 65_536 * (c as u32) + 16_777_216 * (byte as u32),
-        ),
+        Number::Three(a, b, c) => Extended::Whole(four_bytes(a, b, c, byte)),
     }
+}
+
+// The number of four bytes, low byte first.
+fn four_bytes(a: u8, b: u8, c: u8, d: u8) -> u32
+    ensures { λ r. ⌜ r ≡ fourBytes a b c d ⌝ }
+{
+    (a as u32) + 256 * (b as u32) + 65_536 * (c as u32) + 16_777_216 * (d as u32)
 }
