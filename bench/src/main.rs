@@ -21,8 +21,8 @@ use std::io::{Read, Write};
 use std::path::Path;
 use std::process::{Command, Stdio};
 use std::time::Instant;
-use thikbromu::boundary::{self, FINDING_NUMBERS, SECTOR_NUMBERS};
-use thikbromu::{Separator, HISTOGRAM_COUNTS, MOST_FINDINGS};
+use thikbromu::boundary::{self, FILE_NUMBERS, FINDING_NUMBERS, SECTOR_NUMBERS};
+use thikbromu::{Separator, HISTOGRAM_COUNTS, LONGEST_LISTING, MOST_CELL_BYTES, MOST_FINDINGS};
 
 /// The time of one call, in microseconds, over some calls.
 fn time<T>(calls: usize, work: &mut impl FnMut() -> T) -> f64 {
@@ -173,6 +173,24 @@ fn listing_sectors(name: &str, bytes: &[u8], n: usize) {
     );
 }
 
+/// The listing of a whole file that is in memory, without a process of its own.
+fn listing_in_memory(name: &str, file: &[u8]) {
+    let mut state = [0; FILE_NUMBERS];
+    let mut packed = [0; MOST_CELL_BYTES];
+    let mut out = [0; LONGEST_LISTING];
+    row(
+        &format!("whole listing, {name}"),
+        (21, 10),
+        Some((1, "files")),
+        || {
+            boundary::file_start(&mut state, &mut packed);
+            boundary::file_feed(&mut state, black_box(file), &mut packed);
+            boundary::file_listing(&state, &mut packed, &mut out)
+        },
+        || listing(black_box(file)),
+    );
+}
+
 /// Lists a file by a process of its own.
 fn list_by(command: &mut Command, file: &Path) {
     let input = File::open(file).expect("the file");
@@ -192,6 +210,7 @@ fn whole_files() {
     }
     let path = std::env::temp_dir().join(format!("thikbromu-bench-{}.track", std::process::id()));
     for (name, file) in files {
+        listing_in_memory(&name, &file);
         std::fs::write(&path, file).expect("a file to list");
         row(
             &format!("whole file through the program, {name}"),
