@@ -1,6 +1,7 @@
 -- What the program makes of its input. The contract of the system's `read` says how many bytes it may put at the start of a portion, and
 -- not which. So a read is here a number that was answered and a portion that was left, and the promises say that there are reads of which
--- all this holds; that they are those of standard input is seen in the code of `read_portion`. Assumes nothing.
+-- all this holds; that they are those of standard input is seen in the code of `read_portion`, and a program that reads nothing and takes
+-- each read for a failure meets them too. Assumes nothing.
 use Prim.Native.Nat.{ℕ, zero, suc, _+_}
 use mathlib.Core.Path.{_≡_}
 use mathlib.Core.Bool.{Bool, true, false, cond}
