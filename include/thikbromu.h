@@ -62,7 +62,7 @@ enum thikbromu_refusal {
     THIKBROMU_REFUSED_TOO_MANY_TIMINGS = 7,     /* more than 65,536 timings; the timings */
     THIKBROMU_REFUSED_TIMING_OUT_OF_RANGE = 8,  /* a timing outside 1 to 10,000,000; the index of the first */
     THIKBROMU_REFUSED_TOO_MANY_CELLS = 9,       /* more than 131,072 cells in all; the cells */
-    THIKBROMU_REFUSED_NO_ROOM_FOR_CELLS = 10,   /* too little room for the cells; the bytes needed */
+    THIKBROMU_REFUSED_NO_ROOM = 10,             /* too little room; the bytes that the cells need, or the timings needed */
     THIKBROMU_REFUSED_NO_SUCH_SECTOR = 11,      /* no sector of that index; the sectors */
     THIKBROMU_REFUSED_NO_DATA_READ = 12,        /* that sector has no data read; 0 */
     THIKBROMU_REFUSED_NO_ROOM_FOR_BYTES = 13,   /* too little room for the bytes; the bytes needed */

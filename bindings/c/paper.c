@@ -120,7 +120,7 @@ static void test_separator(void)
     GIVES(thikbromu_separate(two, 2, cells, 2, &value), 5);
     EXPECT(cells[0] == 0x28 && cells[1] == 7);
     REFUSES(thikbromu_separate(two, 0, cells, 2, &value), NO_TIMINGS, 0);
-    REFUSES(thikbromu_separate(two, 2, cells, 0, &value), NO_ROOM_FOR_CELLS, 1);
+    REFUSES(thikbromu_separate(two, 2, cells, 0, &value), NO_ROOM, 1);
     EXPECT(cells[0] == 0x28 && cells[1] == 7);
     for (size_t i = 0; i <= THIKBROMU_MOST_TIMINGS; i++) {
         timings[i] = 6000;
@@ -273,7 +273,7 @@ static void test_files(const uint8_t *file, size_t length)
     thikbromu_file_start(state, THIKBROMU_FILE_NUMBERS, room, less);
     EXPECT(thikbromu_file_feed(state, THIKBROMU_FILE_NUMBERS, file, length, room, less) == 1);
     REFUSES(thikbromu_file_finish(state, THIKBROMU_FILE_NUMBERS, room, less, place, THIKBROMU_PLACE_NUMBERS, &value),
-            NO_ROOM_FOR_CELLS, 16384);
+            NO_ROOM, 16384);
 }
 
 int main(int count, char **arguments)

@@ -299,7 +299,7 @@ pub fn residual_after_lent(residual: i32, timing: u32) -> i32 {
 ///
 /// Refuses [`NoTimings`](Refusal::NoTimings), [`TooManyTimings`](Refusal::TooManyTimings),
 /// [`TimingOutOfRange`](Refusal::TimingOutOfRange), [`TooManyCells`](Refusal::TooManyCells),
-/// [`NoRoomForCells`](Refusal::NoRoomForCells).
+/// [`NoRoom`](Refusal::NoRoom).
 #[inline]
 pub fn separate(timings: &[u32], cells: &mut [u8]) -> Result<usize, Refusal> {
     // SAFETY: each address and length are those of one slice; `cells` and `value` are lent to this call alone.
@@ -454,7 +454,7 @@ pub fn file_feed(state: &mut [u64], portion: &[u8], packed: &mut [u8]) -> u32 {
 /// The end of a track file. Gives the number of cells, which stand in `packed`, and stores the track and the side at the front of `place`,
 /// or as many of the two as there is room for. Beside a refusal `place` is kept and the cells are cleared.
 ///
-/// Refuses at once [`NoRoomForCells`](Refusal::NoRoomForCells), for fewer than 16,384 bytes, which are kept;
+/// Refuses at once [`NoRoom`](Refusal::NoRoom), for fewer than 16,384 bytes, which are kept;
 /// [`NotATrackFile`](Refusal::NotATrackFile) for a place count that is not 2, [`CellCount`](Refusal::CellCount) for more than 131,072 cells
 /// and [`TooManyTimings`](Refusal::TooManyTimings) for more than 65,536 timings, where the count is read. Otherwise refuses
 /// [`NotATrackFile`](Refusal::NotATrackFile), [`TimingOutOfRange`](Refusal::TimingOutOfRange), [`TooManyCells`](Refusal::TooManyCells).

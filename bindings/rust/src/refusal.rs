@@ -25,7 +25,7 @@ pub enum Refusal {
     /// 9: the cells in all, more than 131,072.
     TooManyCells(usize),
     /// 10: the bytes that the cells need, where there is too little room.
-    NoRoomForCells(usize),
+    NoRoom(usize),
     /// 11: the sectors, none of which has the index asked for.
     NoSuchSector(usize),
     /// 12: the sector has no data read.
@@ -51,7 +51,7 @@ impl Refusal {
             Refusal::TooManyTimings(_) => 7,
             Refusal::TimingOutOfRange(_) => 8,
             Refusal::TooManyCells(_) => 9,
-            Refusal::NoRoomForCells(_) => 10,
+            Refusal::NoRoom(_) => 10,
             Refusal::NoSuchSector(_) => 11,
             Refusal::NoDataRead => 12,
             Refusal::NoRoomForBytes(_) => 13,
@@ -70,7 +70,7 @@ impl Refusal {
             | Refusal::TooManyTimings(value)
             | Refusal::TimingOutOfRange(value)
             | Refusal::TooManyCells(value)
-            | Refusal::NoRoomForCells(value)
+            | Refusal::NoRoom(value)
             | Refusal::NoSuchSector(value)
             | Refusal::NoRoomForBytes(value)
             | Refusal::TooManyBytes(value) => value,
@@ -103,7 +103,7 @@ impl TryFrom<(u32, usize)> for Refusal {
             (7, _) => Refusal::TooManyTimings(value),
             (8, _) => Refusal::TimingOutOfRange(value),
             (9, _) => Refusal::TooManyCells(value),
-            (10, _) => Refusal::NoRoomForCells(value),
+            (10, _) => Refusal::NoRoom(value),
             (11, _) => Refusal::NoSuchSector(value),
             (12, 0) => Refusal::NoDataRead,
             (13, _) => Refusal::NoRoomForBytes(value),
@@ -127,7 +127,7 @@ impl fmt::Display for Refusal {
             Refusal::TooManyTimings(timings) => write!(out, "{timings} timings, more than 65,536"),
             Refusal::TimingOutOfRange(index) => write!(out, "the timing of index {index} is not 1 to 10,000,000"),
             Refusal::TooManyCells(cells) => write!(out, "{cells} cells in all, more than 131,072"),
-            Refusal::NoRoomForCells(needed) => write!(out, "the cells need room for {needed} bytes"),
+            Refusal::NoRoom(needed) => write!(out, "the cells need room for {needed} bytes"),
             Refusal::NoSuchSector(sectors) => write!(out, "no sector of that index among {sectors}"),
             Refusal::NoDataRead => write!(out, "the sector has no data read"),
             Refusal::NoRoomForBytes(needed) => write!(out, "room is needed for {needed} bytes"),

@@ -140,7 +140,7 @@ fn refused_timings() {
     assert_eq!(separate_to_vec(&[4000; MOST_TIMINGS + 1]), Err(Refusal::TooManyTimings(65_537)));
     assert_eq!(separate_to_vec(&[4000, 0, 0]), Err(Refusal::TimingOutOfRange(1)));
     assert_eq!(separate_to_vec(&[10_000_000; 27]), Err(Refusal::TooManyCells(135_000)));
-    assert_eq!(separate(&[4000; 8], &mut [0]), Err(Refusal::NoRoomForCells(2)));
+    assert_eq!(separate(&[4000; 8], &mut [0]), Err(Refusal::NoRoom(2)));
     assert_eq!(histogram(&[]), Err(Refusal::NoTimings));
     assert_eq!(histogram(&[4000; MOST_TIMINGS + 1]), Err(Refusal::TooManyTimings(65_537)));
     assert_eq!(histogram(&[4000, 10_000_001]), Err(Refusal::TimingOutOfRange(1)));

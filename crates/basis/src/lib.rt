@@ -1,8 +1,9 @@
-// Definitions and laws that every layer shares, in specs/ and proofs/, and the copying of numbers to a lent list.
+// Definitions and laws that every layer shares, in specs/ and proofs/, the copying of numbers to a lent list, and numbers of four bytes.
 ghost use mathlib.Core.Path.{_≡_};
 ghost use Prim.Native.Nat.{_≤_, min};
 ghost use lib.ListN.{length, take};
 ghost use Rattle.basis.specs.Lists.{writtenOver};
+ghost use Rattle.basis.specs.Bytes.{fourBytes};
 
 // Copies numbers to the front of a lent list, as many as it has room for.
 pub fn copy_numbers(numbers: &[u32], list: &mut [u32])
@@ -14,6 +15,13 @@ pub fn copy_numbers(numbers: &[u32], list: &mut [u32])
         list[i] = numbers[i];
         i += 1;
     }
+}
+
+// The number of four bytes, low byte first.
+pub fn four_bytes(a: u8, b: u8, c: u8, d: u8) -> u32
+    ensures { λ r. ⌜ r ≡ fourBytes a b c d ⌝ }
+{
+    (a as u32) + 256 * (b as u32) + 65_536 * (c as u32) + 16_777_216 * (d as u32)
 }
 
 // The smaller of two numbers.

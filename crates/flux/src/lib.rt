@@ -119,7 +119,7 @@ pub fn separate(timings: &[u32], cells: &mut [u8]) -> Separated
     }
     let needed = (count + 7) / 8;
     if cells.len() < needed {
-        return Separated::Refused(Refusal::NoRoomForCells(needed));
+        return Separated::Refused(Refusal::NoRoom(needed));
     }
     write_cells(timings, needed, cells);
     Separated::Cells(count)
@@ -135,6 +135,13 @@ pub fn first_out(timings: &[u32]) -> usize
     search_out(timings)
 }
 
+// Whether a timing is in its range.
+pub fn timing_in_range(timing: u32) -> bool
+    ensures { λ r. ⌜ r ≡ inRange timing ⌝ }
+{
+    (SHORTEST_TIMING <= timing) & (timing <= LONGEST_TIMING)
+}
+
 // The window, of a timing and of an offset, its half, and the residuals that a step can leave, in nanoseconds.
 const TIMING_WINDOW: u32 = 2000;
 
@@ -145,13 +152,6 @@ const HALF_WINDOW: i32 = 1000;
 const LEAST_RESIDUAL: i32 = -500;
 
 const MOST_RESIDUAL: i32 = 499;
-
-// Whether a timing is in its range.
-fn timing_in_range(timing: u32) -> bool
-    ensures { λ r. ⌜ r ≡ inRange timing ⌝ }
-{
-    (SHORTEST_TIMING <= timing) & (timing <= LONGEST_TIMING)
-}
 
 // Whether every timing is in its range. The loop goes on to the end whatever it finds, so that the compiler can test several timings
 // at once.

@@ -16,7 +16,7 @@ use Rattle.flux.proofs.Orders.{mag-sub}
 use Rattle.flux.proofs.Residual.{usable-kept}
 use Rattle.refusals.specs.RefusedCalls.{Answer}
 use Rattle.refusals.specs.RefusedCalls.Answer.{gives, refused}
-use Rattle.refusals.specs.declared.Refusal.the-variants.{CellCount as CellsRefused, TooManyTimings, NoRoomForCells, NotATrackFile as NoTrackFile}
+use Rattle.refusals.specs.declared.Refusal.the-variants.{CellCount as CellsRefused, TooManyTimings, NoRoom, NotATrackFile as NoTrackFile}
 use Rattle.cells.specs.CellsAndBytes.{bytesFor}
 use Rattle.reader_numbers.specs.Portions.{Bytes}
 use Rattle.track_file.specs.Portions.{startOf, numberAfter, takenStep, takenAfter, afterPlaceCount, afterCellCount, afterPackedByte, afterFluxCount, afterTiming, inPlaceCount, inCellCount, inFluxCount, inTiming, readerAfterByte, readerAfter}
@@ -63,7 +63,7 @@ either false x y f g = g refl
 
 pub held-start : (room : ℕ) → Held (startOf room)
 unfolding startOf
-held-start room = either (ltb room 16384) (Stopped (NoRoomForCells 16384)) (PlaceCount Empty) (λ _. tt) (λ _. tt)
+held-start room = either (ltb room 16384) (Stopped (NoRoom 16384)) (PlaceCount Empty) (λ _. tt) (λ _. tt)
 
 -- a count or a timing with a byte more
 abbrev HeldExtended : Extended → Type 0

@@ -11,7 +11,7 @@ use lib.IntN.{ℤ}
 use lib.ListN.{length, drop, length-append, length-drop}
 use Rattle.refusals.specs.RefusedCalls.{numberOf, valueOf}
 use Rattle.refusals.specs.declared.Refusal.{Refusal}
-use Rattle.refusals.specs.declared.Refusal.the-variants.{TrackOrSide, CellCount as CellsRefused, TooFewBytes, TooManySectors, ListTooShort, NoTimings, TooManyTimings, TimingOutOfRange, TooManyCells, NoRoomForCells, NoSuchSector, NoDataRead, NoRoomForBytes, TooManyBytes, NotATrackFile as NoTrackFile}
+use Rattle.refusals.specs.declared.Refusal.the-variants.{TrackOrSide, CellCount as CellsRefused, TooFewBytes, TooManySectors, ListTooShort, NoTimings, TooManyTimings, TimingOutOfRange, TooManyCells, NoRoom, NoSuchSector, NoDataRead, NoRoomForBytes, TooManyBytes, NotATrackFile as NoTrackFile, NotATrackBlock, NoSuchRevolution}
 use Rattle.track_file.specs.Portions.{startOf, startCells, readerAfter, cellsAfter, readerAfterAll, cellsAfterAll, readerThrough, cellsThrough, wholeOf, finishAnswer, leftAfter}
 use Rattle.track_file.specs.TrackFile.{fileAnswerIn, fileBuffer}
 use Rattle.track_file.proofs.Whole.{finished}
@@ -22,7 +22,7 @@ use Rattle.track_file.specs.declared.TakenTimings.{TakenTimings}
 use Rattle.track_file.specs.declared.TakenTimings.the-variants.{InRange, OutOfRange}
 use Rattle.track_file.specs.declared.Reader.{Reader}
 use Rattle.track_file.specs.declared.Reader.the-variants.{PlaceCount, Track, Side, CellCount, PackedCells, FluxCount, Timings, AllCells, AllTimings, NotATrackFile, Stopped}
-use Rattle.reader_numbers.specs.Numbers.{bytesHeld, firstByte, secondByte, thirdByte, lowered, takenKind, takenCount, cellsTaken, takenResidual, row, stateOf, numberFrom, takenFrom, lowRefusal, highRefusal, refusalFrom, earlyFrom, lateFrom, readerFrom, readerAsGiven, atFront, readerOf, stateAfter}
+use Rattle.reader_numbers.specs.Numbers.{bytesHeld, firstByte, secondByte, thirdByte, lowered, takenKind, takenCount, cellsTaken, takenResidual, row, stateOf, numberFrom, takenFrom, lowRefusal, highRefusal, laterRefusal, refusalFrom, earlyFrom, lateFrom, readerFrom, readerAsGiven, atFront, readerOf, stateAfter}
 use Rattle.reader_numbers.specs.Portions.{AllBytes, stateAfterAll, bufferAfterAll, stateThrough, bufferThrough}
 use Rattle.reader_numbers.proofs.Held.{HeldPlace, HeldNumber, HeldTaken, Held, held-start, held-after}
 use Rattle.reader_numbers.proofs.Residuals.{raised-small, lowered-raised}
@@ -46,7 +46,7 @@ taken-back (InRange timings cells separator) h =
 taken-back (OutOfRange index) h = refl
 
 refusal-back : (refusal : Refusal) → refusalFrom (numberOf refusal % 4294967296) (valueOf refusal) ≡ refusal
-unfolding refusalFrom lowRefusal highRefusal
+unfolding refusalFrom lowRefusal highRefusal laterRefusal
 refusal-back TrackOrSide = refl
 refusal-back (CellsRefused value) = refl
 refusal-back (TooFewBytes value) = refl
@@ -56,12 +56,14 @@ refusal-back NoTimings = refl
 refusal-back (TooManyTimings value) = refl
 refusal-back (TimingOutOfRange value) = refl
 refusal-back (TooManyCells value) = refl
-refusal-back (NoRoomForCells value) = refl
+refusal-back (NoRoom value) = refl
 refusal-back (NoSuchSector value) = refl
 refusal-back NoDataRead = refl
 refusal-back (NoRoomForBytes value) = refl
 refusal-back (TooManyBytes value) = refl
 refusal-back NoTrackFile = refl
+refusal-back NotATrackBlock = refl
+refusal-back NoSuchRevolution = refl
 
 -- the numbers, taken as they stand
 given-back : (reader : Reader) → Held reader → (rest : List ℕ) → readerAsGiven (stateOf reader ++ rest) ≡ reader

@@ -18,7 +18,7 @@ use lib.ListN.{length, getD}
 use Rattle.basis.specs.Lists.{writtenOver}
 use Rattle.refusals.specs.RefusedCalls.{numberOf, valueOf}
 use Rattle.refusals.specs.declared.Refusal.{Refusal}
-use Rattle.refusals.specs.declared.Refusal.the-variants.{TrackOrSide, CellCount as CellsRefused, TooFewBytes, TooManySectors, ListTooShort, NoTimings, TooManyTimings, TimingOutOfRange, TooManyCells, NoRoomForCells, NoSuchSector, NoDataRead, NoRoomForBytes, TooManyBytes, NotATrackFile as NoTrackFile}
+use Rattle.refusals.specs.declared.Refusal.the-variants.{TrackOrSide, CellCount as CellsRefused, TooFewBytes, TooManySectors, ListTooShort, NoTimings, TooManyTimings, TimingOutOfRange, TooManyCells, NoRoom, NoSuchSector, NoDataRead, NoRoomForBytes, TooManyBytes, NotATrackFile as NoTrackFile, NotATrackBlock, NoSuchRevolution}
 use Rattle.track_file.specs.declared.Place.{Place}
 use Rattle.track_file.specs.declared.Number.{Number}
 use Rattle.track_file.specs.declared.Number.the-variants.{Empty, One, Two, Three}
@@ -118,13 +118,17 @@ unfoldable pub highRefusal : ℕ → ℕ → Refusal
 highRefusal number value =
     cond (eqb number 8) (TimingOutOfRange value)
     (cond (eqb number 9) (TooManyCells value)
-    (cond (eqb number 10) (NoRoomForCells value)
+    (cond (eqb number 10) (NoRoom value)
     (cond (eqb number 11) (NoSuchSector value)
     (cond (eqb number 12) NoDataRead
     (cond (eqb number 13) (NoRoomForBytes value) (cond (eqb number 14) (TooManyBytes value) NoTrackFile))))))
 
+-- those of 02, which give nothing also
+unfoldable pub laterRefusal : ℕ → Refusal
+laterRefusal number = cond (eqb number 16) NotATrackBlock (cond (eqb number 17) NoSuchRevolution NoTrackFile)
+
 unfoldable pub refusalFrom : ℕ → ℕ → Refusal
-refusalFrom number value = cond (ltb number 8) (lowRefusal number value) (highRefusal number value)
+refusalFrom number value = cond (ltb number 8) (lowRefusal number value) (cond (ltb number 16) (highRefusal number value) (laterRefusal number))
 
 -- a reader from its phase and what the numbers stand for
 unfoldable pub earlyFrom : ℕ → Place → ℕ → ℕ → Number → Reader

@@ -10,7 +10,7 @@ use track_file::TakenTimings;
 ghost use mathlib.Core.Path.{_≡_};
 ghost use Prim.Native.Nat.{_%_, _≤_};
 ghost use lib.ListN.{length};
-ghost use Rattle.reader_numbers.specs.Numbers.{lowered, numberFrom, takenFrom, lowRefusal, highRefusal, refusalFrom, earlyFrom, lateFrom, readerFrom, readerAsGiven, atFront, readerOf};
+ghost use Rattle.reader_numbers.specs.Numbers.{lowered, numberFrom, takenFrom, lowRefusal, highRefusal, laterRefusal, refusalFrom, earlyFrom, lateFrom, readerFrom, readerAsGiven, atFront, readerOf};
 
 // The reader of numbers. Too few of them, and numbers that are no reader's, count as a file that is refused with 15.
 pub fn reader_of(state: &[u64]) -> Reader
@@ -197,10 +197,12 @@ fn refusal_from(number: u32, value: usize) -> Refusal
     ensures { λ r. ⌜ r ≡ refusalFrom number value ⌝ }
 {
     if number < 8 {
-        low_refusal(number, value)
-    } else {
-        high_refusal(number, value)
+        return low_refusal(number, value);
     }
+    if number < 16 {
+        return high_refusal(number, value);
+    }
+    later_refusal(number)
 }
 
 fn low_refusal(number: u32, value: usize) -> Refusal
@@ -237,7 +239,7 @@ fn high_refusal(number: u32, value: usize) -> Refusal
         return Refusal::TooManyCells(value);
     }
     if number == 10 {
-        return Refusal::NoRoomForCells(value);
+        return Refusal::NoRoom(value);
     }
     if number == 11 {
         return Refusal::NoSuchSector(value);
@@ -250,6 +252,18 @@ fn high_refusal(number: u32, value: usize) -> Refusal
     }
     if number == 14 {
         return Refusal::TooManyBytes(value);
+    }
+    Refusal::NotATrackFile
+}
+
+fn later_refusal(number: u32) -> Refusal
+    ensures { λ r. ⌜ r ≡ laterRefusal number ⌝ }
+{
+    if number == 16 {
+        return Refusal::NotATrackBlock;
+    }
+    if number == 17 {
+        return Refusal::NoSuchRevolution;
     }
     Refusal::NotATrackFile
 }

@@ -1,10 +1,11 @@
 -- 01, "Refused calls": the number of each refusal, what it gives also, and what a call leaves in a lent buffer. A refused call leaves
--- it as it was; the reader of a track file clears its cell buffer instead. Assumes nothing.
+-- it as it was; the reader of a track file clears its cell buffer instead. 16 and 17 are those of 02, ticket 3, which gives 10 also "for
+-- room, with the timings needed". Assumes nothing.
 use Prim.Native.Nat.{ℕ}
 use mathlib.Core.List.{List}
 use Rattle.basis.specs.Lists.{writtenOver}
 use Rattle.refusals.specs.declared.Refusal.{Refusal}
-use Rattle.refusals.specs.declared.Refusal.the-variants.{TrackOrSide, CellCount, TooFewBytes, TooManySectors, ListTooShort, NoTimings, TooManyTimings, TimingOutOfRange, TooManyCells, NoRoomForCells, NoSuchSector, NoDataRead, NoRoomForBytes, TooManyBytes, NotATrackFile}
+use Rattle.refusals.specs.declared.Refusal.the-variants.{TrackOrSide, CellCount, TooFewBytes, TooManySectors, ListTooShort, NoTimings, TooManyTimings, TimingOutOfRange, TooManyCells, NoRoom, NoSuchSector, NoDataRead, NoRoomForBytes, TooManyBytes, NotATrackFile, NotATrackBlock, NoSuchRevolution}
 
 -- the table's column "no"
 abbrev pub numberOf : Refusal → ℕ
@@ -17,14 +18,16 @@ numberOf NoTimings = 6
 numberOf (TooManyTimings timings) = 7
 numberOf (TimingOutOfRange index) = 8
 numberOf (TooManyCells cells) = 9
-numberOf (NoRoomForCells needed) = 10
+numberOf (NoRoom needed) = 10
 numberOf (NoSuchSector sectors) = 11
 numberOf NoDataRead = 12
 numberOf (NoRoomForBytes needed) = 13
 numberOf (TooManyBytes given) = 14
 numberOf NotATrackFile = 15
+numberOf NotATrackBlock = 16
+numberOf NoSuchRevolution = 17
 
--- the table's column "gives also"
+-- the table's column "gives also". "Refusals added later give 0 unless they say otherwise."
 abbrev pub valueOf : Refusal → ℕ
 valueOf TrackOrSide = 0
 valueOf (CellCount cells) = cells
@@ -35,12 +38,14 @@ valueOf NoTimings = 0
 valueOf (TooManyTimings timings) = timings
 valueOf (TimingOutOfRange index) = index
 valueOf (TooManyCells cells) = cells
-valueOf (NoRoomForCells needed) = needed
+valueOf (NoRoom needed) = needed
 valueOf (NoSuchSector sectors) = sectors
 valueOf NoDataRead = 0
 valueOf (NoRoomForBytes needed) = needed
 valueOf (TooManyBytes given) = given
 valueOf NotATrackFile = 0
+valueOf NotATrackBlock = 0
+valueOf NoSuchRevolution = 0
 
 -- what a call answers, in 01's terms: what an accepted call gives, or a refusal's number and what it gives also
 pub data Answer (A : Type 0) : Type 0 where

@@ -1,4 +1,4 @@
-// 01's refusals, one variant for each row of its table "Refused calls", in that order.
+// 01's refusals, one variant for each row of its table "Refused calls", in that order, and then those that 02 adds.
 ghost use mathlib.Core.Path.{_≡_};
 ghost use Rattle.refusals.specs.RefusedCalls.{numberOf, valueOf};
 
@@ -22,8 +22,8 @@ pub enum Refusal {
     TimingOutOfRange(usize),
     // 9: the cells in all, above 131,072.
     TooManyCells(usize),
-    // 10: the bytes that the cells need, where there is too little room.
-    NoRoomForCells(usize),
+    // 10: what there is too little room for: the bytes that the cells need, or the timings.
+    NoRoom(usize),
     // 11: the sectors, none of which has the index asked for.
     NoSuchSector(usize),
     // 12: the sector has no data read.
@@ -34,6 +34,10 @@ pub enum Refusal {
     TooManyBytes(usize),
     // 15: not a track file.
     NotATrackFile,
+    // 16: not a track block.
+    NotATrackBlock,
+    // 17: the block lacks the revolution.
+    NoSuchRevolution,
 }
 
 impl Refusal {
@@ -51,12 +55,14 @@ impl Refusal {
             Refusal::TooManyTimings(_) => 7,
             Refusal::TimingOutOfRange(_) => 8,
             Refusal::TooManyCells(_) => 9,
-            Refusal::NoRoomForCells(_) => 10,
+            Refusal::NoRoom(_) => 10,
             Refusal::NoSuchSector(_) => 11,
             Refusal::NoDataRead => 12,
             Refusal::NoRoomForBytes(_) => 13,
             Refusal::TooManyBytes(_) => 14,
             Refusal::NotATrackFile => 15,
+            Refusal::NotATrackBlock => 16,
+            Refusal::NoSuchRevolution => 17,
         }
     }
 
@@ -74,12 +80,14 @@ impl Refusal {
             Refusal::TooManyTimings(timings) => timings,
             Refusal::TimingOutOfRange(index) => index,
             Refusal::TooManyCells(cells) => cells,
-            Refusal::NoRoomForCells(needed) => needed,
+            Refusal::NoRoom(needed) => needed,
             Refusal::NoSuchSector(sectors) => sectors,
             Refusal::NoDataRead => 0,
             Refusal::NoRoomForBytes(needed) => needed,
             Refusal::TooManyBytes(given) => given,
             Refusal::NotATrackFile => 0,
+            Refusal::NotATrackBlock => 0,
+            Refusal::NoSuchRevolution => 0,
         }
     }
 }

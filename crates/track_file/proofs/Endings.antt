@@ -11,7 +11,7 @@ use Rattle.flux.specs.declared.Separator.{Separator}
 use Rattle.refusals.specs.RefusedCalls.{refusedWith}
 use Rattle.refusals.specs.RefusedCalls.Answer.{refused}
 use Rattle.refusals.specs.declared.Refusal.{Refusal}
-use Rattle.refusals.specs.declared.Refusal.the-variants.{NoRoomForCells}
+use Rattle.refusals.specs.declared.Refusal.the-variants.{NoRoom}
 use Rattle.track_file.specs.Portions.{startOf, startCells, readerAfterByte, cellsAfterByte, readerAfter, cellsAfter, readAnswer, timingsAnswer, finishAnswer, leftAfter}
 use Rattle.track_file.specs.declared.Place.{Place}
 use Rattle.track_file.specs.declared.Number.the-variants.{Empty}
@@ -39,7 +39,7 @@ module _ (buffer : List ℕ) where
   room-enough h e = rw (le-ltb (length buffer) 16384 h) (e ∙ cleared-whole buffer)
 
 -- the beginning
-pub start-refused : (buffer : List ℕ) → length buffer < 16384 → (Stopped (NoRoomForCells 16384) ≡ startOf (length buffer)) × (buffer ≡ startCells buffer)
+pub start-refused : (buffer : List ℕ) → length buffer < 16384 → (Stopped (NoRoom 16384) ≡ startOf (length buffer)) × (buffer ≡ startCells buffer)
 unfolding startOf
 start-refused buffer h = (rw (lt-ltb (length buffer) 16384 h), too-little-room buffer h)
 

@@ -14,6 +14,7 @@ use Rattle.refusals.specs.RefusedCalls.Answer.{gives, refused}
 use Rattle.flux.specs.Separation.{cellsOf, separation, separatedCells}
 use Rattle.flux.specs.Demand3.{Demand3}
 use Rattle.flux.proofs.Promise.{promised}
+use Rattle.track_file.specs.FluxFile.{timingBytes, fluxFile}
 use Rattle.track_file.specs.TrackFile.{numbers, Content, placed, trackOf, sideOf, placeCount, cellSection, cellCount, fluxSection, fluxCount, timings, fileLength, hasCount, bothOrNeither, givenAtOnce, notATrackFile, fileAnswer, fileCells, fileAnswerIn, fileBuffer}
 use Rattle.track_file.proofs.Taking.{separation-is}
 use Rattle.track_file.proofs.Staged.{length-numbers}
@@ -93,18 +94,6 @@ module _ (file : List ℕ) (flux : FluxFile file) where
         cells = rw (le-ltb (length buffer) 16384 big) (is .1 .0);
         demand3 = rw (le-ltb (length buffer) 16384 big) (is .1 .1);
       }
-
--- the four bytes of a number below 2^32, low byte first
-abbrev pub fourBytesOf : ℕ → List ℕ
-fourBytesOf n = n % 256 ∷ n / 256 % 256 ∷ n / 256 / 256 % 256 ∷ n / 256 / 256 / 256 ∷ []
-
-unfoldable pub timingBytes : List ℕ → List ℕ
-timingBytes [] = []
-timingBytes (t ∷ ts) = fourBytesOf t ++ timingBytes ts
-
--- the file with these timings
-abbrev pub fluxFile : ℕ → ℕ → List ℕ → List ℕ
-fluxFile track side ts = 2 ∷ 0 ∷ 0 ∷ 0 ∷ track ∷ side ∷ 0 ∷ 0 ∷ 0 ∷ 0 ∷ (fourBytesOf (length ts) ++ timingBytes ts)
 
 number-of : (n : ℕ) → n % 256 + 256 * (n / 256 % 256) + 65536 * (n / 256 / 256 % 256) + 16777216 * (n / 256 / 256 / 256) ≡ n
 number-of n = omega arith

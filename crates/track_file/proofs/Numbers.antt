@@ -11,7 +11,7 @@ use Rattle.flux.specs.declared.Separator.{Separator}
 use Rattle.flux.specs.declared.Taken.{Taken}
 use Rattle.flux.specs.declared.Taken.the-variants.{Cells, Refused}
 use Rattle.refusals.specs.declared.Refusal.{Refusal}
-use Rattle.track_file.specs.TrackFile.{fourBytes}
+use Rattle.basis.specs.Bytes.{fourBytes}
 use Rattle.track_file.specs.Portions.{numberAfter, countAfter, timingCells, takenStep, takenAfter, stepCells, takenCells}
 use Rattle.track_file.specs.declared.Number.{Number}
 use Rattle.track_file.specs.declared.Number.the-variants.{Empty, One, Two, Three}

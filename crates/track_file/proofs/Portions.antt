@@ -7,7 +7,7 @@ use native.Mathlib.Numerals.{add-one}
 use native.Mathlib.Omega.{arith}
 use lib.ListN.{length, getD, drop, drop-of-length-le}
 use lib.Seq.{drop-cons}
-use Rattle.track_file.specs.TrackFile.{fourBytes}
+use Rattle.basis.specs.Bytes.{fourBytes}
 use Rattle.track_file.specs.Portions.{numberAfter, takenAfter, takenCells, inTiming, inTimingCells, readerAfterByte, cellsAfterByte, readerAfter, cellsAfter, readerAfterAll, cellsAfterAll, wholeOf}
 use Rattle.track_file.specs.declared.Place.{Place}
 use Rattle.track_file.specs.declared.Number.{Number}

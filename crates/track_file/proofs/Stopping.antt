@@ -10,8 +10,9 @@ use lib.IntN.{pos}
 use lib.ListN.{length, drop, length-drop}
 use Rattle.cells.specs.CellsAndBytes.{bytesFor}
 use Rattle.refusals.specs.declared.Refusal.{Refusal}
-use Rattle.refusals.specs.declared.Refusal.the-variants.{CellCount as CellsRefused, TooManyTimings, NoRoomForCells, NotATrackFile as NoTrackFile}
-use Rattle.track_file.specs.TrackFile.{fourBytes, number, hasCount, refusedAtOnce}
+use Rattle.refusals.specs.declared.Refusal.the-variants.{CellCount as CellsRefused, TooManyTimings, NoRoom, NotATrackFile as NoTrackFile}
+use Rattle.basis.specs.Bytes.{fourBytes, number}
+use Rattle.track_file.specs.TrackFile.{hasCount, refusedAtOnce}
 use Rattle.track_file.specs.Portions.{startOf, numberAfter, takenAfter, afterPlaceCount, afterCellCount, afterFluxCount, afterTiming, inPlaceCount, inCellCount, inFluxCount, inTiming, readerAfterByte, readerAfter, isStopped}
 use Rattle.track_file.specs.declared.Place.{Place}
 use Rattle.track_file.specs.declared.Number.{Number}
@@ -163,6 +164,6 @@ pub from-start : (room : ℕ) (file : List ℕ) → stops (startOf room) file �
 unfolding startOf
 from-start room file = go (ltb room 16384)
   where
-    go : (x : Bool) → stops (cond x (Stopped (NoRoomForCells 16384)) (PlaceCount Empty)) file ≡ (x || refusedAtOnce file)
-    go true = stops-stopped (NoRoomForCells 16384) file
+    go : (x : Bool) → stops (cond x (Stopped (NoRoom 16384)) (PlaceCount Empty)) file ≡ (x || refusedAtOnce file)
+    go true = stops-stopped (NoRoom 16384) file
     go false = in-place-count file

@@ -24,7 +24,8 @@ use Rattle.track_file.proofs.Numbers.{count-more}
 use native.Mathlib.Nat.{min-eq-left}
 use Rattle.basis.specs.Lists.{writtenOver}
 use Rattle.flux.proofs.FirstOut.{out-within}
-use Rattle.track_file.specs.TrackFile.{number, Content, placed}
+use Rattle.basis.specs.Bytes.{number}
+use Rattle.track_file.specs.TrackFile.{Content, placed}
 use Rattle.track_file.proofs.Taking.{cellsOver, tookWith, n-small, one-taken, one-cells, first-later, first-here, length-more, separation-is}
 
 pub never : {X : Type 0} {number value : ℕ} {content : Content} → _≡_ {A = Answer Content} (refused number value) (gives content) → X

@@ -8,7 +8,7 @@ use lib.Dec.{ltb}
 use lib.ListN.{length, replicate, length-replicate}
 use Rattle.refusals.specs.RefusedCalls.{Answer, bufferAfter}
 use Rattle.refusals.specs.RefusedCalls.Answer.{gives, refused}
-use Rattle.refusals.specs.declared.Refusal.the-variants.{NoRoomForCells}
+use Rattle.refusals.specs.declared.Refusal.the-variants.{NoRoom}
 use Rattle.track_file.specs.TrackFile.{Content, fileAnswer, fileCells, fileAnswerIn, fileBuffer}
 use Rattle.track_file.specs.Portions.{startOf, startCells, cellsAfter, wholeOf, finishAnswer, leftAfter, WholeFile}
 use Rattle.track_file.specs.declared.Number.the-variants.{Empty}
@@ -26,8 +26,8 @@ pub whole-answer : (room : ℕ) (file : List ℕ) → ends (startOf room) file �
 unfolding startOf fileAnswerIn
 whole-answer room file = go (ltb room 16384)
   where
-    go : (x : Bool) → ends (cond x (Stopped (NoRoomForCells 16384)) (PlaceCount Empty)) file ≡ cond x (refused 10 16384) (fileAnswer file)
-    go true = ends-stopped (NoRoomForCells 16384) file
+    go : (x : Bool) → ends (cond x (Stopped (NoRoom 16384)) (PlaceCount Empty)) file ≡ cond x (refused 10 16384) (fileAnswer file)
+    go true = ends-stopped (NoRoom 16384) file
     go false = file-answer file
 
 -- the buffer, where it has room
@@ -49,10 +49,10 @@ left-whole room big file = rw (← file-answer file) (go (ends (PlaceCount Empty
 
 -- and where it has too little
 left-kept : (buffer : List ℕ) → length buffer < 16384 → (file : List ℕ)
-    → leftAfter (ends (Stopped (NoRoomForCells 16384)) file) (cellsAfter (Stopped (NoRoomForCells 16384)) file buffer) ≡ buffer
+    → leftAfter (ends (Stopped (NoRoom 16384)) file) (cellsAfter (Stopped (NoRoom 16384)) file buffer) ≡ buffer
 unfolding leftAfter startCells
 left-kept buffer few file =
-    rw (ends-stopped (NoRoomForCells 16384) file, cells-stay (NoRoomForCells 16384) file buffer, lt-ltb (length buffer) 16384 few)
+    rw (ends-stopped (NoRoom 16384) file, cells-stay (NoRoom 16384) file buffer, lt-ltb (length buffer) 16384 few)
 
 pub whole-buffer : (buffer file : List ℕ)
     → leftAfter (ends (startOf (length buffer)) file) (cellsAfter (startOf (length buffer)) file (startCells buffer)) ≡ fileBuffer buffer file
@@ -60,8 +60,8 @@ unfolding startOf startCells fileBuffer
 whole-buffer buffer file = go (ltb (length buffer) 16384) refl
   where
     go : (x : Bool) → ltb (length buffer) 16384 ≡ x
-        → leftAfter (ends (cond x (Stopped (NoRoomForCells 16384)) (PlaceCount Empty)) file)
-        (cellsAfter (cond x (Stopped (NoRoomForCells 16384)) (PlaceCount Empty)) file (cond x buffer (replicate (length buffer) 0)))
+        → leftAfter (ends (cond x (Stopped (NoRoom 16384)) (PlaceCount Empty)) file)
+        (cellsAfter (cond x (Stopped (NoRoom 16384)) (PlaceCount Empty)) file (cond x buffer (replicate (length buffer) 0)))
         ≡ cond x buffer (bufferAfter (fileAnswer file) (fileCells file) (replicate (length buffer) 0))
     go true e = left-kept buffer (ltb-true (length buffer) 16384 e) file
     go false e = left-whole (length buffer) (ltb-false (length buffer) 16384 e) file

@@ -1,2 +1,3 @@
 pub mod TrackFile
+pub mod FluxFile
 pub mod Portions

@@ -12,8 +12,9 @@ use Rattle.cells.specs.CellsAndBytes.{bytesFor, withOne}
 use Rattle.flux.specs.Rule.{stepAnswer, stepResidual}
 use Rattle.refusals.specs.RefusedCalls.{Answer, refusedWith}
 use Rattle.refusals.specs.RefusedCalls.Answer.{gives, refused}
-use Rattle.refusals.specs.declared.Refusal.the-variants.{CellCount as CellsRefused, TooManyTimings, NoRoomForCells, NotATrackFile as NoTrackFile}
-use Rattle.track_file.specs.TrackFile.{fourBytes, Content, placed, refusedAtOnce, fileAnswerIn, fileBuffer}
+use Rattle.refusals.specs.declared.Refusal.the-variants.{CellCount as CellsRefused, TooManyTimings, NoRoom, NotATrackFile as NoTrackFile}
+use Rattle.basis.specs.Bytes.{fourBytes}
+use Rattle.track_file.specs.TrackFile.{Content, placed, refusedAtOnce, fileAnswerIn, fileBuffer}
 use Rattle.track_file.specs.declared.Place.{Place}
 use Rattle.track_file.specs.declared.Number.{Number}
 use Rattle.track_file.specs.declared.Number.the-variants.{Empty, One, Two, Three}
@@ -28,7 +29,7 @@ use Rattle.track_file.specs.declared.Read.the-variants.{Cells, Refused}
 
 -- the beginning, with a cell buffer of `room` bytes
 unfoldable pub startOf : ℕ → Reader
-startOf room = cond (ltb room 16384) (Stopped (NoRoomForCells 16384)) (PlaceCount Empty)
+startOf room = cond (ltb room 16384) (Stopped (NoRoom 16384)) (PlaceCount Empty)
 
 -- the buffer is cleared; one with too little room is kept
 unfoldable pub startCells : List ℕ → List ℕ

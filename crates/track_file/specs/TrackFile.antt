@@ -11,20 +11,13 @@ use mathlib.Core.Bool.{Bool, cond, not, _&&_, _||_}
 use mathlib.Core.List.{List, [], _∷_}
 use lib.Dec.{eqb, leb, ltb}
 use lib.ListN.{length, getD, take, drop, replicate}
+use Rattle.basis.specs.Bytes.{number}
 use Rattle.cells.specs.CellsAndBytes.{bytesFor, packed}
 use Rattle.flux.specs.Separation.{cellsOf, separation}
 use Rattle.refusals.specs.RefusedCalls.{Answer, bufferAfter}
 use Rattle.refusals.specs.RefusedCalls.Answer.{gives, refused}
 
--- "32 bits, low byte first"
-abbrev pub fourBytes : ℕ → ℕ → ℕ → ℕ → ℕ
-fourBytes a b c d = a + 256 * b + 65536 * c + 16777216 * d
-
--- the count or timing at the front of bytes
-abbrev pub number : List ℕ → ℕ
-number bytes = fourBytes (getD bytes 0 0) (getD bytes 1 0) (getD bytes 2 0) (getD bytes 3 0)
-
--- so many of them, one after another
+-- so many counts or timings, one after another
 unfoldable pub numbers : ℕ → List ℕ → List ℕ
 numbers zero bytes = []
 numbers (suc k) bytes = number bytes ∷ numbers k (drop 4 bytes)

@@ -6,7 +6,6 @@ use refusals::Refusal;
 ghost use mathlib.Core.Path.{_≡_};
 ghost use Prim.Native.Nat.{_≤_};
 ghost use lib.ListN.{length, set, drop};
-ghost use Rattle.track_file.specs.TrackFile.{fourBytes};
 ghost use Rattle.track_file.specs.Portions.{startOf, startCells, readerAfter, cellsAfter, isStopped, AtOnce, readAnswer, finishAnswer, leftAfter, WholeFile, numberAfter, countAfter, timingCells, takenAfter, takenCells, afterPlaceCount, afterCellCount, afterPackedByte, afterFluxCount, afterTiming, readerAfterByte, cellsAfterByte};
 
 // The bytes that a cell buffer must have: room for 131,072 cells.
@@ -75,7 +74,7 @@ pub fn start(cells: &mut [u8]) -> Reader
 {
     let room = cells.len();
     if room < ROOM {
-        return Reader::Stopped(Refusal::NoRoomForCells(ROOM));
+        return Reader::Stopped(Refusal::NoRoom(ROOM));
     }
     cells::clear(cells, room);
     Reader::PlaceCount(Number::Empty)
@@ -220,7 +219,7 @@ fn feed_timings(reader: Reader, portion: &[u8], from: usize, cells: &mut [u8]) -
         if left <= 1 {
             break;
         }
-        let timing = four_bytes(portion[i], portion[i + 1], portion[i + 2], portion[i + 3]);
+        let timing = basis::four_bytes(portion[i], portion[i + 1], portion[i + 2], portion[i + 3]);
         taken = take_timing(taken, timing, cells);
         left -= 1;
         i += 4;
@@ -435,13 +434,6 @@ fn extend(number: Number, byte: u8) -> Extended
         Number::Empty => Extended::Part(Number::One(byte)),
         Number::One(a) => Extended::Part(Number::Two(a, byte)),
         Number::Two(a, b) => Extended::Part(Number::Three(a, b, byte)),
-        Number::Three(a, b, c) => Extended::Whole(four_bytes(a, b, c, byte)),
+        Number::Three(a, b, c) => Extended::Whole(basis::four_bytes(a, b, c, byte)),
     }
-}
-
-// The number of four bytes, low byte first.
-fn four_bytes(a: u8, b: u8, c: u8, d: u8) -> u32
-    ensures { λ r. ⌜ r ≡ fourBytes a b c d ⌝ }
-{
-    (a as u32) + 256 * (b as u32) + 65_536 * (c as u32) + 16_777_216 * (d as u32)
 }

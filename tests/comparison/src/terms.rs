@@ -20,7 +20,7 @@ fn refusal(ours: thikbromu::Refusal) -> Refusal {
         Ours::TooManyTimings(timings) => Refusal::too_many_timings(timings),
         Ours::TimingOutOfRange(index) => Refusal::timing_out_of_range(index),
         Ours::TooManyCells(cells) => Refusal::too_many_cells(cells),
-        Ours::NoRoomForCells(needed) => Refusal::too_little_room_for_cells(needed),
+        Ours::NoRoom(needed) => Refusal::too_little_room_for_cells(needed),
         Ours::NoSuchSector(sectors) => Refusal::no_such_sector(sectors),
         Ours::NoDataRead => Refusal::no_data_read(),
         Ours::NoRoomForBytes(needed) => Refusal::too_little_room_for_bytes(needed),
