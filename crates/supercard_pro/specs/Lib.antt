@@ -1,0 +1,4 @@
+pub mod TrackBlock
+pub mod Portions
+pub mod BlockToCells
+pub mod PrivateContracts

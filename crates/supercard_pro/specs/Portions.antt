@@ -1,0 +1,97 @@
+-- 02, ticket 3: a revolution's values "handed over in portions cut between any two bytes, each call writing the timings that end in its
+-- portion". What a byte does, a portion byte by byte, a call on a portion, and calls one after another. However the bytes are cut, "where
+-- nothing is refused, the timings in all are the same" (`AllTimings`). Assumes nothing.
+use Prim.Native.Nat.{ℕ, _+_, _*_, min}
+use mathlib.Core.Path.{_≡_}
+use mathlib.Core.Bool.{Bool, cond, _&&_}
+use mathlib.Core.List.{List, [], _∷_, _++_}
+use lib.Dec.{eqb, leb, ltb}
+use lib.ListN.{length, take}
+use Rattle.flux.specs.Separation.{firstOut}
+use Rattle.refusals.specs.RefusedCalls.{Answer, bufferAfter}
+use Rattle.refusals.specs.RefusedCalls.Answer.{gives, refused}
+use Rattle.supercard_pro.specs.TrackBlock.{timingsIn, roomJudged}
+use Rattle.supercard_pro.specs.declared.Held.{Held}
+use Rattle.supercard_pro.specs.declared.Held.the-variants.{Nothing, High}
+use Rattle.supercard_pro.specs.declared.Unfinished.{Unfinished}
+use Rattle.supercard_pro.specs.declared.RevolutionReader.{RevolutionReader}
+
+-- the timing that has not ended, after a value: the zeros before the next one. They are counted up to 7, since with 7 of them, or with more,
+-- no timing is in range
+unfoldable pub unfinishedAfterValue : ℕ → ℕ → Unfinished
+unfinishedAfterValue zeros value = record { held = Nothing; zeros = cond (eqb value 0) (min (zeros + 1) 7) 0 }
+
+-- the timing that ends with a value, if one does: "in units of 25 ns, where a 0 adds 65,536 to the next value"
+unfoldable pub timingsOfValue : ℕ → ℕ → List ℕ
+timingsOfValue zeros value = cond (eqb value 0) [] (25 * (65536 * zeros + value) ∷ [])
+
+-- the same of a byte, "high byte first": a value ends with its second byte, and its first is held until then
+abbrev pub unfinishedAfterByte : Held → ℕ → ℕ → Unfinished
+unfinishedAfterByte Nothing zeros byte = record { held = High byte; zeros = zeros }
+unfinishedAfterByte (High high) zeros byte = unfinishedAfterValue zeros (256 * high + byte)
+
+abbrev pub timingsOfByte : Held → ℕ → ℕ → List ℕ
+timingsOfByte Nothing zeros byte = []
+timingsOfByte (High high) zeros byte = timingsOfValue zeros (256 * high + byte)
+
+-- a portion, byte by byte: what has not ended after it, and "the timings that end in its portion"
+unfoldable pub unfinishedAfter : Unfinished → List ℕ → Unfinished
+unfinishedAfter unfinished [] = unfinished
+unfinishedAfter unfinished (byte ∷ bytes) = unfinishedAfter (unfinishedAfterByte (unfinished .held) (unfinished .zeros) byte) bytes
+
+unfoldable pub timingsEnding : Unfinished → List ℕ → List ℕ
+timingsEnding unfinished [] = []
+timingsEnding unfinished (byte ∷ bytes) =
+    timingsOfByte (unfinished .held) (unfinished .zeros) byte
+    ++ timingsEnding (unfinishedAfterByte (unfinished .held) (unfinished .zeros) byte) bytes
+
+-- before the first byte: nothing is held, no zeros stand before the next value, no timing has ended
+abbrev pub freshReader : RevolutionReader
+freshReader = record { unfinished = record { held = Nothing; zeros = 0 }; timings = 0 }
+
+-- the states that calls leave: at most 7 zeros counted, and at most 65,536 timings, since more are refused with 7. That calls leave these
+-- and no others is `left-exactly`, in proofs/Laws
+unfoldable pub isLeft : RevolutionReader → Bool
+isLeft reader = leb (reader .unfinished .zeros) 7 && leb (reader .timings) 65536
+
+-- "a carried state no call leaves counts as a fresh one"
+unfoldable pub usableReader : RevolutionReader → RevolutionReader
+usableReader reader = cond (isLeft reader) reader freshReader
+
+-- "A portion is refused only with 7, 8 (both counted from the revolution's start) or 10 (for its own timings)": where so many timings
+-- ended before it, these end in it, and the list has this room
+unfoldable pub portionJudged : ℕ → List ℕ → ℕ → Answer ℕ
+portionJudged before ts room =
+    cond (ltb 65536 (before + length ts)) (refused 7 (before + length ts))
+    (cond (ltb (firstOut ts) (length ts)) (refused 8 (before + firstOut ts)) (roomJudged (length ts) room))
+
+abbrev pub portionTimings : RevolutionReader → List ℕ → List ℕ
+portionTimings reader portion = timingsEnding (usableReader reader .unfinished) portion
+
+abbrev pub portionAnswer : RevolutionReader → List ℕ → ℕ → Answer ℕ
+portionAnswer reader portion room = portionJudged (usableReader reader .timings) (portionTimings reader portion) room
+
+-- "and changes nothing": the reader and the list after a call
+unfoldable pub readerLeft : Answer ℕ → RevolutionReader → List ℕ → RevolutionReader
+readerLeft (gives count) reader portion =
+    record { unfinished = unfinishedAfter (usableReader reader .unfinished) portion; timings = usableReader reader .timings + count }
+readerLeft (refused number value) reader portion = reader
+
+abbrev pub portionReader : RevolutionReader → List ℕ → ℕ → RevolutionReader
+portionReader reader portion room = readerLeft (portionAnswer reader portion room) reader portion
+
+abbrev pub portionList : RevolutionReader → List ℕ → List ℕ → List ℕ
+portionList reader portion list = bufferAfter (portionAnswer reader portion (length list)) (portionTimings reader portion) list
+
+-- calls on portions from a fresh reader on, none of them refused: the reader that they left, all bytes that they were handed, and all
+-- timings that they gave, in order
+pub data Calls : RevolutionReader → List ℕ → List ℕ → Type 0 where
+  none : Calls freshReader [] []
+  more : {reader : RevolutionReader} {bytes given : List ℕ} (portion : List ℕ) (room count : ℕ)
+      → Calls reader bytes given → portionAnswer reader portion room ≡ gives count
+      → Calls (portionReader reader portion room) (bytes ++ portion) (given ++ portionTimings reader portion)
+
+-- what a call promises that takes a reader and a portion, and leaves a list: with all calls before it, it has given the timings of all
+-- bytes so far. So where the bytes in all are those of a revolution, the timings in all are `revolutionTimings`, which the whole call gives
+pub record AllTimings (reader : RevolutionReader) (portion : List ℕ) (answer : Answer ℕ) (list : List ℕ) : Type 0 where
+  pub same : (bytes given : List ℕ) → Calls reader bytes given → (count : ℕ) → answer ≡ gives count → given ++ take count list ≡ timingsIn (bytes ++ portion)

@@ -1,0 +1,166 @@
+// Track blocks of SuperCard Pro images: the timings of one revolution, from a whole block or from its values in portions, and the cells
+// that the separator makes of them.
+//
+// A block is the letters TRK, the track number, a table with twelve bytes for each revolution, and the values of the revolutions, which
+// stand where the table says.
+mod portions;
+mod separating;
+
+use refusals::Refusal;
+pub use separating::separate_revolution;
+ghost use mathlib.Core.Path.{_≡_};
+ghost use Prim.Native.Nat.{_+_, _*_, _≤_, _<_};
+ghost use lib.ListN.{length, drop};
+ghost use Rattle.basis.specs.Bytes.{number};
+ghost use Rattle.supercard_pro.specs.TrackBlock.{valueCount, valueOffset, tableEnd, otherLetters, badRevolution, someBad, notATrackBlock, givenAnswer, blockAnswer, blockTimings};
+
+// What a call gives: the number of timings, or a refusal.
+pub enum Given {
+    Timings(usize),
+    Refused(Refusal),
+}
+
+// The first byte of a value, where a portion ended between its two.
+pub enum Held {
+    Nothing,
+    High(u8),
+}
+
+// The timing that has not ended: the zeros before its value, counted up to 7, and what is held of the value.
+pub struct Unfinished {
+    pub held: Held,
+    pub zeros: u32,
+}
+
+// Where the reading of a revolution's values stands: the timing that has not ended, and how many have.
+pub struct RevolutionReader {
+    pub unfinished: Unfinished,
+    pub timings: u32,
+}
+
+// A portion taken: what the call gives, and the next state, which is the same beside a refusal.
+pub struct TakenPortion {
+    pub given: Given,
+    pub next: RevolutionReader,
+}
+
+// The timings of one revolution of a block, counted from 0, in nanoseconds, to the front of a list. `revolutions` is their number in the
+// image's header.
+pub fn revolution_timings(
+    block: &[u8],
+    revolutions: u32,
+    revolution: u32,
+    timings: &mut [u32],
+) -> Given
+    ensures answer { λ r. ⌜ givenAnswer r ≡ blockAnswer (now (block .entry)) revolutions revolution (length (now (timings .entry))) ⌝ }
+    ensures list { λ _. ⌜ now (timings .exit) ≡ blockTimings (now (block .entry)) revolutions revolution (now (timings .entry)) ⌝ }
+{
+    if not_a_block(block, revolutions) {
+        return Given::Refused(Refusal::NotATrackBlock);
+    }
+    if revolutions <= revolution {
+        return Given::Refused(Refusal::NoSuchRevolution);
+    }
+    let count = value_count(block, revolution);
+    if count == 0 {
+        return Given::Refused(Refusal::NoTimings);
+    }
+    let from = value_offset(block, revolution);
+    let to = from + 2 * count;
+    let taken = RevolutionReader::new().take(&block[from..to], timings);
+    taken.given
+}
+
+// Whether a block is refused with 16.
+fn not_a_block(block: &[u8], revolutions: u32) -> bool
+    ensures { λ r. ⌜ r ≡ notATrackBlock (now (block .entry)) revolutions ⌝ }
+{
+    if block.len() < table_end(revolutions) {
+        return true;
+    }
+    if other_letters(block) {
+        return true;
+    }
+    some_bad(block, revolutions)
+}
+
+// Where the table ends.
+fn table_end(revolutions: u32) -> usize
+    ensures { λ r. ⌜ r ≡ tableEnd revolutions ⌝ }
+{
+    4 + 12 * (revolutions as usize)
+}
+
+fn other_letters(block: &[u8]) -> bool
+    requires { ⌜ 4 ≤ length (now block) ⌝ }
+    ensures { λ r. ⌜ r ≡ otherLetters (now (block .entry)) ⌝ }
+{
+    !((block[0] == b'T') & ((block[1] == b'R') & (block[2] == b'K')))
+}
+
+// Whether some revolution's values are bad, of a block whose table is whole.
+fn some_bad(block: &[u8], revolutions: u32) -> bool
+    requires { ⌜ tableEnd revolutions ≤ length (now block) ⌝ }
+    ensures { λ r. ⌜ r ≡ someBad (now (block .entry)) revolutions ⌝ }
+{
+    let mut k: u32 = 0;
+    while k < revolutions {
+        if bad_revolution(block, revolutions, k) {
+            return true;
+        }
+        k += 1;
+    }
+    false
+}
+
+// Whether a revolution's values start inside the table, end beyond the block or end in a 0.
+fn bad_revolution(block: &[u8], revolutions: u32, k: u32) -> bool
+    requires { ⌜ (k < revolutions) × (tableEnd revolutions ≤ length (now block)) ⌝ }
+    ensures { λ r. ⌜ r ≡ badRevolution (now (block .entry)) revolutions k ⌝ }
+{
+    let from = value_offset(block, k);
+    if from < table_end(revolutions) {
+        return true;
+    }
+    let count = value_count(block, k);
+    let to = from + 2 * count;
+    if block.len() < to {
+        return true;
+    }
+    if count == 0 {
+        return false;
+    }
+    two_bytes(block[to - 2], block[to - 1]) == 0
+}
+
+// A value, high byte first.
+fn two_bytes(high: u8, low: u8) -> u32
+    ensures { λ r. ⌜ r ≡ 256 * high + low ⌝ }
+{
+    256 * (high as u32) + (low as u32)
+}
+
+// The number of a revolution's values, and where they start.
+fn value_count(block: &[u8], k: u32) -> usize
+    requires { ⌜ 16 + 12 * k ≤ length (now block) ⌝ }
+    ensures is { λ r. ⌜ r ≡ valueCount (now (block .entry)) k ⌝ }
+    ensures small { λ r. ⌜ r < 4294967296 ⌝ }
+{
+    number_at(block, 8 + 12 * (k as usize)) as usize
+}
+
+fn value_offset(block: &[u8], k: u32) -> usize
+    requires { ⌜ 16 + 12 * k ≤ length (now block) ⌝ }
+    ensures is { λ r. ⌜ r ≡ valueOffset (now (block .entry)) k ⌝ }
+    ensures small { λ r. ⌜ r < 4294967296 ⌝ }
+{
+    number_at(block, 12 + 12 * (k as usize)) as usize
+}
+
+// The number of 32 bits at byte `at`, low byte first.
+fn number_at(block: &[u8], at: usize) -> u32
+    requires { ⌜ at + 4 ≤ length (now block) ⌝ }
+    ensures { λ r. ⌜ r ≡ number (drop at (now (block .entry))) ⌝ }
+{
+    basis::four_bytes(block[at], block[at + 1], block[at + 2], block[at + 3])
+}
