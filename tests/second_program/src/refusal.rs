@@ -1,4 +1,6 @@
-//! 01, "Refused calls": the fifteen refusals and the value that each gives also.
+//! 01, "Refused calls": the fifteen refusals and the value that each gives also; and
+//! 16 and 17, which ticket 3 of 02 adds. "Refusals added later give 0 unless they say
+//! otherwise."
 //!
 //! The order in which a routine judges them stands in the routine itself.
 
@@ -22,7 +24,7 @@ pub const MOST_BYTES_TO_DECODE: usize = 16_384;
 /// A refused call: the number of the table's row, and what it "gives also".
 #[derive(Clone, Copy, Debug, PartialEq, Eq)]
 pub struct Refusal {
-    /// The row of 01's table, 1 to 15.
+    /// The row of 01's table, 1 to 15, or a number added later.
     pub number: u32,
     /// The value of the column "gives also".
     pub value: u64,
@@ -86,6 +88,11 @@ impl Refusal {
         Refusal::new(10, bytes_needed)
     }
 
+    /// 10 of a track block: "10 for room, with the timings needed".
+    pub fn too_little_room_for_timings(timings_needed: usize) -> Refusal {
+        Refusal::new(10, timings_needed)
+    }
+
     /// 11: no sector of that index; gives the sectors.
     pub fn no_such_sector(sectors: usize) -> Refusal {
         Refusal::new(11, sectors)
@@ -110,6 +117,16 @@ impl Refusal {
     pub fn not_a_track_file() -> Refusal {
         Refusal::new(15, 0)
     }
+
+    /// 16: not a track block; gives 0.
+    pub fn not_a_track_block() -> Refusal {
+        Refusal::new(16, 0)
+    }
+
+    /// 17: a revolution that the track block lacks; gives 0.
+    pub fn no_such_revolution() -> Refusal {
+        Refusal::new(17, 0)
+    }
 }
 
 #[cfg(test)]
@@ -129,11 +146,14 @@ mod tests {
             (Refusal::timing_out_of_range(3), 8, 3),
             (Refusal::too_many_cells(131_073), 9, 131_073),
             (Refusal::too_little_room_for_cells(2), 10, 2),
+            (Refusal::too_little_room_for_timings(4), 10, 4),
             (Refusal::no_such_sector(9), 11, 9),
             (Refusal::no_data_read(), 12, 0),
             (Refusal::too_little_room_for_bytes(512), 13, 512),
             (Refusal::too_many_bytes(8_193), 14, 8_193),
             (Refusal::not_a_track_file(), 15, 0),
+            (Refusal::not_a_track_block(), 16, 0),
+            (Refusal::no_such_revolution(), 17, 0),
         ];
         for (refusal, number, value) in rows {
             assert_eq!(refusal, Refusal { number, value });
