@@ -30,7 +30,7 @@ pub record Behind (reader : RevolutionReader) (bytes given : List ℕ) : Type 0 
   pub given-is : given ≡ timingsEnding (between 0) bytes
   pub all-in : firstOut given ≡ length given
 
-as-it-is : (reader : RevolutionReader) → isLeft reader ≡ true → usableReader reader ≡ reader
+pub as-it-is : (reader : RevolutionReader) → isLeft reader ≡ true → usableReader reader ≡ reader
 unfolding usableReader
 as-it-is reader e = rw e
 

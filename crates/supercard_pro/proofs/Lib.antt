@@ -6,3 +6,6 @@ pub mod History
 pub mod Taking
 pub mod Block
 pub mod BlockCells
+pub mod ByNumbers
+pub mod Laws
+pub mod Examples

@@ -2,3 +2,4 @@ pub mod TrackBlock
 pub mod Portions
 pub mod BlockToCells
 pub mod PrivateContracts
+pub mod Numbers

@@ -3,6 +3,7 @@
 //
 // A block is the letters TRK, the track number, a table with twelve bytes for each revolution, and the values of the revolutions, which
 // stand where the table says.
+mod numbers;
 mod portions;
 mod separating;
 

@@ -93,7 +93,7 @@ struct Seen {
 }
 
 // A state that no call leaves counts as a fresh one.
-fn usable(reader: RevolutionReader) -> RevolutionReader
+pub fn usable(reader: RevolutionReader) -> RevolutionReader
     ensures { λ r. ⌜ r ≡ usableReader reader ⌝ }
 {
     let unfinished = reader.unfinished;

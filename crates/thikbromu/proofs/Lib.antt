@@ -1,2 +1,3 @@
 mod Portions
 pub mod Laws
+mod RevolutionCalls

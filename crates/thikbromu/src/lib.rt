@@ -7,8 +7,12 @@
 //
 // What the boundary asks of a caller in another language: each address is valid for its length, lent memory does not
 // overlap what else is passed, and a bool is 0 or 1. The routines ask nothing of the values.
+mod blocks;
 mod files;
 
+pub use blocks::thikbromu_revolution_cells;
+pub use blocks::thikbromu_revolution_portion;
+pub use blocks::thikbromu_revolution_timings;
 pub use files::thikbromu_file_feed;
 pub use files::thikbromu_file_finish;
 pub use files::thikbromu_file_listing;

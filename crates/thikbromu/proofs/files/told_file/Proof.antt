@@ -35,7 +35,7 @@ returns : tie.Need-returns
 returns c = rw (c .before .before .before .before .before .before .read .given .1) (refl, refl, c .before .before .copy-numbers .ensures)
 
 returns-2 : tie.Need-returns-2
-returns-2 c = search needs
+returns-2 c = rw (c .before .before .before .read2 .given .1) (c .number .ensures, c .before .value .ensures, refl)
 
 pub told-file-spec : {M : Type 1} → statement M
 told-file-spec =

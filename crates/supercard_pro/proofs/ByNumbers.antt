@@ -1,0 +1,146 @@
+-- The reader of a revolution as a number: each number gives a reader, the number of a reader that calls leave gives it back, and so calls by
+-- numbers are calls. Assumes nothing.
+use Prim.Native.Nat.{ℕ, _+_, _-_, _*_, _/_, _%_, _≤_, _<_}
+use mathlib.Core.Path.{_≡_, refl, sym, _∙_, ap, subst}
+use mathlib.Core.Bool.{Bool, true, false, cond}
+use mathlib.Core.List.{List, [], _∷_, _++_}
+use native.Mathlib.Omega.{arith}
+use native.Mathlib.Decide.{ℕ-discrete}
+use borrow.Author.Tests.{eq-eqb, ne-eqb}
+use lib.Dec.{eqb}
+use Rattle.refusals.specs.RefusedCalls.Answer.{gives, refused}
+use Rattle.supercard_pro.specs.Portions.{unfinishedAfterValue, unfinishedAfterByte, unfinishedAfter, freshReader, isLeft, usableReader, portionTimings, portionAnswer, readerLeft, portionReader, Calls}
+use Rattle.supercard_pro.specs.Portions.Calls.{none as no-call, more as one-more}
+use Rattle.supercard_pro.specs.Numbers.{heldNumber, heldFrom, numberOfParts, revolutionNumber, revolutionFrom, numberKept, PortionBytes, NumberCalls}
+use Rattle.supercard_pro.specs.Numbers.NumberCalls.{none, more}
+use Rattle.supercard_pro.specs.declared.Held.{Held}
+use Rattle.supercard_pro.specs.declared.Held.the-variants.{Nothing, High}
+use Rattle.supercard_pro.specs.declared.RevolutionReader.{RevolutionReader}
+use Rattle.supercard_pro.specs.declared.Unfinished.{Unfinished}
+use Rattle.supercard_pro.proofs.Judging.{usable-few, is-left}
+use Rattle.supercard_pro.proofs.History.{as-it-is, Behind, behind-calls}
+
+-- each branch of the code
+pub none-held : (n : ℕ) → n ≡ 0 → Nothing ≡ heldFrom n
+none-held n e = rw (eq-eqb n 0 e)
+
+pub one-held : (n : ℕ) → (n ≡ 0 → ⊥) → High (n - 1) ≡ heldFrom n
+one-held n e = rw (ne-eqb n 0 e)
+
+pub parts-from : (n : ℕ) {held : Held} → held ≡ heldFrom (n % 257)
+    → record { unfinished = record { held = held; zeros = n / 257 % 8 }; timings = n / 257 / 8 } ≡ revolutionFrom n
+unfolding revolutionFrom
+parts-from n e = rw e
+
+pub parts-number : (reader : RevolutionReader) {used : RevolutionReader} → used ≡ usableReader reader → {held : ℕ} → held ≡ heldNumber (used .unfinished .held)
+    → held + 257 * (used .unfinished .zeros + 8 * used .timings) ≡ revolutionNumber reader
+unfolding revolutionNumber
+parts-number reader {used} u h = ap (λ (n : ℕ). n + 257 * (used .unfinished .zeros + 8 * used .timings)) h ∙ ap numberOfParts u
+
+-- what is held is a byte
+abbrev pub HeldByte : Held → Type 0
+HeldByte Nothing = Unit
+HeldByte (High high) = high < 256
+
+held-back : (held : Held) → HeldByte held → (heldFrom (heldNumber held) ≡ held) × (heldNumber held < 257)
+held-back Nothing h = (refl, omega arith)
+held-back (High high) h =
+    let e : high + 1 - 1 ≡ high = omega arith in
+    (rw (ne-eqb (high + 1) 0 (λ z. omega (arith, z)), e), omega arith)
+
+-- the three parts of a number
+part-0 : (a z t : ℕ) → a < 257 → (a + 257 * (z + 8 * t)) % 257 ≡ a
+part-0 a z t h = omega arith
+
+part-1 : (a z t : ℕ) → a < 257 → (a + 257 * (z + 8 * t)) / 257 ≡ z + 8 * t
+part-1 a z t h = omega arith
+
+pub read-back : (reader : RevolutionReader) → HeldByte (usableReader reader .unfinished .held) → revolutionFrom (revolutionNumber reader) ≡ usableReader reader
+unfolding revolutionNumber revolutionFrom
+read-back reader h = back (usableReader reader) h (usable-few reader .0)
+  where
+    back : (r : RevolutionReader) → HeldByte (r .unfinished .held) → r .unfinished .zeros ≤ 7
+        → record {
+          unfinished = record { held = heldFrom (numberOfParts r % 257); zeros = numberOfParts r / 257 % 8 };
+          timings = numberOfParts r / 257 / 8;
+        }
+        ≡ r
+    back r h few =
+        let b = held-back (r .unfinished .held) h in
+        let a = heldNumber (r .unfinished .held) in
+        let z = r .unfinished .zeros in
+        let t = r .timings in
+        let p = part-0 a z t (b .1) in
+        let q = part-1 a z t (b .1) in
+        let m : (z + 8 * t) % 8 ≡ z = omega arith in
+        let d : (z + 8 * t) / 8 ≡ t = omega arith in
+        rw (p, q, m, d, b .0)
+
+-- bytes leave a byte held, or nothing
+held-after : (u : Unfinished) (bytes : List ℕ) → HeldByte (u .held) → PortionBytes bytes → HeldByte (unfinishedAfter u bytes .held)
+unfolding unfinishedAfter unfinishedAfterValue
+held-after u [] h b = h
+held-after u (byte ∷ bytes) h b = held-after (unfinishedAfterByte (u .held) (u .zeros) byte) bytes (one (u .held)) (b .1)
+  where
+    one : (held : Held) → HeldByte (unfinishedAfterByte held (u .zeros) byte .held)
+    one Nothing = b .0
+    one (High high) = tt
+
+-- the reader that calls leave is used as it is
+left-as-is : {reader : RevolutionReader} {bytes given : List ℕ} → Calls reader bytes given → usableReader reader ≡ reader
+left-as-is {reader} calls =
+    let b = behind-calls calls in
+    as-it-is reader (is-left reader (b .few-zeros) (b .few-timings))
+
+-- calls that keep the reader as a number are calls
+module _ (n : ℕ) (bytes given portion : List ℕ) (room count : ℕ) (calls : Calls (revolutionFrom n) bytes given) (byte : HeldByte (revolutionFrom n .unfinished .held))
+    (portion-is : PortionBytes portion) (answer : portionAnswer (revolutionFrom n) portion room ≡ gives count) where
+  abbrev next : RevolutionReader
+  next = portionReader (revolutionFrom n) portion room
+
+  next-calls : Calls next (bytes ++ portion) (given ++ portionTimings (revolutionFrom n) portion)
+  next-calls = one-more portion room count calls answer
+
+  next-byte : HeldByte (next .unfinished .held)
+  unfolding readerLeft
+  next-byte =
+      rw (answer, left-as-is calls) (held-after (revolutionFrom n .unfinished) portion byte portion-is)
+
+  same-next : revolutionFrom (revolutionNumber next) ≡ next
+  same-next =
+      let e = left-as-is next-calls in
+      read-back next (subst (λ (r : RevolutionReader). HeldByte (r .unfinished .held)) (sym e) next-byte) ∙ e
+
+  next-by-number : Calls (revolutionFrom (revolutionNumber next)) (bytes ++ portion) (given ++ portionTimings (revolutionFrom n) portion)
+      × HeldByte (revolutionFrom (revolutionNumber next) .unfinished .held)
+  next-by-number =
+      subst
+      (λ (r : RevolutionReader). Calls r (bytes ++ portion) (given ++ portionTimings (revolutionFrom n) portion) × HeldByte (r .unfinished .held))
+      (sym same-next)
+      (next-calls, next-byte)
+
+calls-and-byte : {n : ℕ} {bytes given : List ℕ} → NumberCalls n bytes given → Calls (revolutionFrom n) bytes given × HeldByte (revolutionFrom n .unfinished .held)
+unfolding revolutionFrom
+calls-and-byte none = (no-call, tt)
+calls-and-byte (more {n} {bytes} {given} portion room count calls portion-is answer) =
+    let c = calls-and-byte calls in
+    next-by-number n bytes given portion room count (c .0) (c .1) portion-is answer
+
+pub calls-by-numbers : {n : ℕ} {bytes given : List ℕ} → NumberCalls n bytes given → Calls (revolutionFrom n) bytes given
+calls-by-numbers calls = calls-and-byte calls .0
+
+-- and each number is that of its reader, where calls leave the reader
+held-is : (m : ℕ) → heldNumber (heldFrom m) ≡ m
+held-is m = go (ℕ-discrete m 0)
+  where
+    go : Dec (m ≡ 0) → heldNumber (heldFrom m) ≡ m
+    go (yes z) = rw (eq-eqb m 0 z) (sym z)
+    go (no z) = rw (ne-eqb m 0 z) (omega (arith, z))
+
+parts-back : (n : ℕ) → numberOfParts (revolutionFrom n) ≡ n
+unfolding revolutionFrom
+parts-back n = rw (held-is (n % 257)) (omega arith)
+
+pub number-back : (n : ℕ) → isLeft (revolutionFrom n) ≡ true → revolutionNumber (revolutionFrom n) ≡ n
+unfolding revolutionNumber
+number-back n e = rw (as-it-is (revolutionFrom n) e) (parts-back n)

@@ -1,0 +1,184 @@
+-- What follows from the definitions of the portions and of the whole call.
+--
+--   left-few         after an accepted portion at most 7 zeros are counted, and at most 65,536 timings
+--   accepted-left    so the reader that it leaves is one that calls leave
+--   left-exactly     "a carried state no call leaves": calls leave the states of which `isLeft` is true, and no others
+--   counted          a reader that calls left counts the timings that they gave
+--   as-whole-call    "where nothing is refused, the timings in all are the same" as the whole call's, on a list with room for them
+--   whole-in-one     where the whole call is accepted, so is one portion with all bytes, with the same answer and the same list
+--
+-- Assumes nothing.
+use Prim.Native.Nat.{ℕ, zero, suc, _+_, _≤_, _<_, min}
+use mathlib.Core.Path.{_≡_, refl, sym, _∙_, ap, subst}
+use mathlib.Core.Bool.{Bool, true, false, cond, _&&_}
+use mathlib.Core.List.{List, [], _∷_}
+use native.Mathlib.Nat.{add-zero, min-eq-left}
+use native.Mathlib.Numerals.{add-one}
+use native.Mathlib.Omega.{arith}
+use borrow.Author.Tests.{leb-true, lt-ltb, le-ltb}
+use lib.Dec.{leb, ltb}
+use lib.ListN.{length, length-append}
+use Rattle.basis.specs.Lists.{writtenOver}
+use Rattle.flux.specs.Rule.{inRange}
+use Rattle.flux.specs.Separation.{firstOut}
+use Rattle.flux.proofs.Judging.{no-timings, timings-accepted}
+use Rattle.refusals.specs.RefusedCalls.{Answer, bufferAfter}
+use Rattle.refusals.specs.RefusedCalls.Answer.{gives, refused}
+use Rattle.supercard_pro.specs.TrackBlock.{valueBytes, revolutionTimings, notATrackBlock, blockJudged, roomJudged, blockAnswer, blockTimings}
+use Rattle.supercard_pro.specs.Portions.{unfinishedAfterValue, timingsOfValue, unfinishedAfter, timingsEnding, freshReader, isLeft, usableReader, portionTimings, portionAnswer, readerLeft, portionReader, portionList, Calls}
+use Rattle.supercard_pro.specs.Portions.Calls.{none, more}
+use Rattle.supercard_pro.specs.PrivateContracts.{between}
+use Rattle.supercard_pro.specs.declared.Held.{Held}
+use Rattle.supercard_pro.specs.declared.Held.the-variants.{Nothing, High}
+use Rattle.supercard_pro.specs.declared.RevolutionReader.{RevolutionReader}
+use Rattle.supercard_pro.specs.declared.Unfinished.{Unfinished}
+use Rattle.supercard_pro.proofs.Block.{whole-answer, whole-list}
+use Rattle.supercard_pro.proofs.History.{behind-calls}
+use Rattle.supercard_pro.proofs.Judging.{is-left, used-as-is, usable-few, all-given, accepted}
+use Rattle.supercard_pro.proofs.Timings.{alike-same, from-start, zeros-stay-few}
+
+-- an accepted portion leaves few zeros and few timings, whatever reader came
+module _ (reader : RevolutionReader) (portion : List ℕ) (room count : ℕ) (answer : portionAnswer reader portion room ≡ gives count) where
+  pub left-few : (readerLeft (gives count) reader portion .unfinished .zeros ≤ 7) × (readerLeft (gives count) reader portion .timings ≤ 65536)
+  unfolding readerLeft
+  left-few =
+      let used = usable-few reader in
+      let a = accepted (usableReader reader .timings) (portionTimings reader portion) room count answer in
+      (zeros-stay-few (usableReader reader .unfinished) portion (used .0), omega (arith, a .few, a .count-is))
+
+  -- so it leaves a state that calls leave
+  pub accepted-left : isLeft (readerLeft (gives count) reader portion) ≡ true
+  accepted-left = is-left (readerLeft (gives count) reader portion) (left-few .0) (left-few .1)
+
+-- calls leave only states of which `isLeft` is true
+pub calls-leave : {reader : RevolutionReader} {bytes given : List ℕ} → Calls reader bytes given → isLeft reader ≡ true
+calls-leave {reader} calls = let b = behind-calls calls in is-left reader (b .few-zeros) (b .few-timings)
+
+-- a reader that calls leave: all bytes that they were handed, and all timings that they gave
+pub record LeftByCalls (reader : RevolutionReader) : Type 0 where
+  pub bytes : List ℕ
+  pub given : List ℕ
+  pub calls : Calls reader bytes given
+
+-- one portion more, with room for just its timings
+module _ (u : Unfinished) (n : ℕ) (few-zeros : u .zeros ≤ 7) (portion : List ℕ) where
+  abbrev ts : List ℕ
+  ts = timingsEnding u portion
+
+  abbrev at : RevolutionReader
+  at = record { unfinished = u; timings = n }
+
+  one-more : n + length ts ≤ 65536 → length ts ≤ firstOut ts → LeftByCalls at
+      → LeftByCalls (record { unfinished = unfinishedAfter u portion; timings = n + length ts })
+  unfolding readerLeft
+  one-more few all-in l =
+      let used : usableReader at ≡ at = sym (used-as-is at few-zeros (omega arith)) in
+      let answer : portionAnswer at portion (length ts) ≡ gives (length ts) = rw used (sym (all-given n ts (length ts) few all-in (omega arith))) in
+      let left : portionReader at portion (length ts) ≡ record { unfinished = unfinishedAfter u portion; timings = n + length ts }
+      = ap (λ (a : Answer ℕ). readerLeft a at portion) answer ∙ rw used in
+      subst (λ (r : RevolutionReader). LeftByCalls r) left
+      (record { bytes = _; given = _; calls = more portion (length ts) (length ts) (l .calls) answer })
+
+-- n timings: n portions with the value 1. Then z zeros: z portions with the value 0
+after-timings : (n : ℕ) → n ≤ 65536 → LeftByCalls (record { unfinished = between 0; timings = n })
+unfolding unfinishedAfter timingsEnding unfinishedAfterValue timingsOfValue firstOut inRange
+after-timings zero h = record { bytes = _; given = _; calls = none }
+after-timings (suc n) h = rw (← add-one n) (one-more (between 0) n (omega arith) (0 ∷ 1 ∷ []) (omega arith) (omega arith) (after-timings n (omega arith)))
+
+after-zeros : (z n : ℕ) → z ≤ 7 → n ≤ 65536 → LeftByCalls (record { unfinished = between z; timings = n })
+unfolding unfinishedAfter timingsEnding unfinishedAfterValue timingsOfValue firstOut
+after-zeros zero n a b = after-timings n b
+after-zeros (suc z) n a b =
+    let e : min (z + 1) 7 ≡ suc z = min-eq-left (omega arith) ∙ add-one z in
+    rw (← e, ← add-zero n) (one-more (between z) n (omega arith) (0 ∷ 0 ∷ []) (omega arith) (omega arith) (after-zeros z n (omega arith) b))
+
+-- and then the byte that is held
+after-held : (held : Held) (z n : ℕ) → z ≤ 7 → n ≤ 65536 → LeftByCalls (record { unfinished = record { held = held; zeros = z }; timings = n })
+unfolding unfinishedAfter timingsEnding firstOut
+after-held Nothing z n a b = after-zeros z n a b
+after-held (High byte) z n a b = rw (← add-zero n) (one-more (between z) n a (byte ∷ []) (omega arith) (omega arith) (after-zeros z n a b))
+
+-- each state of which `isLeft` is true is left by calls
+pub left-by-calls : (reader : RevolutionReader) → isLeft reader ≡ true → LeftByCalls reader
+unfolding isLeft
+left-by-calls reader = go (leb (reader .unfinished .zeros) 7) refl (leb (reader .timings) 65536) refl
+  where
+    go : (x : Bool) → leb (reader .unfinished .zeros) 7 ≡ x → (y : Bool) → leb (reader .timings) 65536 ≡ y → (x && y) ≡ true → LeftByCalls reader
+    go true a true b e =
+        after-held (reader .unfinished .held) (reader .unfinished .zeros) (reader .timings) (leb-true (reader .unfinished .zeros) 7 a) (leb-true (reader .timings) 65536 b)
+    go true a false b e = let z : _≡_ {A = ℕ} 0 1 = cc in absurd (omega arith)
+    go false a y b e = let z : _≡_ {A = ℕ} 0 1 = cc in absurd (omega arith)
+
+-- the states that calls leave are exactly those of which `isLeft` is true
+pub left-exactly : (reader : RevolutionReader) → (LeftByCalls reader → isLeft reader ≡ true) × (isLeft reader ≡ true → LeftByCalls reader)
+left-exactly reader = ((λ l. calls-leave (l .calls)), left-by-calls reader)
+
+-- a reader that calls left counts the timings that they gave
+pub counted : {reader : RevolutionReader} {bytes given : List ℕ} → Calls reader bytes given → reader .timings ≡ length given
+unfolding readerLeft
+counted none = refl
+counted (more {reader} {bytes} {given} portion room count calls answer) =
+    let b = behind-calls calls in
+    let used = used-as-is reader (b .few-zeros) (b .few-timings) in
+    let a = accepted (usableReader reader .timings) (portionTimings reader portion) room count answer in
+    ap (λ (x : Answer ℕ). readerLeft x reader portion .timings) answer
+    ∙ omega (arith, counted calls, ap (λ (r : RevolutionReader). r .timings) used, a .count-is, length-append given (portionTimings reader portion))
+
+-- the whole call, beside calls on portions that gave these timings. Where there are none the whole call is refused with 6, and no portion is
+pub record AsWholeCall (block : List ℕ) (revolutions k : ℕ) (given : List ℕ) : Type 0 where
+  pub same : given ≡ revolutionTimings block k
+  pub answer : (length given ≡ 0 → ⊥) → (list : List ℕ) → length given ≤ length list → blockAnswer block revolutions k (length list) ≡ gives (length given)
+  pub written : (length given ≡ 0 → ⊥) → (list : List ℕ) → length given ≤ length list → blockTimings block revolutions k list ≡ writtenOver given list
+
+-- one portion with all bytes from a fresh reader on, beside the whole call on the same list
+pub record InOne (block : List ℕ) (revolutions k : ℕ) (list : List ℕ) (count : ℕ) : Type 0 where
+  pub answer : portionAnswer freshReader (valueBytes block k) (length list) ≡ gives count
+  pub written : portionList freshReader (valueBytes block k) list ≡ blockTimings block revolutions k list
+
+module _ (block : List ℕ) (revolutions k : ℕ) where
+  -- a revolution that the block has, whose timings are these
+  module _ (block-is : notATrackBlock block revolutions ≡ false) (has : k < revolutions) {ts : List ℕ} (is : ts ≡ revolutionTimings block k) where
+    given-whole : (length ts ≡ 0 → ⊥) → length ts ≤ 65536 → firstOut ts ≡ length ts → (room : ℕ) → length ts ≤ room
+        → blockAnswer block revolutions k room ≡ gives (length ts)
+    unfolding blockJudged
+    given-whole some few all-in room h =
+        rw (block-is, lt-ltb k revolutions has, ← is)
+        (sym (timings-accepted ts (roomJudged (length ts) room) some few all-in) ∙ rw (le-ltb room (length ts) h))
+
+  pub as-whole-call : notATrackBlock block revolutions ≡ false → k < revolutions → {reader : RevolutionReader} {given : List ℕ}
+      → Calls reader (valueBytes block k) given → AsWholeCall block revolutions k given
+  unfolding bufferAfter
+  as-whole-call block-is has {reader} {given} calls =
+      let b = behind-calls calls in
+      let same : given ≡ revolutionTimings block k
+      = b .given-is ∙ alike-same (from-start (valueBytes block k)) (subst (λ (l : List ℕ). firstOut l ≡ length l) (b .given-is) (b .all-in)) in
+      let few : length given ≤ 65536 = omega (arith, b .few-timings, counted calls) in
+      record {
+        same = same;
+        answer = λ some list room. given-whole block-is has same some few (b .all-in) (length list) room;
+        written = λ some list room.
+            ap (λ (a : Answer ℕ). bufferAfter a (revolutionTimings block k) list) (given-whole block-is has same some few (b .all-in) (length list) room)
+            ∙ ap (λ (l : List ℕ). writtenOver l list) (sym same);
+      }
+
+  -- an accepted call is refused with neither 16 nor 17
+  judged-on : {next : Answer ℕ} {count : ℕ} → blockJudged block revolutions k next ≡ gives count → next ≡ gives count
+  unfolding blockJudged
+  judged-on {next} {count} = go (notATrackBlock block revolutions) (ltb k revolutions)
+    where
+      go : (bad has : Bool) → cond bad (refused 16 0) (cond has next (refused 17 0)) ≡ gives count → next ≡ gives count
+      go true has e = cc
+      go false true e = e
+      go false false e = cc
+
+  pub whole-in-one : (list : List ℕ) (count : ℕ) → blockAnswer block revolutions k (length list) ≡ gives count → InOne block revolutions k list count
+  whole-in-one list count e =
+      let ts = revolutionTimings block k in
+      let accepts = judged-on e in
+      let some : length ts ≡ 0 → ⊥
+      = λ none. let r = no-timings ts (roomJudged (length ts) (length list)) none in let z : _≡_ {A = ℕ} 0 1 = cc in omega arith in
+      let same : portionAnswer freshReader (valueBytes block k) (length list) ≡ gives count = whole-answer (valueBytes block k) (length list) some ∙ accepts in
+      record {
+        answer = same;
+        written = whole-list (valueBytes block k) list ∙ ap (λ (a : Answer ℕ). bufferAfter a ts list) (same ∙ sym e);
+      }

@@ -1,0 +1,58 @@
+-- The reader of a revolution's values as one number, for callers that cannot hold it: the byte that is held, the zeros before the next value
+-- and the timings that have ended.
+--
+--   number = held + 257 * (zeros + 8 * timings)          held is 0 where no byte is, and else one more than the byte
+--
+-- A fresh reader is 0, and each number stands for one reader. The main property: calls that keep the reader as a number go on as those that
+-- keep it itself (`calls-by-numbers`, in proofs/ByNumbers). Assumes nothing.
+use Prim.Native.Nat.{ℕ, _+_, _-_, _*_, _/_, _%_, _<_}
+use mathlib.Core.Path.{_≡_}
+use mathlib.Core.Bool.{cond}
+use mathlib.Core.List.{List, [], _∷_, _++_}
+use lib.Dec.{eqb}
+use Rattle.refusals.specs.RefusedCalls.{Answer}
+use Rattle.refusals.specs.RefusedCalls.Answer.{gives, refused}
+use Rattle.supercard_pro.specs.Portions.{usableReader, portionTimings, portionAnswer, portionReader}
+use Rattle.supercard_pro.specs.declared.Held.{Held}
+use Rattle.supercard_pro.specs.declared.Held.the-variants.{Nothing, High}
+use Rattle.supercard_pro.specs.declared.RevolutionReader.{RevolutionReader}
+
+-- what is held, and back
+abbrev pub heldNumber : Held → ℕ
+heldNumber Nothing = 0
+heldNumber (High high) = high + 1
+
+abbrev pub heldFrom : ℕ → Held
+heldFrom n = cond (eqb n 0) Nothing (High (n - 1))
+
+-- the three parts in one number
+abbrev pub numberOfParts : RevolutionReader → ℕ
+numberOfParts reader = heldNumber (reader .unfinished .held) + 257 * (reader .unfinished .zeros + 8 * reader .timings)
+
+-- the number of a reader. One that no call leaves counts as a fresh one
+unfoldable pub revolutionNumber : RevolutionReader → ℕ
+revolutionNumber reader = numberOfParts (usableReader reader)
+
+-- the reader of a number
+unfoldable pub revolutionFrom : ℕ → RevolutionReader
+revolutionFrom n = record { unfinished = record { held = heldFrom (n % 257); zeros = n / 257 % 8 }; timings = n / 257 / 8 }
+
+-- a number that is kept from call to call, after a call that answers so and leaves the reader `next`: its number, or, beside a refusal, the
+-- one that came
+abbrev pub numberKept : Answer ℕ → ℕ → RevolutionReader → ℕ
+numberKept (gives count) n next = revolutionNumber next
+numberKept (refused number value) n next = n
+
+-- what can be handed over as a portion: bytes
+abbrev pub PortionBytes : List ℕ → Type 0
+PortionBytes [] = Unit
+PortionBytes (byte ∷ bytes) = (byte < 256) × PortionBytes bytes
+
+-- calls on portions from the number 0 on, none of them refused: the number that they left, all bytes that they were handed, and all timings
+-- that they gave, in order
+pub data NumberCalls : ℕ → List ℕ → List ℕ → Type 0 where
+  none : NumberCalls 0 [] []
+  more : {n : ℕ} {bytes given : List ℕ} (portion : List ℕ) (room count : ℕ)
+      → NumberCalls n bytes given → PortionBytes portion → portionAnswer (revolutionFrom n) portion room ≡ gives count
+      → NumberCalls (numberKept (gives count) n (portionReader (revolutionFrom n) portion room)) (bytes ++ portion)
+      (given ++ portionTimings (revolutionFrom n) portion)
