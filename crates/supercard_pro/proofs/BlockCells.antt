@@ -4,7 +4,7 @@ use mathlib.Core.Path.{_≡_, refl, sym, _∙_, ap, subst}
 use mathlib.Core.Bool.{Bool, true, false, cond}
 use mathlib.Core.List.{List, _++_}
 use native.Mathlib.Omega.{arith}
-use borrow.Author.Tests.{le-ltb, ltb-false}
+use borrow.Author.Tests.{le-ltb, ltb-false, eqb-false}
 use lib.Dec.{eqb, ltb}
 use lib.ListN.{length, take, drop}
 use lib.Seq.{take-at}
@@ -127,3 +127,32 @@ module _ (block : List ℕ) (revolutions k : ℕ) where
         let is : answer ≡ separation ts (length before) = a ∙ s in
         cells-promised before (is ∙ sym (judged-on (passes .good) (passes .there)))
         (g ∙ ap (λ (x : List ℕ). separatedCells x before) front-is ∙ ap (λ (x : Answer ℕ). bufferAfter x (packed (cellsOf ts)) before) (sym is))
+
+-- what becomes of a revolution: one of the refusals 16, 17, 6, 7 and 8, which both calls then give whatever the room, or timings that go on
+pub data Outcome (block : List ℕ) (revolutions k : ℕ) : Type 0 where
+  stops : (number value : ℕ) → blockAnswer block revolutions k 65536 ≡ refused number value
+      → ((room : ℕ) → blockSeparation block revolutions k room ≡ refused number value) → Outcome block revolutions k
+  goes-on : (length (revolutionTimings block k) ≡ 0 → ⊥) → length (revolutionTimings block k) ≤ 65536
+      → blockAnswer block revolutions k 65536 ≡ gives (length (revolutionTimings block k))
+      → ((room : ℕ) → blockSeparation block revolutions k room ≡ separation (revolutionTimings block k) room) → Outcome block revolutions k
+
+module _ (block : List ℕ) (revolutions k : ℕ) where
+  abbrev timings : List ℕ
+  timings = revolutionTimings block k
+
+  pub outcome : Outcome block revolutions k
+  unfolding blockJudged timingsJudged
+  outcome =
+      go (notATrackBlock block revolutions) refl (ltb k revolutions) refl (eqb (length timings) 0) refl (ltb 65536 (length timings)) refl
+      (ltb (firstOut timings) (length timings)) refl
+    where
+      go : (bad : Bool) → notATrackBlock block revolutions ≡ bad → (has : Bool) → ltb k revolutions ≡ has → (none : Bool) → eqb (length timings) 0 ≡ none
+          → (many : Bool) → ltb 65536 (length timings) ≡ many → (out : Bool) → ltb (firstOut timings) (length timings) ≡ out → Outcome block revolutions k
+      go true a has b none c many d out e = stops 16 0 (rw a) (λ room. rw a)
+      go false a false b none c many d out e = stops 17 0 (rw (a, b)) (λ room. rw (a, b))
+      go false a true b true c many d out e = stops 6 0 (rw (a, b, c)) (λ room. rw (a, b, c))
+      go false a true b false c true d out e = stops 7 (length timings) (rw (a, b, c, d)) (λ room. rw (a, b, c, d))
+      go false a true b false c false d true e = stops 8 (firstOut timings) (rw (a, b, c, d, e)) (λ room. rw (a, b, c, d, e))
+      go false a true b false c false d false e =
+          let few = ltb-false 65536 (length timings) d in
+          goes-on (eqb-false (length timings) 0 c) few (rw (a, b, c, d, e)) (λ room. rw (a, b, c, d, e))

@@ -1,0 +1,58 @@
+-- `scp_track::main` meets its contract: it is safe, and it ends. Assumes nothing but the contracts of the system's calls.
+use mathlib.Core.Path.{sym}
+use native.Mathlib.Omega.{arith}
+use lib.Seq.{length-take-le}
+use borrow.Author.Needs.{needs}
+use Rattle.scp_track.proofs.main.Statement.{statement}
+use Rattle.scp_track.proofs.main.Tie as tie
+
+arguments-requires : tie.Need-arguments-requires
+arguments-requires c κs = search needs
+
+slice-aggregate-write-all : tie.Need-slice-aggregate-write-all
+slice-aggregate-write-all c = search needs
+
+write-all-requires : tie.Need-write-all-requires
+write-all-requires c κs = search needs
+
+returns : tie.Need-returns
+returns c = search needs
+
+large-buffer-requires : tie.Need-large-buffer-requires
+large-buffer-requires c κs = search needs
+
+slice-aggregate-list-input-in : tie.Need-slice-aggregate-list-input-in
+slice-aggregate-list-input-in c = search needs
+
+list-input-in-requires : tie.Need-list-input-in-requires
+list-input-in-requires c κs = search needs
+
+array-share-prefix-out : tie.Need-array-share-prefix-out
+array-share-prefix-out c = search needs
+
+slice-aggregate-write-all-2 : tie.Need-slice-aggregate-write-all-2
+slice-aggregate-write-all-2 c =
+    let l = c .before .before .list-input-in in
+    sym (length-take-le _ _ (omega (arith, l .kept .1 .1 .0, l .ensures .0, c .before .before .before .before .before .large-buffer .ensures)))
+
+write-all-requires-2 : tie.Need-write-all-requires-2
+write-all-requires-2 c κs = search needs
+
+returns-2 : tie.Need-returns-2
+returns-2 c = search needs
+
+pub main-spec : {M : Type 1} → statement M
+main-spec =
+    tie.close
+    (tie.spec
+    arguments-requires
+    slice-aggregate-write-all
+    write-all-requires
+    returns
+    large-buffer-requires
+    slice-aggregate-list-input-in
+    list-input-in-requires
+    array-share-prefix-out
+    slice-aggregate-write-all-2
+    write-all-requires-2
+    returns-2)

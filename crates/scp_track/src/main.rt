@@ -1,0 +1,189 @@
+// Reads a track block of a SuperCard Pro image from standard input, and writes the listing that the track file with the timings of one of
+// its revolutions would give, or "refused" and a number, to standard output. It does nothing else.
+//
+//     scp_track REVOLUTIONS REVOLUTION TRACK SIDE < BLOCK
+//
+// REVOLUTIONS is the number of revolutions in the image's header, REVOLUTION the one to list, counted from 0, TRACK and SIDE the drive's.
+// Each is a number from 0 to 255. With other arguments the program writes how it is called to standard error, and nothing else. Where the
+// input cannot be read to its end, or is longer than 4,194,304 bytes, it writes nothing.
+use flux::Separated;
+use libc::STDERR_FILENO;
+use libc::STDIN_FILENO;
+use libc::STDOUT_FILENO;
+ghost use mathlib.Core.Path.{_≡_};
+ghost use Prim.Native.Nat.{_≤_};
+ghost use lib.ListN.{length};
+ghost use Rattle.listing.specs.Listing.{outAfter};
+ghost use Rattle.scp_track.specs.Arguments.{isDigit, argumentOf};
+ghost use Rattle.scp_track.specs.BlockListing.{roomForCells, blockListing, ListedBlock};
+
+// Room for a block: 31 revolutions with 65,536 values each. Drives record five.
+const ROOM: usize = 4_194_304;
+
+// One argument: a number from 0 to 255, or anything else.
+enum Argument {
+    Byte(u8),
+    Other,
+}
+
+// What is to be listed, where the arguments are such numbers.
+struct Choice {
+    pub right: bool,
+    pub revolutions: u8,
+    pub revolution: u8,
+    pub track: u8,
+    pub side: u8,
+}
+
+// The listing of a revolution of a block, at the front of `out`; the answer is the number of its bytes.
+fn list_block(
+    block: &[u8],
+    revolutions: u8,
+    revolution: u8,
+    track: u8,
+    side: u8,
+    out: &mut [u8],
+) -> usize
+    ensures answer { λ r. ⌜ r ≡ length (blockListing (now (block .entry)) revolutions revolution track side) ⌝ }
+    ensures few { λ r. ⌜ r ≤ 65536 ⌝ }
+    ensures out { λ _. ⌜ now (out .exit) ≡ outAfter (blockListing (now (block .entry)) revolutions revolution track side) (now (out .entry)) ⌝ }
+{
+    let mut cells = room_for_cells();
+    let separated = supercard_pro::separate_revolution(
+        block,
+        revolutions as u32,
+        revolution as u32,
+        &mut cells,
+    );
+    match separated {
+        Separated::Cells(count) => {
+            listing::list_track(&cells, count, track as u32, side as u32, out)
+        }
+        Separated::Refused(refusal) => listing::refused_line(out, refusal.number()),
+    }
+}
+
+// Room for 131,072 cells.
+fn room_for_cells() -> [u8; 16384]
+    ensures { λ r. ⌜ r ≡ roomForCells ⌝ }
+{
+    [0; 16384]
+}
+
+// The number that a word of digits is.
+fn argument_of(word: &[u8]) -> Argument
+    ensures { λ r. ⌜ r ≡ argumentOf (now (word .entry)) ⌝ }
+{
+    if word.len() == 0 {
+        return Argument::Other;
+    }
+    let mut number: u32 = 0;
+    let mut i: usize = 0;
+    while i < word.len() {
+        let byte = word[i];
+        if !is_digit(byte) {
+            return Argument::Other;
+        }
+        number = 10 * number + ((byte - 48) as u32);
+        if 255 < number {
+            return Argument::Other;
+        }
+        i += 1;
+    }
+    Argument::Byte(number as u8)
+}
+
+fn is_digit(byte: u8) -> bool
+    ensures { λ r. ⌜ r ≡ isDigit byte ⌝ }
+{
+    (b'0' <= byte) & (byte <= b'9')
+}
+
+// Argument i, from 1.
+fn argument_at(i: usize) -> Argument {
+    let mut word = io::buffer();
+    let length = os::arg(i, &mut word);
+    argument_of(&word[..length])
+}
+
+// The arguments, if they are four numbers.
+fn arguments() -> Choice {
+    let none = Choice {
+        right: false,
+        revolutions: 0,
+        revolution: 0,
+        track: 0,
+        side: 0,
+    };
+    if os::arg_count() != 5 {
+        return none;
+    }
+    let Argument::Byte(revolutions) = argument_at(1) else {
+        return none;
+    };
+    let Argument::Byte(revolution) = argument_at(2) else {
+        return none;
+    };
+    let Argument::Byte(track) = argument_at(3) else {
+        return none;
+    };
+    let Argument::Byte(side) = argument_at(4) else {
+        return none;
+    };
+    Choice {
+        right: true,
+        revolutions,
+        revolution,
+        track,
+        side,
+    }
+}
+
+// Whether there is nothing more to read. A read that fails tells of no end.
+fn at_end() -> bool {
+    let mut more = [0u8; 1];
+    libc::read(STDIN_FILENO, &mut more) == 0
+}
+
+// Reads the block, by way of `block`, and puts its listing at the front of `out`; the answer is the number of its bytes. It is 0 where the
+// input cannot be read to its end, or has more bytes than there is room for: there is nothing to write then.
+fn list_input(choice: Choice, block: &mut [u8], out: &mut [u8]) -> usize
+    ensures few { λ r. ⌜ r ≤ 65536 ⌝ }
+    ensures listing { λ r. ⌜ ListedBlock (choice .revolutions) (choice .revolution) (choice .track) (choice .side) (now (block .exit)) (now (out .entry)) r (now (out .exit)) ⌝ }
+{
+    let length = io::read_full(STDIN_FILENO, block);
+    if !at_end() {
+        return 0;
+    }
+    list_block(
+        &block[..length],
+        choice.revolutions,
+        choice.revolution,
+        choice.track,
+        choice.side,
+        out,
+    )
+}
+
+// As list_input, in an array. `main` does not lend it as a slice itself: the length of an array so large is not computed in a proof.
+fn list_input_in(choice: Choice, block: &mut [u8; ROOM], out: &mut [u8]) -> usize
+    ensures few { λ r. ⌜ r ≤ 65536 ⌝ }
+    ensures listing { λ r. ⌜ ListedBlock (choice .revolutions) (choice .revolution) (choice .track) (choice .side) (now (block .exit)) (now (out .entry)) r (now (out .exit)) ⌝ }
+{
+    list_input(choice, block, out)
+}
+
+fn main() {
+    let choice = arguments();
+    if !choice.right {
+        io::write_all(
+            STDERR_FILENO,
+            b"usage: scp_track REVOLUTIONS REVOLUTION TRACK SIDE < BLOCK\n",
+        );
+        return;
+    }
+    let mut block = [0u8; ROOM];
+    let mut out = io::large_buffer();
+    let count = list_input_in(choice, &mut block, &mut out);
+    io::write_all(STDOUT_FILENO, &out[..count]);
+}
