@@ -46,7 +46,7 @@ impl RevolutionReader {
         let seen = look(unfinished, portion);
         let count = seen.count;
         let out = seen.out;
-        if MOST_TIMINGS < before + count {
+        if flux::MOST_TIMINGS < before + count {
             return refused(self, Refusal::TooManyTimings(before + count));
         }
         if out < count {
@@ -67,9 +67,7 @@ impl RevolutionReader {
     }
 }
 
-// The most timings of a revolution, and the zeros before a value that are counted: with seven of them no timing is in range.
-const MOST_TIMINGS: usize = 65_536;
-
+// The zeros before a value that are counted: with seven of them no timing is in range.
 const MOST_ZEROS: u32 = 7;
 
 // A value's unit in nanoseconds, and the units that a 0 adds to the next value.
@@ -100,7 +98,7 @@ pub fn usable(reader: RevolutionReader) -> RevolutionReader
     if MOST_ZEROS < unfinished.zeros {
         return RevolutionReader::new();
     }
-    if MOST_TIMINGS < reader.timings as usize {
+    if flux::MOST_TIMINGS < reader.timings as usize {
         return RevolutionReader::new();
     }
     reader
