@@ -1,10 +1,11 @@
 /*
  * The library's routines for C and C++. Link target/staticlib/libthikbromu.a, which `rt staticlib thikbromu` writes.
  *
- * "01" is the scope paper, docs/01-scope.md. What each routine gives is proved; the statements are the `ensures` clauses in
- * crates/thikbromu/src. That these declarations are its own is not proved: .ci/bindings compares the names and calls every routine.
+ * "01" is the scope paper, docs/01-scope.md; "02" is the paper of later requests, whose ticket 3 adds track blocks. What each routine gives
+ * is proved; the statements are the `ensures` clauses in crates/thikbromu/src. That these declarations are its own is not proved:
+ * .ci/bindings compares the names and calls every routine.
  *
- * Answers. A routine that 01 refuses some calls of returns 0 where it accepts the call, else the refusal's number
+ * Answers. A routine of which some calls are refused returns 0 where it accepts the call, else the refusal's number
  * (enum thikbromu_refusal). At `value` it stores what the call gives, or what the refusal gives also. Beside a refusal nothing else is
  * written, but that a record or a count table is set to zeros, and that the cells of a file which thikbromu_file_finish refuses are cleared.
  * The refusals of a routine are judged in the order in which its comment names them, and the first that holds is given.
@@ -51,7 +52,7 @@ extern "C" {
 #define THIKBROMU_PLACE_NUMBERS 2
 #define THIKBROMU_LONGEST_LISTING 65536
 
-/* 01's refusals, by their numbers; behind each, what it gives also. */
+/* 01's refusals and the two that 02 adds, by their numbers; behind each, what it gives also. */
 enum thikbromu_refusal {
     THIKBROMU_REFUSED_TRACK_OR_SIDE = 1,        /* the track is above 83 or the side above 1; 0 */
     THIKBROMU_REFUSED_CELL_COUNT = 2,           /* fewer than 20,000 or more than 131,072 cells; the cells */
@@ -67,7 +68,9 @@ enum thikbromu_refusal {
     THIKBROMU_REFUSED_NO_DATA_READ = 12,        /* that sector has no data read; 0 */
     THIKBROMU_REFUSED_NO_ROOM_FOR_BYTES = 13,   /* too little room for the bytes; the bytes needed */
     THIKBROMU_REFUSED_TOO_MANY_BYTES = 14,      /* more than 8,192 bytes to code, 16,384 to decode; the bytes given */
-    THIKBROMU_REFUSED_NOT_A_TRACK_FILE = 15     /* not a track file; 0 */
+    THIKBROMU_REFUSED_NOT_A_TRACK_FILE = 15,    /* not a track file; 0 */
+    THIKBROMU_REFUSED_NOT_A_TRACK_BLOCK = 16,   /* not a track block; 0 */
+    THIKBROMU_REFUSED_NO_SUCH_REVOLUTION = 17   /* a revolution that the track block lacks; 0 */
 };
 
 /* 01's kinds of findings, by their numbers; behind each, its level and when it stands. T is the drive's track, N the number of cells,
@@ -177,6 +180,37 @@ uint32_t thikbromu_separate(const uint32_t *timings, size_t length, uint8_t *cel
 /* The histogram: 256 counts to the front of `counts`, or as many as it has room for. Count i is of timings 100i to 100i+99, count 255 of
  * all from 25,500 up. Gives the number of timings. Refuses 6, 7, 8, the counts then all zeros. */
 uint32_t thikbromu_histogram(const uint32_t *timings, size_t length, uint32_t *counts, size_t room, size_t *value);
+
+/*
+ * A SuperCard Pro track block: the letters TRK, the track number, a table of twelve bytes for each revolution (index time, number of
+ * values, their offset from the block's start, each 32 bits, low byte first), then values of 16 bits, high byte first, in units of 25 ns.
+ * A value of 0 adds 65,536 to the next. `revolutions` is their number, from the image's header; `revolution` is the chosen one, from 0. The
+ * first values of a later revolution are not joined to the one before. The track number and the index times are not looked at.
+ *
+ * 16 is given exactly where the letters are not TRK, the table is cut short, or the values of some revolution, the chosen one or another,
+ * start inside the table, end beyond the block (both judged by its offset where it has none) or end in a 0.
+ */
+
+/* The timings of the chosen revolution, in nanoseconds, at the front of `timings`; those behind keep their contents. Gives the number of
+ * timings. Refuses 16, 17, 6, 7, 8, 10, the last with the timings needed. */
+uint32_t thikbromu_revolution_timings(const uint8_t *block, size_t length, uint32_t revolutions, uint32_t revolution, uint32_t *timings,
+                                      size_t room, size_t *value);
+
+/* The same by portions: the bytes of one revolution's values are handed over in their order, cut between any two of them, and each call
+ * gives the timings that end in its portion. Where nothing is refused, the timings in all are those of the whole revolution. Refuses 7, 8,
+ * both counted from the revolution's start, and 10, with the timings that end in this portion; the state is then kept, so that the portion
+ * may be handed over again.
+ *
+ * The state is one number, which the caller keeps from call to call; it is 0 before the first portion. Calls leave the numbers
+ * held + 257 * (zeros + 8 * timings): held is 0, or 1 more than the first byte of a value whose second is still to come; zeros is how many
+ * stand before the next value, counted up to 7; timings is how many have ended, at most 65,536. Any other number counts as 0. */
+uint32_t thikbromu_revolution_portion(uint32_t *state, const uint8_t *portion, size_t length, uint32_t *timings, size_t room,
+                                      size_t *value);
+
+/* The cells of the chosen revolution: its timings go to the separator. Gives the number of cells, packed at the front of `cells` as
+ * thikbromu_separate leaves them. Refuses 16, 17, 6, 7, 8, 9, 10, the last with the bytes that the cells need. */
+uint32_t thikbromu_revolution_cells(const uint8_t *block, size_t length, uint32_t revolutions, uint32_t revolution, uint8_t *cells,
+                                    size_t room, size_t *value);
 
 /*
  * A track: n cells in `bytes`; `track` and `side` are the drive's, T and H. Bytes past those that the cells need are not looked at.

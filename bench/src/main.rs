@@ -4,6 +4,7 @@
 //! of the library to plain Rust (below 1: the library is quicker). Whole files go through a process each: the program, and this one with
 //! the argument `plain`, which lists by the second program. Run it with bench/run; docs/BENCHMARKS.md has a run.
 
+mod revolution;
 mod search;
 
 use second_program::check_word;
@@ -12,6 +13,8 @@ use second_program::flux_tracks::{flux_track, timings_of_cells, Choice};
 use second_program::listing::listing;
 use second_program::random::Random;
 use second_program::separator::{self, SeparatorState};
+use second_program::track_block;
+use second_program::track_blocks::standard_track_block;
 use second_program::track_builder::{standard_track, SectorPlan, TrackBuilder};
 use second_program::track_files::{file_of_cells, file_of_timings};
 use second_program::{cells, mfm, sectors};
@@ -22,7 +25,9 @@ use std::path::Path;
 use std::process::{Command, Stdio};
 use std::time::Instant;
 use thikbromu::boundary::{self, FILE_NUMBERS, FINDING_NUMBERS, SECTOR_NUMBERS};
-use thikbromu::{Separator, HISTOGRAM_COUNTS, LONGEST_LISTING, MOST_CELL_BYTES, MOST_FINDINGS};
+use thikbromu::{
+    RevolutionReader, Separator, TrackBlock, HISTOGRAM_COUNTS, LONGEST_LISTING, MOST_CELL_BYTES, MOST_FINDINGS, MOST_TIMINGS,
+};
 
 /// The time of one call, in microseconds, over some calls.
 fn time<T>(calls: usize, work: &mut impl FnMut() -> T) -> f64 {
@@ -119,6 +124,67 @@ fn separating(random: &mut Random) {
         Some((40_000, "timings")),
         || boundary::histogram(black_box(&timings), &mut counts),
         || separator::histogram(black_box(&timings)),
+    );
+}
+
+/// The bytes of a portion of a revolution's values.
+const PORTION: usize = 4_096;
+
+/// The second of two revolutions of the standard track as a drive reports it.
+fn track_blocks() {
+    let block = standard_track_block(1, 0, 0, 0xE5, 2).bytes();
+    let values = track_block::revolution_bytes(&block, 2, 1).expect("the second revolution");
+    let timings = TrackBlock::new(&block, 2).timings(1).expect("its timings");
+    let count = timings.len();
+    let mut list = vec![0; MOST_TIMINGS];
+    let mut plain_list = vec![0; MOST_TIMINGS];
+    // What is measured beside the library does the same work.
+    assert_eq!(revolution::one_pass(&block, 2, 1).as_ref(), Ok(&timings));
+    assert_eq!(revolution::two_passes(&block, 2, 1, &mut plain_list), Ok(count));
+    assert_eq!(plain_list[..count], timings);
+    let mut ours = || boundary::revolution_timings(black_box(&block), 2, 1, &mut list);
+    let what = format!("timings of a revolution, {count} in one call");
+    let rate = Some((count, "timings"));
+    row(&what, (21, 20), rate, &mut ours, || track_block::revolution_timings(black_box(&block), 2, 1, MOST_TIMINGS));
+    let what = "the same beside one pass into a vector";
+    row(what, (21, 20), None, &mut ours, || revolution::one_pass(black_box(&block), 2, 1));
+    let what = "the same beside two passes into a lent list";
+    row(what, (21, 20), None, &mut ours, || revolution::two_passes(black_box(&block), 2, 1, &mut plain_list));
+    let mut list = [0; PORTION / 2];
+    let mut plain_list = Vec::with_capacity(PORTION / 2);
+    let mut carried = revolution::Carried::default();
+    let mut all: Vec<u32> = Vec::new();
+    for portion in values.chunks(999) {
+        carried.take(portion, &mut plain_list).expect("no refusal");
+        all.extend(&plain_list);
+    }
+    assert_eq!(all, timings);
+    row(
+        &format!("the same revolution in portions of {PORTION} bytes, beside one pass over each into a vector"),
+        (21, 20),
+        rate,
+        || {
+            let mut reader = RevolutionReader::new();
+            for portion in black_box(values).chunks(PORTION) {
+                reader = black_box(reader.take(portion, &mut list)).next;
+            }
+            reader
+        },
+        || {
+            let mut carried = revolution::Carried::default();
+            for portion in black_box(values).chunks(PORTION) {
+                let _ = black_box(carried.take(portion, &mut plain_list));
+            }
+            carried
+        },
+    );
+    let mut packed = [0; MOST_CELL_BYTES];
+    row(
+        &format!("cells of a revolution, {count} timings"),
+        (21, 10),
+        rate,
+        || boundary::revolution_cells(black_box(&block), 2, 1, &mut packed),
+        || track_block::revolution_cells(black_box(&block), 2, 1, MOST_CELL_BYTES),
     );
 }
 
@@ -235,6 +301,7 @@ fn main() {
     let mut random = Random::new(1);
     coding(&mut random);
     separating(&mut random);
+    track_blocks();
     for n in [20_000, 50_000, 100_000, 131_072] {
         let any: Vec<u8> = (0..cells::bytes_needed(n)).map(|_| random.byte()).collect();
         searching("random cells", &any, n);

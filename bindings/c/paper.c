@@ -1,6 +1,6 @@
 /*
- * The numbers that 01 prints, through include/thikbromu.h: every routine is called, and every refusal is given. The argument is
- * samples/standard.track. It compiles as C99 and as C++.
+ * The numbers that 01 prints, and a small track block, through include/thikbromu.h: every routine is called, and every refusal is given.
+ * The argument is samples/standard.track. It compiles as C99 and as C++.
  */
 #include "thikbromu.h"
 
@@ -139,6 +139,110 @@ static void test_histogram(void)
     EXPECT(counts[0] == 2 && counts[1] == 1 && counts[2] == 0 && counts[254] == 0 && counts[255] == 2);
     REFUSES(thikbromu_histogram(some, 0, counts, THIKBROMU_HISTOGRAM_COUNTS, &value), NO_TIMINGS, 0);
     EXPECT(counts[0] == 0 && counts[1] == 0 && counts[255] == 0);
+}
+
+/* Two revolutions on track 5. The table ends at 28; the first has three values there, the second two at 34. The block has 38 bytes. */
+#define BLOCK_BYTES 38
+#define SECOND_COUNT 20
+#define SECOND_OFFSET 24
+static const uint8_t two_revolutions[BLOCK_BYTES] = {
+    'T', 'R', 'K', 5,
+    0xD0, 2, 0, 0, 3, 0, 0, 0, 28, 0, 0, 0,
+    1, 0, 1, 0, 2, 0, 0, 0, 34, 0, 0, 0,
+    0, 160, 0, 240, 1, 64,
+    0, 0, 0, 1};
+
+static void test_track_blocks(void)
+{
+    uint8_t block[BLOCK_BYTES];
+    uint32_t list[4] = {7, 7, 7, 7};
+    uint8_t cells[3] = {7, 7, 7};
+
+    /* 160, 240 and 320 units of 25 ns; 65,536 + 1 units. */
+    GIVES(thikbromu_revolution_timings(two_revolutions, BLOCK_BYTES, 2, 0, list, 4, &value), 3);
+    EXPECT(list[0] == 4000 && list[1] == 6000 && list[2] == 8000 && list[3] == 7);
+    GIVES(thikbromu_revolution_timings(two_revolutions, BLOCK_BYTES, 2, 1, list, 1, &value), 1);
+    EXPECT(list[0] == 1638425 && list[1] == 6000);
+    /* 2, 3 and 4 cells: 01, 001, 0001. */
+    GIVES(thikbromu_revolution_cells(two_revolutions, BLOCK_BYTES, 2, 0, cells, 3, &value), 9);
+    EXPECT(cells[0] == 0x48 && cells[1] == 0x80 && cells[2] == 7);
+
+    /* What is refused leaves the memory as it was. */
+    list[0] = 7;
+    cells[0] = 7;
+    REFUSES(thikbromu_revolution_timings(two_revolutions, BLOCK_BYTES - 1, 2, 0, list, 4, &value), NOT_A_TRACK_BLOCK, 0);
+    REFUSES(thikbromu_revolution_timings(two_revolutions, BLOCK_BYTES, 3, 0, list, 4, &value), NOT_A_TRACK_BLOCK, 0);
+    REFUSES(thikbromu_revolution_timings(two_revolutions, BLOCK_BYTES, 2, 2, list, 0, &value), NO_SUCH_REVOLUTION, 0);
+    REFUSES(thikbromu_revolution_timings(two_revolutions, BLOCK_BYTES, 2, 0, list, 2, &value), NO_ROOM, 3);
+    REFUSES(thikbromu_revolution_cells(two_revolutions, BLOCK_BYTES, 3, 0, cells, 3, &value), NOT_A_TRACK_BLOCK, 0);
+    REFUSES(thikbromu_revolution_cells(two_revolutions, BLOCK_BYTES, 2, 2, cells, 3, &value), NO_SUCH_REVOLUTION, 0);
+    REFUSES(thikbromu_revolution_cells(two_revolutions, BLOCK_BYTES, 2, 0, cells, 1, &value), NO_ROOM, 2);
+    /* The second revolution without values, and with one, which is a 0. */
+    memcpy(block, two_revolutions, BLOCK_BYTES);
+    block[SECOND_COUNT] = 0;
+    REFUSES(thikbromu_revolution_timings(block, BLOCK_BYTES, 2, 1, list, 4, &value), NO_TIMINGS, 0);
+    REFUSES(thikbromu_revolution_cells(block, BLOCK_BYTES, 2, 1, cells, 3, &value), NO_TIMINGS, 0);
+    block[SECOND_COUNT] = 1;
+    REFUSES(thikbromu_revolution_timings(block, BLOCK_BYTES, 2, 0, list, 4, &value), NOT_A_TRACK_BLOCK, 0);
+    /* Its values from the last byte of the table on. */
+    block[SECOND_OFFSET] = 27;
+    REFUSES(thikbromu_revolution_timings(block, BLOCK_BYTES, 2, 0, list, 4, &value), NOT_A_TRACK_BLOCK, 0);
+    EXPECT(list[0] == 7 && list[1] == 6000 && list[2] == 8000 && list[3] == 7);
+    EXPECT(cells[0] == 7 && cells[1] == 0x80 && cells[2] == 7);
+
+    /* 65,537 values of 1 in one revolution. */
+    static uint8_t many[16 + 2 * (THIKBROMU_MOST_TIMINGS + 1)];
+    static const uint8_t front[16] = {'T', 'R', 'K', 0, 0, 0, 0, 0, 1, 0, 1, 0, 16, 0, 0, 0};
+    memcpy(many, front, sizeof front);
+    for (size_t i = 17; i < sizeof many; i += 2) {
+        many[i] = 1;
+    }
+    REFUSES(thikbromu_revolution_timings(many, sizeof many, 1, 0, timings, THIKBROMU_MOST_TIMINGS + 1, &value),
+            TOO_MANY_TIMINGS, 65537);
+    /* With its sixth to twelfth value 0, the thirteenth is more than seven times 65,536 units. */
+    memset(many + 16 + 2 * 5, 0, 2 * 7);
+    REFUSES(thikbromu_revolution_timings(many, sizeof many, 1, 0, timings, THIKBROMU_MOST_TIMINGS + 1, &value),
+            TIMING_OUT_OF_RANGE, 5);
+}
+
+/* A number of a state: so many timings and zeros, and 1 more than the byte that is held, or 0. */
+static uint32_t number_of(uint32_t ended, uint32_t zeros, uint32_t held)
+{
+    return held + 257 * (zeros + 8 * ended);
+}
+
+static void test_portions(void)
+{
+    /* 0, 1 and 160 in three portions: 65,537 units and 160. */
+    const uint8_t *values = two_revolutions + 34;
+    const uint8_t last[2] = {0, 160};
+    uint32_t list[2] = {7, 7};
+    uint32_t number = 0;
+    GIVES(thikbromu_revolution_portion(&number, values, 3, list, 0, &value), 0);
+    EXPECT(number == number_of(0, 1, 1));
+    REFUSES(thikbromu_revolution_portion(&number, values + 3, 1, list, 0, &value), NO_ROOM, 1);
+    EXPECT(number == number_of(0, 1, 1) && list[0] == 7);
+    GIVES(thikbromu_revolution_portion(&number, values + 3, 1, list, 2, &value), 1);
+    EXPECT(number == 2056 && list[0] == 1638425 && list[1] == 7);
+    GIVES(thikbromu_revolution_portion(&number, nothing, 0, list, 2, &value), 0);
+    EXPECT(number == 2056);
+    GIVES(thikbromu_revolution_portion(&number, last, 2, list, 1, &value), 1);
+    EXPECT(number == number_of(2, 0, 0) && list[0] == 4000 && list[1] == 7);
+
+    /* Counted from the revolution's start. */
+    number = number_of(65535, 7, 0);
+    REFUSES(thikbromu_revolution_portion(&number, last, 2, list, 2, &value), TIMING_OUT_OF_RANGE, 65535);
+    EXPECT(number == number_of(65535, 7, 0));
+    number = number_of(65536, 7, 1);
+    REFUSES(thikbromu_revolution_portion(&number, last + 1, 1, list, 2, &value), TOO_MANY_TIMINGS, 65537);
+    EXPECT(number == number_of(65536, 7, 1) && list[0] == 4000 && list[1] == 7);
+
+    /* A number that no call leaves counts as 0, and is kept beside a refusal. */
+    number = number_of(65537, 0, 0);
+    REFUSES(thikbromu_revolution_portion(&number, last, 2, list, 0, &value), NO_ROOM, 1);
+    EXPECT(number == number_of(65537, 0, 0));
+    GIVES(thikbromu_revolution_portion(&number, values, 4, list, 2, &value), 1);
+    EXPECT(number == 2056 && list[0] == 1638425 && list[1] == 7);
 }
 
 static void test_standard_track(const uint8_t *cells)
@@ -290,6 +394,8 @@ int main(int count, char **arguments)
     test_coding();
     test_separator();
     test_histogram();
+    test_track_blocks();
+    test_portions();
     test_standard_track(file + BEFORE_CELLS);
     test_findings(file + BEFORE_CELLS);
     test_too_many_sectors();

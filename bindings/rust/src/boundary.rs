@@ -5,7 +5,7 @@
 //! A track is `cells` cells at the front of `packed`, eight to a byte, highest bit first; `track` and `side` are the drive's. Cells past
 //! the bytes are zeros, and so is every cell of a track of none.
 //!
-//! A call that 01 refuses writes nothing, but that a record or a count table beside a refusal is all zeros, and that a file which
+//! A call that is refused writes nothing, but that a record or a count table beside a refusal is all zeros, and that a file which
 //! [`file_finish`] refuses leaves zeros for its cells, unless they have too little room: then they are kept.
 //!
 //! ```
@@ -91,6 +91,32 @@ extern "C" {
     fn thikbromu_separate(timings: *const u32, length: usize, cells: *mut u8, room: usize, value: *mut usize) -> u32;
     fn thikbromu_histogram(timings: *const u32, length: usize, counts: *mut u32, room: usize, value: *mut usize)
         -> u32;
+    fn thikbromu_revolution_timings(
+        block: *const u8,
+        length: usize,
+        revolutions: u32,
+        revolution: u32,
+        timings: *mut u32,
+        room: usize,
+        value: *mut usize,
+    ) -> u32;
+    fn thikbromu_revolution_portion(
+        state: *mut u32,
+        portion: *const u8,
+        length: usize,
+        timings: *mut u32,
+        room: usize,
+        value: *mut usize,
+    ) -> u32;
+    fn thikbromu_revolution_cells(
+        block: *const u8,
+        length: usize,
+        revolutions: u32,
+        revolution: u32,
+        cells: *mut u8,
+        room: usize,
+        value: *mut usize,
+    ) -> u32;
     fn thikbromu_sector(
         bytes: *const u8,
         length: usize,
@@ -184,7 +210,7 @@ fn answer(call: impl FnOnce(&mut usize) -> u32) -> Result<usize, Refusal> {
 
 #[cold]
 fn refusal_of(number: u32, value: usize) -> Refusal {
-    Refusal::try_from((number, value)).expect("the library gives the rows of 01's table alone")
+    Refusal::try_from((number, value)).expect("the library gives the refusals of 01 and 02 alone")
 }
 
 /// Cell `place`, counted on past the index: 0 or 1.
@@ -318,6 +344,74 @@ pub fn histogram(timings: &[u32], counts: &mut [u32]) -> Result<usize, Refusal> 
     // SAFETY: each address and length are those of one slice; `counts` and `value` are lent to this call alone.
     answer(|value| unsafe {
         thikbromu_histogram(timings.as_ptr(), timings.len(), counts.as_mut_ptr(), counts.len(), value)
+    })
+}
+
+/// The timings of a revolution of a SuperCard Pro track block, in nanoseconds, at the front of `timings`; those behind keep their contents.
+/// `revolutions` is their number, from the image's header, and `revolution` the chosen one, from 0. Gives the number of timings.
+/// [`TrackBlock`](crate::TrackBlock) says what a block is.
+///
+/// Refuses [`NotATrackBlock`](Refusal::NotATrackBlock), [`NoSuchRevolution`](Refusal::NoSuchRevolution),
+/// [`NoTimings`](Refusal::NoTimings), [`TooManyTimings`](Refusal::TooManyTimings),
+/// [`TimingOutOfRange`](Refusal::TimingOutOfRange), [`NoRoom`](Refusal::NoRoom) with the timings needed.
+#[inline]
+pub fn revolution_timings(
+    block: &[u8],
+    revolutions: u32,
+    revolution: u32,
+    timings: &mut [u32],
+) -> Result<usize, Refusal> {
+    // SAFETY: each address and length are those of one slice; `timings` and `value` are lent to this call alone.
+    answer(|value| unsafe {
+        thikbromu_revolution_timings(
+            block.as_ptr(),
+            block.len(),
+            revolutions,
+            revolution,
+            timings.as_mut_ptr(),
+            timings.len(),
+            value,
+        )
+    })
+}
+
+/// A portion of a revolution's values, whose bytes are handed over in their order, cut between any two of them: the timings that end in the
+/// portion, at the front of `timings`. Gives the number of these. Where nothing is refused, the timings in all are those of the whole
+/// revolution.
+///
+/// The state is one number, which the caller keeps from call to call; it is 0 before the first portion, and one that no call leaves counts
+/// as 0. [`RevolutionReader`](crate::RevolutionReader) says what it is. Beside a refusal it is kept.
+///
+/// Refuses [`TooManyTimings`](Refusal::TooManyTimings), [`TimingOutOfRange`](Refusal::TimingOutOfRange), both counted from the revolution's
+/// start, [`NoRoom`](Refusal::NoRoom) with the timings that end in this portion.
+#[inline]
+pub fn revolution_portion(state: &mut u32, portion: &[u8], timings: &mut [u32]) -> Result<usize, Refusal> {
+    // SAFETY: each address and length are those of one slice; `state`, `timings` and `value` are lent to this call alone.
+    answer(|value| unsafe {
+        thikbromu_revolution_portion(state, portion.as_ptr(), portion.len(), timings.as_mut_ptr(), timings.len(), value)
+    })
+}
+
+/// The cells of a revolution of a SuperCard Pro track block: its timings go to the separator. Gives the number of cells, packed at the
+/// front of `cells` as [`separate`] leaves them.
+///
+/// Refuses [`NotATrackBlock`](Refusal::NotATrackBlock), [`NoSuchRevolution`](Refusal::NoSuchRevolution),
+/// [`NoTimings`](Refusal::NoTimings), [`TooManyTimings`](Refusal::TooManyTimings),
+/// [`TimingOutOfRange`](Refusal::TimingOutOfRange), [`TooManyCells`](Refusal::TooManyCells), [`NoRoom`](Refusal::NoRoom) with the bytes
+/// that the cells need.
+#[inline]
+pub fn revolution_cells(block: &[u8], revolutions: u32, revolution: u32, cells: &mut [u8]) -> Result<usize, Refusal> {
+    // SAFETY: each address and length are those of one slice; `cells` and `value` are lent to this call alone.
+    answer(|value| unsafe {
+        thikbromu_revolution_cells(
+            block.as_ptr(),
+            block.len(),
+            revolutions,
+            revolution,
+            cells.as_mut_ptr(),
+            cells.len(),
+            value,
+        )
     })
 }
 

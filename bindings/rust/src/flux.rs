@@ -2,7 +2,7 @@
 
 use crate::boundary::{self, separate};
 use crate::refusal::Refusal;
-use crate::track::MOST_CELL_BYTES;
+use crate::track::{Track, MOST_CELL_BYTES};
 
 /// The shortest timing, in nanoseconds.
 pub const SHORTEST_TIMING: u32 = 1;
@@ -78,6 +78,13 @@ pub struct Cells {
     pub packed: Vec<u8>,
     /// The number of cells.
     pub count: usize,
+}
+
+impl Cells {
+    /// The track of these cells, at this track and side of the drive.
+    pub fn track(&self, track: u32, side: u32) -> Track<'_> {
+        Track::new(&self.packed, self.count, track, side)
+    }
 }
 
 /// As [`separate`], into a vector that has room for the most cells, so that room is never too little.

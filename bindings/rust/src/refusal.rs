@@ -1,9 +1,9 @@
-//! 01's refusals.
+//! 01's refusals, and the two that 02 adds.
 
 use std::error::Error;
 use std::fmt;
 
-/// Why a call was refused: a row of 01's table "Refused calls", with what it gives also.
+/// Why a call was refused: a row of 01's table "Refused calls", or one of the two that 02 adds to it, with what it gives also.
 #[derive(Clone, Copy, Debug, PartialEq, Eq, Hash)]
 pub enum Refusal {
     /// 1: the track is above 83 or the side above 1.
@@ -24,7 +24,7 @@ pub enum Refusal {
     TimingOutOfRange(usize),
     /// 9: the cells in all, more than 131,072.
     TooManyCells(usize),
-    /// 10: the bytes that the cells need, where there is too little room.
+    /// 10: the bytes that the cells need, or the timings needed, where there is too little room for them.
     NoRoom(usize),
     /// 11: the sectors, none of which has the index asked for.
     NoSuchSector(usize),
@@ -36,10 +36,14 @@ pub enum Refusal {
     TooManyBytes(usize),
     /// 15: not a track file.
     NotATrackFile,
+    /// 16: not a track block.
+    NotATrackBlock,
+    /// 17: the track block lacks the revolution.
+    NoSuchRevolution,
 }
 
 impl Refusal {
-    /// The number in 01's table, 1 to 15.
+    /// The number: 1 to 15 in 01's table, 16 and 17 by 02.
     pub const fn number(self) -> u32 {
         match self {
             Refusal::TrackOrSide => 1,
@@ -57,6 +61,8 @@ impl Refusal {
             Refusal::NoRoomForBytes(_) => 13,
             Refusal::TooManyBytes(_) => 14,
             Refusal::NotATrackFile => 15,
+            Refusal::NotATrackBlock => 16,
+            Refusal::NoSuchRevolution => 17,
         }
     }
 
@@ -74,12 +80,17 @@ impl Refusal {
             | Refusal::NoSuchSector(value)
             | Refusal::NoRoomForBytes(value)
             | Refusal::TooManyBytes(value) => value,
-            Refusal::TrackOrSide | Refusal::NoTimings | Refusal::NoDataRead | Refusal::NotATrackFile => 0,
+            Refusal::TrackOrSide
+            | Refusal::NoTimings
+            | Refusal::NoDataRead
+            | Refusal::NotATrackFile
+            | Refusal::NotATrackBlock
+            | Refusal::NoSuchRevolution => 0,
         }
     }
 }
 
-/// A number and a value that are no row of 01's table of refusals.
+/// A number and a value that are no refusal of 01 or 02.
 #[derive(Clone, Copy, Debug, PartialEq, Eq)]
 pub struct NotARefusal {
     /// The number.
@@ -109,6 +120,8 @@ impl TryFrom<(u32, usize)> for Refusal {
             (13, _) => Refusal::NoRoomForBytes(value),
             (14, _) => Refusal::TooManyBytes(value),
             (15, 0) => Refusal::NotATrackFile,
+            (16, 0) => Refusal::NotATrackBlock,
+            (17, 0) => Refusal::NoSuchRevolution,
             _ => return Err(NotARefusal { number, value }),
         })
     }
@@ -127,12 +140,14 @@ impl fmt::Display for Refusal {
             Refusal::TooManyTimings(timings) => write!(out, "{timings} timings, more than 65,536"),
             Refusal::TimingOutOfRange(index) => write!(out, "the timing of index {index} is not 1 to 10,000,000"),
             Refusal::TooManyCells(cells) => write!(out, "{cells} cells in all, more than 131,072"),
-            Refusal::NoRoom(needed) => write!(out, "the cells need room for {needed} bytes"),
+            Refusal::NoRoom(needed) => write!(out, "room is needed for {needed} bytes of cells, or {needed} timings"),
             Refusal::NoSuchSector(sectors) => write!(out, "no sector of that index among {sectors}"),
             Refusal::NoDataRead => write!(out, "the sector has no data read"),
             Refusal::NoRoomForBytes(needed) => write!(out, "room is needed for {needed} bytes"),
             Refusal::TooManyBytes(given) => write!(out, "{given} bytes, more than 8,192 to code or 16,384 to decode"),
             Refusal::NotATrackFile => write!(out, "not a track file"),
+            Refusal::NotATrackBlock => write!(out, "not a track block"),
+            Refusal::NoSuchRevolution => write!(out, "the track block lacks that revolution"),
         }
     }
 }
@@ -154,8 +169,8 @@ mod tests {
     #[test]
     fn numbers_and_values_are_those_of_the_table() {
         // The rows whose column "gives also" is 0.
-        let without_value = [1, 6, 12, 15];
-        for number in 1..=15 {
+        let without_value = [1, 6, 12, 15, 16, 17];
+        for number in 1..=17 {
             for value in [0, 7] {
                 let refusal = Refusal::try_from((number, value));
                 if value != 0 && without_value.contains(&number) {
@@ -169,7 +184,7 @@ mod tests {
 
     #[test]
     fn other_numbers_are_no_refusals() {
-        for number in [0, 16, u32::MAX] {
+        for number in [0, 18, u32::MAX] {
             assert_eq!(Refusal::try_from((number, 0)), Err(NotARefusal { number, value: 0 }));
         }
     }

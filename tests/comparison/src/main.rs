@@ -7,6 +7,8 @@
 //! An argument names the groups to run, by their module; without one all run. The last line is 'N passed, M failed'; the exit status is 1
 //! where something failed.
 
+mod block_program;
+mod blocks;
 mod coding;
 mod files;
 mod findings;
@@ -22,7 +24,7 @@ use std::sync::Mutex;
 type Part = fn(&mut (usize, usize));
 
 /// The groups of cases, by their module.
-const PARTS: [(&str, Part); 27] = [
+const PARTS: [(&str, Part); 35] = [
     ("terms", terms::tables),
     ("track_cells", track_cells::reading),
     ("track_cells", track_cells::finding),
@@ -46,10 +48,18 @@ const PARTS: [(&str, Part); 27] = [
     ("findings", findings::any_tracks),
     ("files", files::portions),
     ("files", files::states),
+    ("blocks", blocks::timings),
+    ("blocks", blocks::cells),
+    ("blocks", blocks::portions),
+    ("blocks", blocks::short_rooms),
+    ("blocks", blocks::states),
     ("program", program::samples),
     ("program", program::whole_files),
+    ("block_program", block_program::whole_blocks),
     ("program", program::portions),
     ("program", program::system),
+    ("block_program", block_program::standard_track),
+    ("block_program", block_program::system),
 ];
 
 fn main() {

@@ -1,32 +1,42 @@
 //! 01, "Track file and listing": the program `track_listing` beside the second program, on whole files and on files that come in
 //! portions.
 
+use crate::block_program;
 use crate::report::Group;
 use second_program::flux_tracks::timings_of_cells;
 use second_program::listing::listing;
 use second_program::random::Random;
+use second_program::track_block;
 use second_program::track_builder::{odd_track, standard_track};
 use second_program::track_file::at_once;
 use second_program::track_files::{self, NamedFile};
+use std::ffi::OsStr;
 use std::fs::File;
 use std::io::{ErrorKind, Read, Write};
 use std::os::fd::OwnedFd;
 use std::os::unix::net::UnixDatagram;
-use std::process::{Child, Command, Stdio};
+use std::path::Path;
+use std::process::{Child, Command, Output, Stdio};
 use std::time::{Duration, Instant};
 
-/// The program, as `rt ci` builds it.
+/// A program, as `rt ci` builds it.
+pub fn built(name: &str) -> Command {
+    Command::new(Path::new(env!("CARGO_MANIFEST_DIR")).join("../../target/bin").join(name))
+}
+
+/// The program that lists track files.
 fn program() -> Command {
-    Command::new(concat!(env!("CARGO_MANIFEST_DIR"), "/../../target/bin/track_listing"))
+    built("track_listing")
 }
 
-fn started(input: Stdio) -> Child {
-    program().stdin(input).stdout(Stdio::piped()).spawn().expect("target/bin/track_listing")
+pub fn started(mut command: Command, input: Stdio) -> Child {
+    let child = command.stdin(input).stdout(Stdio::piped()).spawn();
+    child.unwrap_or_else(|error| panic!("{command:?}: {error}"))
 }
 
-/// What the program prints for a file that comes through a pipe.
-fn through_pipe(file: &[u8]) -> Vec<u8> {
-    let mut child = started(Stdio::piped());
+/// What a program prints for a file that comes through a pipe.
+pub fn through_pipe(command: Command, file: &[u8]) -> Vec<u8> {
+    let mut child = started(command, Stdio::piped());
     let mut input = child.stdin.take().expect("a pipe");
     // The program may stop reading before the end.
     if let Err(error) = input.write_all(file) {
@@ -36,12 +46,12 @@ fn through_pipe(file: &[u8]) -> Vec<u8> {
     printed(child)
 }
 
-/// What the program prints for a file that comes in these portions, none of them empty: each read gets one of them, since a
-/// datagram is read whole. An empty datagram is the end of the input.
-fn in_portions<'a>(portions: impl Iterator<Item = &'a [u8]>) -> Vec<u8> {
+/// What a program prints for a file that comes in these portions, none of them empty: each read gets one of them, since a
+/// datagram is read whole. An empty datagram is the end of the input; two come, since a program may ask for the end twice.
+pub fn in_portions<'a>(command: Command, portions: impl Iterator<Item = &'a [u8]>) -> Vec<u8> {
     let (ours, theirs) = UnixDatagram::pair().expect("a pair of sockets");
-    let child = started(Stdio::from(OwnedFd::from(theirs)));
-    for portion in portions.chain([&[] as &[u8]]) {
+    let child = started(command, Stdio::from(OwnedFd::from(theirs)));
+    for portion in portions.chain([&[] as &[u8]; 2]) {
         // The program may stop reading before the end.
         if let Err(error) = ours.send(portion) {
             let kind = error.kind();
@@ -56,7 +66,7 @@ fn printed(child: Child) -> Vec<u8> {
     child.wait_with_output().expect("the program's output").stdout
 }
 
-fn text(bytes: &[u8]) -> String {
+pub fn text(bytes: &[u8]) -> String {
     String::from_utf8_lossy(bytes).into_owned()
 }
 
@@ -65,14 +75,15 @@ fn kind_of(line: &str) -> Option<usize> {
     line.split(' ').next()?.parse().ok()
 }
 
-/// Every kind and every refusal that the program can give stands in some listing.
-struct Seen {
+/// The kinds and the refusals that stand in some listing.
+#[derive(Default)]
+pub struct Seen {
     kinds: [usize; 22],
-    refusals: [usize; 16],
+    refusals: [usize; 18],
 }
 
 impl Seen {
-    fn note(&mut self, listing: &str) {
+    pub fn note(&mut self, listing: &str) {
         for line in listing.lines() {
             if let Some(kind) = kind_of(line) {
                 self.kinds[kind] += 1;
@@ -82,24 +93,29 @@ impl Seen {
             self.refusals[number.trim().parse::<usize>().expect("a number")] += 1;
         }
     }
+
+    /// A case for every kind, and for each of these refusals: that it was reached.
+    pub fn reached(&self, group: &mut Group, refusals: &[usize]) {
+        for kind in 1..=21 {
+            group.same(self.kinds[kind] > 0, true, || format!("kind {kind} was reached"));
+        }
+        for &number in refusals {
+            group.same(self.refusals[number] > 0, true, || format!("refusal {number} was reached"));
+        }
+    }
 }
 
 /// Many files, whole: sound and broken ones.
 pub fn whole_files(totals: &mut (usize, usize)) {
     let mut group = Group::new("the program on whole files");
-    let mut seen = Seen { kinds: [0; 22], refusals: [0; 16] };
+    let mut seen = Seen::default();
     for file in track_files::files() {
         let expected = text(&listing(&file.bytes));
         seen.note(&expected);
-        group.same(text(&through_pipe(&file.bytes)), expected, || file.name.clone());
+        group.same(text(&through_pipe(program(), &file.bytes)), expected, || file.name.clone());
     }
-    for kind in 1..=21 {
-        group.same(seen.kinds[kind] > 0, true, || format!("kind {kind} was reached"));
-    }
-    // 3 gives way to 15, 6 to 15, and there is always room: 5 and 10 do not arise. 11 to 14 are of other calls.
-    for number in [1, 2, 4, 7, 8, 9, 15] {
-        group.same(seen.refusals[number] > 0, true, || format!("refusal {number} was reached"));
-    }
+    // 3 gives way to 15, 6 to 15, and there is always room: 5 and 10 do not arise. The others are of other calls.
+    seen.reached(&mut group, &[1, 2, 4, 7, 8, 9, 15]);
     group.close(totals);
 }
 
@@ -134,7 +150,7 @@ pub fn portions(totals: &mut (usize, usize)) {
         let expected = text(&listing(bytes));
         for size in [1, 3, 7, 4_096, 65_535, 65_536] {
             let given = || format!("{} in portions of {size}", file.name);
-            group.same(text(&in_portions(bytes.chunks(size))), expected.clone(), given);
+            group.same(text(&in_portions(program(), bytes.chunks(size))), expected.clone(), given);
         }
         let length = bytes.len();
         let ends = (1..=64).chain(length.saturating_sub(64)..length);
@@ -144,9 +160,9 @@ pub fn portions(totals: &mut (usize, usize)) {
             // A datagram holds at most the 65,536 bytes that one read takes.
             let (front, back) = bytes.split_at(place);
             let parts = front.chunks(65_536).chain(back.chunks(65_536));
-            group.same(text(&in_portions(parts)), expected.clone(), || format!("{} in two at {place}", file.name));
+            group.same(text(&in_portions(program(), parts)), expected.clone(), || format!("{} in two at {place}", file.name));
             let short = text(&listing(front));
-            group.same(text(&through_pipe(front)), short, || format!("{} cut short at {place}", file.name));
+            group.same(text(&through_pipe(program(), front)), short, || format!("{} cut short at {place}", file.name));
         }
         for _ in 0..10 {
             let mut parts = Vec::new();
@@ -159,14 +175,14 @@ pub fn portions(totals: &mut (usize, usize)) {
                 rest = left;
             }
             let given = || format!("{} in {} portions", file.name, parts.len());
-            group.same(text(&in_portions(parts.iter().copied())), expected.clone(), given);
+            group.same(text(&in_portions(program(), parts.iter().copied())), expected.clone(), given);
         }
     }
     group.close(totals);
 }
 
-/// Waits until the program has ended, for at most so long; whether it has.
-fn ends_within(child: &mut Child, time: Duration) -> bool {
+/// Waits until a program has ended, for at most so long; whether it has.
+pub fn ends_within(child: &mut Child, time: Duration) -> bool {
     let start = Instant::now();
     loop {
         if child.try_wait().expect("the program's state").is_some() {
@@ -177,6 +193,14 @@ fn ends_within(child: &mut Child, time: Duration) -> bool {
         }
         std::thread::sleep(Duration::from_millis(2));
     }
+}
+
+/// What a program leaves that the shell starts with these arguments and redirections.
+pub fn in_shell(command: &Command, redirection: &str) -> Output {
+    let line = format!("\"$0\" \"$@\" {redirection}");
+    let mut shell = Command::new("sh");
+    shell.args(["-c", &line]).arg(command.get_program()).args(command.get_args()).stdin(Stdio::null());
+    shell.output().expect("sh")
 }
 
 /// When the program stops reading, and inputs and outputs that fail.
@@ -201,7 +225,7 @@ pub fn system(totals: &mut (usize, usize)) {
         ("a timing out of range", after_place(&[number(0), number(2), number(0)])),
     ];
     for (name, prefix) in prefixes {
-        let mut child = started(Stdio::piped());
+        let mut child = started(program(), Stdio::piped());
         let mut input = child.stdin.take().expect("a pipe");
         input.write_all(&prefix).expect("the program reads");
         let stops = at_once(&prefix).is_some();
@@ -211,52 +235,49 @@ pub fn system(totals: &mut (usize, usize)) {
         group.same(text(&printed(child)), text(&listing(&prefix)), || name.to_string());
     }
     // No input, or one that cannot be read: nothing is known of a file, and nothing is said.
-    let in_shell = |redirection: &str| {
-        let command = format!("\"$0\" {redirection}");
-        let mut shell = Command::new("sh");
-        shell.args(["-c", &command]).arg(program().get_program()).stdin(Stdio::null());
-        shell.output().expect("sh")
-    };
     for redirection in ["<&-", "< /", "< /proc/self/mem"] {
-        let output = in_shell(redirection);
+        let output = in_shell(&program(), redirection);
         group.same((text(&output.stdout), output.status.success()), (String::new(), true), || redirection.to_string());
     }
     // An output that cannot be written: the program ends all the same.
     for redirection in [">&-", "> /dev/full"] {
-        let output = in_shell(redirection);
+        let output = in_shell(&program(), redirection);
         group.same((text(&output.stderr), output.status.success()), (String::new(), true), || redirection.to_string());
     }
     // A reader that goes away before the listing is written: the program is ended by the system, or ends.
-    let mut child = started(Stdio::piped());
+    let mut child = started(program(), Stdio::piped());
     drop(child.stdout.take());
     let mut input = child.stdin.take().expect("a pipe");
     input.write_all(&track_files::file_of_cells(5, 0, &vec![1; 20_000])).expect("the program reads");
     drop(input);
     group.same(ends_within(&mut child, Duration::from_secs(20)), true, || "the output's reader has gone".to_string());
     // An empty input is a short file; so is a file on the disk, read as such.
-    group.same(text(&through_pipe(&[])), "refused 15\n".to_string(), || "no bytes".to_string());
+    group.same(text(&through_pipe(program(), &[])), "refused 15\n".to_string(), || "no bytes".to_string());
     let mut own = Vec::new();
     let path = std::env::current_exe().expect("a path");
     File::open(&path).and_then(|mut file| file.read_to_end(&mut own)).expect("this program");
-    let child = started(Stdio::from(File::open(&path).expect("this program")));
+    let child = started(program(), Stdio::from(File::open(&path).expect("this program")));
     group.same(text(&printed(child)), text(&listing(&own)), || "a file that is no track file".to_string());
     group.close(totals);
 }
 
-/// The shipped samples: both programs give the listings beside them.
+/// The shipped samples: both programs give the listings beside them. A block's is that of revolution 1 of 2, at track 0 and side 0.
 pub fn samples(totals: &mut (usize, usize)) {
     let mut group = Group::new("samples");
     let folder = concat!(env!("CARGO_MANIFEST_DIR"), "/../../samples");
     for entry in std::fs::read_dir(folder).expect("samples") {
         let path = entry.expect("an entry").path();
-        if path.extension().is_some_and(|extension| extension == "track") {
-            let file = std::fs::read(&path).expect("a sample");
-            let expected = text(&std::fs::read(path.with_extension("listing")).expect("the sample's listing"));
-            let name = || path.display().to_string();
-            group.same(text(&listing(&file)), expected.clone(), name);
-            let child = started(Stdio::from(File::open(&path).expect("a sample")));
-            group.same(text(&printed(child)), expected, name);
-        }
+        let file = std::fs::read(&path).expect("a sample");
+        let (second, command) = match path.extension().and_then(OsStr::to_str) {
+            Some("track") => (listing(&file), program()),
+            Some("block") => (track_block::printed(&file, 2, 1, 0, 0), block_program::program(&["2", "1", "0", "0"])),
+            _ => continue,
+        };
+        let expected = text(&std::fs::read(path.with_extension("listing")).expect("the sample's listing"));
+        let name = || path.display().to_string();
+        group.same(text(&second), expected.clone(), name);
+        let child = started(command, Stdio::from(File::open(&path).expect("a sample")));
+        group.same(text(&printed(child)), expected, name);
     }
     group.close(totals);
 }

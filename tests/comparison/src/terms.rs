@@ -20,12 +20,15 @@ fn refusal(ours: thikbromu::Refusal) -> Refusal {
         Ours::TooManyTimings(timings) => Refusal::too_many_timings(timings),
         Ours::TimingOutOfRange(index) => Refusal::timing_out_of_range(index),
         Ours::TooManyCells(cells) => Refusal::too_many_cells(cells),
+        // The same row for timings: `too_little_room_for_timings` has its number and its value.
         Ours::NoRoom(needed) => Refusal::too_little_room_for_cells(needed),
         Ours::NoSuchSector(sectors) => Refusal::no_such_sector(sectors),
         Ours::NoDataRead => Refusal::no_data_read(),
         Ours::NoRoomForBytes(needed) => Refusal::too_little_room_for_bytes(needed),
         Ours::TooManyBytes(given) => Refusal::too_many_bytes(given),
         Ours::NotATrackFile => Refusal::not_a_track_file(),
+        Ours::NotATrackBlock => Refusal::not_a_track_block(),
+        Ours::NoSuchRevolution => Refusal::no_such_revolution(),
     }
 }
 
@@ -61,7 +64,7 @@ pub fn finding(ours: thikbromu::Finding) -> Finding {
     }
 }
 
-/// 01's tables of refusals and kinds, as the crate and as the second program has them.
+/// 01's tables of refusals and kinds, and the refusals that 02 adds, as the crate and as the second program has them.
 pub fn tables(totals: &mut (usize, usize)) {
     let mut group = Group::new("the tables of refusals and kinds");
     let rows = [
@@ -75,11 +78,14 @@ pub fn tables(totals: &mut (usize, usize)) {
         Refusal::timing_out_of_range(7),
         Refusal::too_many_cells(7),
         Refusal::too_little_room_for_cells(7),
+        Refusal::too_little_room_for_timings(7),
         Refusal::no_such_sector(7),
         Refusal::no_data_read(),
         Refusal::too_little_room_for_bytes(7),
         Refusal::too_many_bytes(7),
         Refusal::not_a_track_file(),
+        Refusal::not_a_track_block(),
+        Refusal::no_such_revolution(),
     ];
     for row in rows {
         let ours = thikbromu::Refusal::try_from((row.number, row.value as usize));

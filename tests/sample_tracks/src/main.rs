@@ -1,7 +1,8 @@
-//! Writes the track files of samples/ into the folder that its argument names. samples/README.md says what each shows.
+//! Writes the track files and the track block of samples/ into the folder that its argument names. samples/README.md says what each shows.
 
 use second_program::flux_tracks::flux_track_of;
 use second_program::random::Random;
+use second_program::track_blocks::standard_track_block;
 use second_program::track_builder::{nine_sectors, standard_track, turn, SectorPlan, TrackBuilder, STANDARD_TRACK_CELLS};
 use second_program::track_files::{file_of_cells, file_of_timings};
 use std::path::Path;
@@ -129,8 +130,13 @@ fn main() {
         ("odd-cells", odd_cells()),
         ("cut-short", standard_file[..standard_file.len() - 1].to_vec()),
     ];
+    let write = |name: &str, bytes: Vec<u8>| {
+        let path = Path::new(&folder).join(name);
+        std::fs::write(&path, bytes).unwrap_or_else(|error| panic!("{}: {error}", path.display()));
+    };
     for (name, file) in samples {
-        let path = Path::new(&folder).join(format!("{name}.track"));
-        std::fs::write(&path, file).unwrap_or_else(|error| panic!("{}: {error}", path.display()));
+        write(&format!("{name}.track"), file);
     }
+    // Two revolutions of the standard track, each with shifts of its own.
+    write("standard-two-revolutions.block", standard_track_block(1, 0, 0, 0xE5, 2).bytes());
 }

@@ -1,0 +1,135 @@
+//! SuperCard Pro track blocks: the timings and the cells of a revolution, and its values in portions.
+
+use crate::boundary;
+use crate::flux::{Cells, MOST_TIMINGS};
+use crate::refusal::Refusal;
+use crate::track::MOST_CELL_BYTES;
+
+/// A SuperCard Pro track block: the letters TRK, the track number, a table of twelve bytes for each revolution (index time, number of
+/// values, their offset from the block's start, each 32 bits, low byte first), then values of 16 bits, high byte first, in units of 25 ns.
+/// A value of 0 adds 65,536 to the next. How many revolutions there are is said by the image's header.
+///
+/// Nothing is judged when it is made. The calls on a revolution, which is counted from 0, judge the block and refuse
+/// [`NotATrackBlock`](Refusal::NotATrackBlock) exactly where the letters are not TRK, the table is cut short, or the values of some
+/// revolution, this one or another, start inside the table, end beyond the block (both judged by its offset where it has none) or end in
+/// a 0; then [`NoSuchRevolution`](Refusal::NoSuchRevolution), [`NoTimings`](Refusal::NoTimings),
+/// [`TooManyTimings`](Refusal::TooManyTimings) and [`TimingOutOfRange`](Refusal::TimingOutOfRange), in this order, before what they name
+/// themselves. The first values of a later revolution are not joined to the one before.
+///
+/// One revolution of three values, which stand at byte 16, where the table ends:
+///
+/// ```
+/// use thikbromu::{Refusal, TrackBlock};
+///
+/// let table = [0, 0, 0, 0, 3, 0, 0, 0, 16, 0, 0, 0];
+/// let bytes = [&b"TRK\x05"[..], &table, &[0, 160, 0, 0, 0, 1]].concat();
+/// let block = TrackBlock::new(&bytes, 1);
+/// // 160 times 25 ns, and 65,537 times 25 ns.
+/// assert_eq!(block.timings(0)?, [4_000, 1_638_425]);
+/// assert_eq!(block.timings(1), Err(Refusal::NoSuchRevolution));
+/// // 2 cells of 2,000 ns, and 819.
+/// assert_eq!(block.cells(0)?.count, 821);
+/// // Too few for a track.
+/// assert_eq!(block.cells(0)?.track(5, 0).listing(), "refused 2\n");
+/// # Ok::<(), Refusal>(())
+/// ```
+#[derive(Clone, Copy, Debug)]
+pub struct TrackBlock<'a> {
+    bytes: &'a [u8],
+    revolutions: u32,
+}
+
+impl<'a> TrackBlock<'a> {
+    /// The block of these bytes, with the number of revolutions from the image's header.
+    pub const fn new(bytes: &'a [u8], revolutions: u32) -> TrackBlock<'a> {
+        TrackBlock { bytes, revolutions }
+    }
+
+    /// The bytes of the block.
+    pub const fn bytes(&self) -> &'a [u8] {
+        self.bytes
+    }
+
+    /// The number of revolutions.
+    pub const fn revolutions(&self) -> u32 {
+        self.revolutions
+    }
+
+    /// The timings of a revolution, in nanoseconds. The list has room for the most timings, so that [`NoRoom`](Refusal::NoRoom) is never
+    /// given.
+    pub fn timings(&self, revolution: u32) -> Result<Vec<u32>, Refusal> {
+        let mut timings = vec![0; MOST_TIMINGS];
+        let count = boundary::revolution_timings(self.bytes, self.revolutions, revolution, &mut timings)?;
+        timings.truncate(count);
+        Ok(timings)
+    }
+
+    /// The cells that the separator makes of a revolution's timings; [`Cells::track`] makes a track of them. There is room for the most
+    /// cells, so that [`NoRoom`](Refusal::NoRoom) is never given. Refuses [`TooManyCells`](Refusal::TooManyCells).
+    pub fn cells(&self, revolution: u32) -> Result<Cells, Refusal> {
+        let mut packed = vec![0; MOST_CELL_BYTES];
+        let count = boundary::revolution_cells(self.bytes, self.revolutions, revolution, &mut packed)?;
+        packed.truncate(count.div_ceil(8));
+        Ok(Cells { packed, count })
+    }
+}
+
+/// The state of a revolution whose values come in portions, cut between any two bytes. It is taken on by value, one portion at a time.
+///
+/// It is one number: held + 257 * (zeros + 8 * timings). Held is 0, or 1 more than the first byte of a value whose second is still to come;
+/// zeros is how many stand before the next value, counted up to 7; timings is how many have ended, at most 65,536. A number that no call
+/// leaves is taken on as if it were 0.
+///
+/// ```
+/// use thikbromu::RevolutionReader;
+///
+/// let mut list = [0; 2];
+/// // The values 0 and 1 are 65,537 units of 25 ns. The first portion ends no timing.
+/// let taken = RevolutionReader::new().take(&[0, 0, 0], &mut list);
+/// assert_eq!(taken.timings, Ok(0));
+/// let taken = taken.next.take(&[1, 0, 160], &mut list);
+/// assert_eq!(taken.timings, Ok(2));
+/// assert_eq!(list, [1_638_425, 4_000]);
+/// ```
+#[derive(Clone, Copy, Debug, Default, PartialEq, Eq, Hash)]
+pub struct RevolutionReader {
+    number: u32,
+}
+
+/// What taking a portion hands back.
+#[derive(Clone, Copy, Debug, PartialEq, Eq)]
+pub struct TakenPortion {
+    /// The number of timings that end in the portion, which stand at the front of the list.
+    pub timings: Result<usize, Refusal>,
+    /// The next state; beside a refusal, the one that came.
+    pub next: RevolutionReader,
+}
+
+impl RevolutionReader {
+    /// The state before the first portion.
+    pub const fn new() -> RevolutionReader {
+        RevolutionReader { number: 0 }
+    }
+
+    /// The state of a number.
+    pub const fn from_number(number: u32) -> RevolutionReader {
+        RevolutionReader { number }
+    }
+
+    /// The number of the state.
+    pub const fn number(self) -> u32 {
+        self.number
+    }
+
+    /// Takes a portion: the timings that end in it go to the front of `timings`, and those behind keep their contents. Where nothing is
+    /// refused, the timings of all portions are those of the whole revolution.
+    ///
+    /// Refuses [`TooManyTimings`](Refusal::TooManyTimings), [`TimingOutOfRange`](Refusal::TimingOutOfRange), both counted from the
+    /// revolution's start, [`NoRoom`](Refusal::NoRoom) with the timings that end in this portion. The list is then kept.
+    #[inline]
+    pub fn take(self, portion: &[u8], timings: &mut [u32]) -> TakenPortion {
+        let mut number = self.number;
+        let timings = boundary::revolution_portion(&mut number, portion, timings);
+        TakenPortion { timings, next: RevolutionReader { number } }
+    }
+}

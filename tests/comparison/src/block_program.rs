@@ -1,0 +1,276 @@
+//! 02, ticket 3: the program `scp_track` beside the second program, on whole blocks and on blocks that come in portions, and what it does
+//! with other arguments.
+
+use crate::program::{built, ends_within, in_portions, in_shell, started, text, through_pipe, Seen};
+use crate::report::Group;
+use second_program::listing::listing;
+use second_program::random::Random;
+use second_program::track_block::printed;
+use second_program::track_blocks::{
+    block_of_parts, block_of_values, bytes_of_values, odd_track_block, random_portions, standard_track_block,
+    track_that_ends_in_a_one, BlockPlan, GROUPS,
+};
+use second_program::track_builder::standard_track as standard_track_cells;
+use second_program::track_files::file_of_cells;
+use std::ffi::OsStr;
+use std::fs::File;
+use std::os::unix::ffi::OsStrExt;
+use std::process::{Command, Stdio};
+use std::time::Duration;
+use thikbromu::TrackBlock;
+
+/// The most bytes of a block that the program takes.
+const LONGEST_BLOCK: usize = 4_194_304;
+
+/// The program with these arguments.
+pub fn program(arguments: &[impl AsRef<OsStr>]) -> Command {
+    let mut command = built("scp_track");
+    command.args(arguments);
+    command
+}
+
+/// The program with four numbers: the revolutions, the chosen one, the track and the side.
+fn program_with(numbers: [u8; 4]) -> Command {
+    program(&numbers.map(|number| number.to_string()))
+}
+
+/// What the second program prints with these numbers.
+fn expected(block: &[u8], [revolutions, revolution, track, side]: [u8; 4]) -> String {
+    text(&printed(block, revolutions, revolution, track, side))
+}
+
+/// What the crate lists of the revolution's cells.
+fn listing_by_crate(block: &[u8], numbers: [u8; 4]) -> String {
+    let [revolutions, revolution, track, side] = numbers.map(u32::from);
+    match TrackBlock::new(block, revolutions).cells(revolution) {
+        Ok(cells) => cells.track(track, side).listing(),
+        Err(refusal) => format!("refused {}\n", refusal.number()),
+    }
+}
+
+/// A block through the program, and by the crate.
+fn block_case(group: &mut Group, seen: &mut Seen, name: &str, block: &[u8], numbers: [u8; 4]) {
+    let given = || format!("{name}, {numbers:?}");
+    let expected = expected(block, numbers);
+    seen.note(&expected);
+    group.same(text(&through_pipe(program_with(numbers), block)), expected.clone(), given);
+    group.same(listing_by_crate(block, numbers), expected, given);
+}
+
+/// Tracks and sides, the last two of which no drive has.
+const PLACES: [(u8, u8); 8] = [(5, 0), (0, 0), (5, 1), (79, 1), (80, 0), (83, 1), (84, 0), (83, 2)];
+
+/// At most so many cases of a group go through the program.
+const CASES_OF_A_GROUP: usize = 120;
+
+/// Cases of all groups, and odd tracks.
+pub fn whole_blocks(totals: &mut (usize, usize)) {
+    let mut group = Group::new("the block program on whole blocks");
+    let mut seen = Seen::default();
+    let mut places = PLACES.into_iter().cycle();
+    for (_, make) in GROUPS {
+        // Those whose numbers the arguments can be.
+        let argument = |number: u32| u8::try_from(number).ok();
+        let fitting: Vec<_> = make()
+            .into_iter()
+            .filter_map(|case| Some((argument(case.revolutions)?, argument(case.revolution)?, case)))
+            .collect();
+        let step = fitting.len().div_ceil(CASES_OF_A_GROUP).max(1);
+        for (revolutions, revolution, case) in fitting.iter().step_by(step) {
+            let (track, side) = places.next().expect("places without end");
+            block_case(&mut group, &mut seen, &case.name, &case.block, [*revolutions, *revolution, track, side]);
+        }
+    }
+    // The odd tracks are made for track 5.
+    for seed in 100..500 {
+        let (track, side) = if seed % 4 == 0 { places.next().expect("places without end") } else { (5, 0) };
+        let block = odd_track_block(seed).bytes();
+        let name = format!("odd track of seed {seed}");
+        for revolution in 0..2 {
+            block_case(&mut group, &mut seen, &name, &block, [2, revolution, track, side]);
+        }
+    }
+    // There are always enough bytes and always room: 3, 5 and 10 do not arise. 11 to 15 are of other calls.
+    seen.reached(&mut group, &[1, 2, 4, 6, 7, 8, 9, 16, 17]);
+    group.close(totals);
+}
+
+/// The standard track's flux, whose revolutions list as the track itself does.
+pub fn standard_track(totals: &mut (usize, usize)) {
+    let mut group = Group::new("the block program on the standard track's flux");
+    for (seed, track, side, filler, revolutions) in [(11, 0, 0, 0xE5, 2), (12, 40, 1, 0x00, 5), (13, 79, 0, 0x4E, 3)] {
+        let standard = standard_track_cells(track, side, filler);
+        let turned = track_that_ends_in_a_one(&standard);
+        let block = standard_track_block(seed, track, side, filler, revolutions).bytes();
+        for revolution in 0..revolutions as u8 {
+            for ((track, side), track_cells) in [((track, side), &standard), ((81, 1), &turned)] {
+                let numbers = [revolutions as u8, revolution, track, side];
+                let given = || format!("the standard track of seed {seed}, {numbers:?}");
+                let ours = text(&through_pipe(program_with(numbers), &block));
+                group.same(&ours, &text(&listing(&file_of_cells(track, side, track_cells))), given);
+                group.same(&ours, &expected(&block, numbers), given);
+                group.same(&listing_by_crate(&block, numbers), &ours, given);
+            }
+        }
+    }
+    let block = standard_track_block(14, 0, 0, 0xE5, 1).bytes();
+    let ours = text(&through_pipe(program_with([1, 0, 0, 0]), &block));
+    group.same(ours, "T00 H0 cells 100000 sectors 9 findings 0\n".to_string(), || "as 01 prints it".to_string());
+    group.close(totals);
+}
+
+/// A block of so many bytes, whose one revolution, of 20,000 cells, is at its end.
+fn block_of_length(length: usize) -> BlockPlan {
+    let own = bytes_of_values(&[0, 0, 0, 0, 0, 0, 6_784].repeat(4));
+    let table_end = block_of_parts(Vec::new(), &[(0, 0)]).table_end();
+    let mut values = vec![0; length - table_end - own.len()];
+    let start = values.len();
+    values.extend(&own);
+    block_of_parts(values, &[(start, own.len() / 2)])
+}
+
+/// Other arguments, blocks at the longest, blocks that come in portions, and inputs and outputs that fail.
+pub fn system(totals: &mut (usize, usize)) {
+    let mut group = Group::new("the block program's arguments, and the system");
+    let block = block_of_values(&[vec![160, 240], [0, 0, 0, 0, 0, 0, 6_784].repeat(4)]).bytes();
+    let numbers = [2, 1, 5, 1];
+    let good: [&[u8]; 4] = [b"2", b"1", b"5", b"1"];
+    let listed = expected(&block, numbers);
+
+    // The same numbers with zeros before them.
+    let zeros = [b'0'; 100];
+    for (place, argument) in good.iter().enumerate() {
+        for count in [1, 2, 3, 20, 100] {
+            let longer = [&zeros[..count], argument].concat();
+            let mut arguments = good.map(OsStr::from_bytes);
+            arguments[place] = OsStr::from_bytes(&longer);
+            group.same(text(&through_pipe(program(&arguments), &block)), listed.clone(), || format!("{arguments:?}"));
+        }
+    }
+    // 255 is the highest number; 16, 17 and 1 go by it.
+    for place in 0..4 {
+        let mut numbers = numbers;
+        numbers[place] = 255;
+        group.same(text(&through_pipe(program_with(numbers), &block)), expected(&block, numbers), || format!("{numbers:?}"));
+    }
+
+    let mut refused = |arguments: &[&[u8]]| {
+        let arguments: Vec<&OsStr> = arguments.iter().map(|argument| OsStr::from_bytes(argument)).collect();
+        let output = program(&arguments).stdin(Stdio::null()).output().expect("the program");
+        let error = text(&output.stderr);
+        let one_line = error.starts_with("usage: scp_track") && error.ends_with('\n') && error.lines().count() == 1;
+        group.same((text(&output.stdout), one_line), (String::new(), true), || format!("{arguments:?}, which says {error}"));
+    };
+    for count in 0..4 {
+        refused(&good[..count]);
+        refused(&good[4 - count..]);
+    }
+    refused(&[&good[..], &[b"0"]].concat());
+    refused(&[&good[..], &[b""]].concat());
+    refused(&[&good[..], &good[..]].concat());
+    let others: [&[u8]; 28] = [
+        b"",
+        b" ",
+        b"-",
+        b"-1",
+        b"+1",
+        b" 1",
+        b"1 ",
+        b"1\n",
+        b"x",
+        b"1x",
+        b"x1",
+        b"0x1",
+        b"1.0",
+        b"1,0",
+        b"1e0",
+        // The bytes beside those of the digits, and others.
+        b"/",
+        b":",
+        b"1:",
+        b"\xB1",
+        b"1\xFF",
+        "\u{661}".as_bytes(),
+        b"256",
+        b"260",
+        b"999",
+        b"0000256",
+        // 1 in 8, 32 and 64 bits.
+        b"257",
+        b"4294967297",
+        b"18446744073709551617",
+    ];
+    for place in 0..4 {
+        for other in others {
+            let mut arguments = good;
+            arguments[place] = other;
+            refused(&arguments);
+        }
+    }
+
+    // The longest block, and longer ones, of which nothing is said.
+    let lengths = [(LONGEST_BLOCK, 0), (LONGEST_BLOCK - 1, 0), (LONGEST_BLOCK - 1, 1), (1_000, LONGEST_BLOCK - 1_000)];
+    for (length, left_over) in lengths {
+        let mut plan = block_of_length(length);
+        plan.left_over = vec![0; left_over];
+        for more in [0, 1, 65_536, LONGEST_BLOCK] {
+            let given = || format!("values to {length}, {left_over} left over, {more} more");
+            let block = [plan.bytes(), vec![0; more]].concat();
+            let numbers = [1, 0, 5, 0];
+            let expected = if block.len() > LONGEST_BLOCK { String::new() } else { expected(&block, numbers) };
+            group.same(text(&through_pipe(program_with(numbers), &block)), expected, given);
+        }
+    }
+    let zeros = vec![0; LONGEST_BLOCK];
+    group.same(text(&through_pipe(program_with(numbers), &zeros)), "refused 16\n".to_string(), || "zeros".to_string());
+    let mut child = started(program_with(numbers), Stdio::from(File::open("/dev/zero").expect("zeros without end")));
+    if !ends_within(&mut child, Duration::from_secs(20)) {
+        child.kill().expect("a program that reads without end");
+    }
+    let output = child.wait_with_output().expect("the program's output");
+    let ours = (text(&output.stdout), output.status.success());
+    group.same(ours, (String::new(), true), || "zeros without end".to_string());
+
+    // Blocks in portions.
+    let mut random = Random::new(74);
+    for place in 1..block.len() {
+        let (front, back) = block.split_at(place);
+        let ours = in_portions(program_with(numbers), [front, back].into_iter());
+        group.same(text(&ours), listed.clone(), || format!("in two at {place}"));
+        let short = expected(front, numbers);
+        group.same(text(&through_pipe(program_with(numbers), front)), short, || format!("cut short at {place}"));
+    }
+    for (name, block, numbers) in [
+        ("the standard track", standard_track_block(15, 0, 0, 0xE5, 2).bytes(), [2, 1, 0, 0]),
+        ("an odd track", odd_track_block(7).bytes(), [2, 1, 5, 0]),
+        ("a block of 300,001 bytes", block_of_length(300_001).bytes(), [1, 0, 80, 0]),
+    ] {
+        let expected = expected(&block, numbers);
+        for size in [1, 3, 7, 1_000, 4_095, 4_096] {
+            let ours = in_portions(program_with(numbers), block.chunks(size));
+            group.same(text(&ours), expected.clone(), || format!("{name} in portions of {size}"));
+        }
+        for _ in 0..10 {
+            let portions = random_portions(&mut random, &block, 4_096);
+            let some = portions.into_iter().filter(|portion| !portion.is_empty());
+            let ours = in_portions(program_with(numbers), some);
+            group.same(text(&ours), expected.clone(), || format!("{name} in portions at random"));
+        }
+    }
+
+    // No input, or one that cannot be read: nothing is known of a block, and nothing is said.
+    let command = program_with(numbers);
+    for redirection in ["<&-", "< /", "< /proc/self/mem"] {
+        let output = in_shell(&command, redirection);
+        group.same((text(&output.stdout), output.status.success()), (String::new(), true), || redirection.to_string());
+    }
+    // An output that cannot be written, or whose reader goes away: the program ends all the same.
+    for redirection in [">&-", "> /dev/full"] {
+        group.same(in_shell(&command, redirection).status.success(), true, || redirection.to_string());
+    }
+    let mut child = started(program_with(numbers), Stdio::null());
+    drop(child.stdout.take());
+    group.same(ends_within(&mut child, Duration::from_secs(20)), true, || "the output's reader has gone".to_string());
+    group.same(text(&through_pipe(command, &[])), "refused 16\n".to_string(), || "no bytes".to_string());
+    group.close(totals);
+}
