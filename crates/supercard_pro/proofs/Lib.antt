@@ -1,6 +1,7 @@
 pub mod Passing
 pub mod Table
 pub mod Judging
+pub mod NoZeros
 pub mod Timings
 pub mod History
 pub mod Taking

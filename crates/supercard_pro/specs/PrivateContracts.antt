@@ -1,8 +1,8 @@
 -- What the contracts of the functions need that pass over a portion. Assumes nothing.
-use Prim.Native.Nat.{ℕ, _+_}
+use Prim.Native.Nat.{ℕ, _+_, _*_}
 use mathlib.Core.Path.{_≡_}
-use mathlib.Core.Bool.{cond}
-use mathlib.Core.List.{List}
+use mathlib.Core.Bool.{Bool, true, cond, not, _&&_}
+use mathlib.Core.List.{List, [], _∷_}
 use lib.Dec.{eqb}
 use lib.ListN.{length}
 use lib.Seq.{sets}
@@ -40,3 +40,9 @@ pub record LookedOver (unfinished : Unfinished) (bytes : List ℕ) (next : Unfin
   pub unfinished-is : next ≡ unfinishedAfter unfinished bytes
   pub count-is : total ≡ length (timingsEnding unfinished bytes)
   pub out-is : first ≡ firstOut (timingsEnding unfinished bytes)
+
+-- no value of some bytes is a 0
+unfoldable pub noZeros : List ℕ → Bool
+noZeros [] = true
+noZeros (high ∷ []) = true
+noZeros (high ∷ low ∷ bytes) = not (eqb (256 * high + low) 0) && noZeros bytes

@@ -10,14 +10,14 @@ use crate::Unfinished;
 use crate::two_bytes;
 use refusals::Refusal;
 ghost use mathlib.Core.Path.{_≡_};
-ghost use mathlib.Core.Bool.{cond};
+ghost use mathlib.Core.Bool.{cond, true};
 ghost use Prim.Native.Nat.{_+_, _≤_, _<_, min};
 ghost use lib.Dec.{eqb};
 ghost use lib.ListN.{length, drop, set};
 ghost use Rattle.flux.specs.Rule.{inRange};
 ghost use Rattle.supercard_pro.specs.TrackBlock.{givenAnswer};
 ghost use Rattle.supercard_pro.specs.Portions.{unfinishedAfter, freshReader, usableReader, portionAnswer, portionReader, portionList, AllTimings};
-ghost use Rattle.supercard_pro.specs.PrivateContracts.{between, PassedValue, PassedOver, LookedOver};
+ghost use Rattle.supercard_pro.specs.PrivateContracts.{between, PassedValue, PassedOver, LookedOver, noZeros};
 
 impl RevolutionReader {
     // Before the first byte of a revolution's values.
@@ -115,13 +115,51 @@ fn refused(reader: RevolutionReader, refusal: Refusal) -> TakenPortion
     }
 }
 
-// What a pass over a portion finds. The timings are not kept: there is a list for one, since a pass stores them as far as a list reaches.
+// What a pass over a portion finds. Where no value is a 0 each ends a timing, which is in range: that is seen by a look at several values at
+// once. Else the timings are passed over and not kept: there is a list for one, since a pass stores them as far as a list reaches.
 fn look(unfinished: Unfinished, portion: &[u8]) -> Passed
     requires { ⌜ unfinished .zeros ≤ 7 ⌝ }
     ensures { λ r. ⌜ LookedOver unfinished (now (portion .entry)) (r .unfinished) (r .count) (r .out) ⌝ }
 {
+    if nothing_before(unfinished) {
+        if no_zeros(portion) {
+            let count = portion.len() / 2;
+            return Passed {
+                unfinished: held_at(0, portion, 2 * count),
+                count,
+                out: count,
+            };
+        }
+    }
     let mut unused = [0u32; 1];
     pass(unfinished, portion, &mut unused)
+}
+
+// Whether no byte is held, and no zeros stand before the next value.
+fn nothing_before(unfinished: Unfinished) -> bool
+    ensures { λ r. ⌜ (r ≡ true → unfinished ≡ between 0) ⌝ }
+{
+    if unfinished.zeros != 0 {
+        return false;
+    }
+    let held = unfinished.held;
+    match held {
+        Held::Nothing => true,
+        Held::High(_) => false,
+    }
+}
+
+// Whether no value of a portion is a 0. The loop goes on to the end whatever it finds, so that the compiler can test several values at once.
+fn no_zeros(portion: &[u8]) -> bool
+    ensures { λ r. ⌜ (r ≡ true → noZeros (now (portion .entry)) ≡ true) ⌝ }
+{
+    let mut all = true;
+    let mut i: usize = 0;
+    while 2 <= portion.len() - i {
+        all = all & (two_bytes(portion[i], portion[i + 1]) != 0);
+        i += 2;
+    }
+    all
 }
 
 // Passes over a portion, and stores its timings from the front of the list on, as far as it reaches.
