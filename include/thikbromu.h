@@ -208,7 +208,8 @@ uint32_t thikbromu_revolution_portion(uint32_t *state, const uint8_t *portion, s
                                       size_t *value);
 
 /* The cells of the chosen revolution: its timings go to the separator. Gives the number of cells, packed at the front of `cells` as
- * thikbromu_separate leaves them. Refuses 16, 17, 6, 7, 8, 9, 10, the last with the bytes that the cells need. */
+ * thikbromu_separate leaves them. Refuses 16, 17, 6, 7, 8, 9, 10, the last with the bytes that the cells need. The timings take 262,144 bytes
+ * of the stack. */
 uint32_t thikbromu_revolution_cells(const uint8_t *block, size_t length, uint32_t revolutions, uint32_t revolution, uint8_t *cells,
                                     size_t room, size_t *value);
 

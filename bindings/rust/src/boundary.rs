@@ -393,7 +393,7 @@ pub fn revolution_portion(state: &mut u32, portion: &[u8], timings: &mut [u32]) 
 }
 
 /// The cells of a revolution of a SuperCard Pro track block: its timings go to the separator. Gives the number of cells, packed at the
-/// front of `cells` as [`separate`] leaves them.
+/// front of `cells` as [`separate`] leaves them. The timings take 262,144 bytes of the stack.
 ///
 /// Refuses [`NotATrackBlock`](Refusal::NotATrackBlock), [`NoSuchRevolution`](Refusal::NoSuchRevolution),
 /// [`NoTimings`](Refusal::NoTimings), [`TooManyTimings`](Refusal::TooManyTimings),

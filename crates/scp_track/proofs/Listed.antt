@@ -1,9 +1,11 @@
 -- The listing of a block is that of the cells which the separator makes of its timings. Assumes nothing.
 use Prim.Native.Nat.{ℕ, _≤_, _<_}
 use mathlib.Core.Path.{_≡_, refl, sym, _∙_, ap}
+use mathlib.Core.Bool.{Bool, true, false}
 use mathlib.Core.List.{List}
 use native.Mathlib.Omega.{arith}
 use lib.ListN.{length, replicate, length-replicate}
+use lib.Seq.{take-nil}
 use Rattle.cells.specs.CellsAndBytes.{packed}
 use Rattle.flux.specs.Separation.{cellsOf, separation, separatedCells, separatedAnswer}
 use Rattle.flux.specs.declared.Separated.{Separated}
@@ -21,7 +23,7 @@ use Rattle.supercard_pro.proofs.BlockCells.Outcome.{stops, goes-on}
 use Rattle.track_file.specs.FluxFile.{fluxFile}
 use Rattle.track_file.specs.TrackFile.{placed, fileAnswerIn, fileBuffer}
 use Rattle.track_file.proofs.Laws.{AsSeparated, blank, flux-file-separated}
-use Rattle.scp_track.specs.BlockListing.{roomForCells, printedBlock, blockListing}
+use Rattle.scp_track.specs.BlockListing.{roomForCells, printedBlock, blockListing, inputListing}
 
 pub room-long : length roomForCells ≡ 16384
 unfolding roomForCells
@@ -114,3 +116,17 @@ module _ (block : List ℕ) (revolutions k T H : ℕ) where
         let l : blockListing block revolutions k T H ≡ refusedLine number
         = listing-is (refusedWith refusal) cells (ap separatedAnswer (sym e) ∙ is) left ∙ ap refusedLine (sym n) in
         rw l (w .0, (omega (arith, w .0, refused-few number fits), w .1))
+
+-- an input that ended, and one that did not
+module _ (block : List ℕ) (revolutions k T H : ℕ) (before : List ℕ) where
+  abbrev pub InputWritten : Bool → ℕ → List ℕ → Type 0
+  InputWritten ended r after =
+      (r ≡ length (inputListing ended block revolutions k T H)) × ((r ≤ 65536) × (after ≡ outAfter (inputListing ended block revolutions k T H) before))
+
+  pub input-ended : {ended : Bool} → ended ≡ true → {r : ℕ} {after : List ℕ} → Written block revolutions k T H before r after → InputWritten ended r after
+  unfolding inputListing
+  input-ended e w = rw e w
+
+  pub input-not-ended : {ended : Bool} → ended ≡ false → InputWritten ended 0 before
+  unfolding inputListing
+  input-not-ended e = rw (e, take-nil {A = ℕ} (length before)) (refl, (omega arith, refl))

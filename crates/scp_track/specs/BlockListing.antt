@@ -1,8 +1,9 @@
--- 02, ticket 3: what `scp_track` prints of a block, "the listing that the track file with those timings would give". Assumes nothing.
+-- What `scp_track` prints of a block: "the listing that the track file with those timings would give" (docs/changes/03-supercard-pro.md,
+-- "What was asked with it"), or, where the block itself is refused, "refused" and the number. Assumes nothing.
 use Prim.Native.Nat.{ℕ}
 use mathlib.Core.Path.{_≡_}
 use mathlib.Core.Bool.{Bool, cond}
-use mathlib.Core.List.{List}
+use mathlib.Core.List.{List, []}
 use lib.ListN.{length, take, replicate}
 use Rattle.listing.specs.Listing.{refusedLine, outAfter}
 use Rattle.listing.specs.ListingOfFile.{fileListing}
@@ -20,16 +21,20 @@ unfoldable pub printedBlock : Answer ℕ → List ℕ → List ℕ
 printedBlock (gives count) file = fileListing roomForCells file
 printedBlock (refused number value) file = refusedLine number
 
--- the timings of revolution k, of which a list of 65,536 holds as many as are not refused, as a track file at T and H
+-- the timings of revolution k as a track file at T and H. The room is for 65,536 timings, so 10 does not arise. A revolution without values
+-- is refused with 6, as the block's call has it, and not with 15, as a track file without timings
 unfoldable pub blockListing : (block : List ℕ) (revolutions k T H : ℕ) → List ℕ
 blockListing block revolutions k T H = printedBlock (blockAnswer block revolutions k 65536) (fluxFile T H (revolutionTimings block k))
 
--- what the program makes of its input. The contract of the system's `read` does not say which bytes it brings: so there is a number of bytes
--- at the front of the block's room that were read, and whether the input ended there. Where it did, their listing stands at the front of
--- `out`, and the answer is the number of its bytes; else nothing is written. That these are the bytes of standard input is seen in the code
--- of `list_input` and `at_end`
+-- what is to be written of an input of which these bytes were read: where it ended there the listing, and else nothing
+unfoldable pub inputListing : Bool → (block : List ℕ) (revolutions k T H : ℕ) → List ℕ
+inputListing ended block revolutions k T H = cond ended (blockListing block revolutions k T H) []
+
+-- there is a number of bytes at the front of the block's room, and a yes or no, of which the listing stands at the front of `out`; the answer
+-- is the number of its bytes. That they are how many were read, and whether the input ended there, is seen in the code of `list_input` and
+-- `at_end`: the contract of the system's `read` does not say which bytes it brings. A program that reads nothing meets this too
 pub record ListedBlock (revolutions k T H : ℕ) (block before : List ℕ) (answer : ℕ) (out : List ℕ) : Type 0 where
   pub count : ℕ
   pub ended : Bool
-  pub answer-is : answer ≡ cond ended (length (blockListing (take count block) revolutions k T H)) 0
-  pub out-is : out ≡ cond ended (outAfter (blockListing (take count block) revolutions k T H) before) before
+  pub answer-is : answer ≡ length (inputListing ended (take count block) revolutions k T H)
+  pub out-is : out ≡ outAfter (inputListing ended (take count block) revolutions k T H) before

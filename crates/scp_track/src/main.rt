@@ -15,9 +15,9 @@ ghost use Prim.Native.Nat.{_≤_};
 ghost use lib.ListN.{length};
 ghost use Rattle.listing.specs.Listing.{outAfter};
 ghost use Rattle.scp_track.specs.Arguments.{isDigit, argumentOf};
-ghost use Rattle.scp_track.specs.BlockListing.{roomForCells, blockListing, ListedBlock};
+ghost use Rattle.scp_track.specs.BlockListing.{roomForCells, blockListing, inputListing, ListedBlock};
 
-// Room for a block: 31 revolutions with 65,536 values each. Drives record five.
+// Room for a block: 31 revolutions with 65,536 values each.
 const ROOM: usize = 4_194_304;
 
 // One argument: a number from 0 to 255, or anything else.
@@ -145,6 +145,25 @@ fn at_end() -> bool {
     libc::read(STDIN_FILENO, &mut more) == 0
 }
 
+// What is to be written of an input of which these bytes were read, and which ended there or not.
+fn list_read(choice: Choice, block: &[u8], ended: bool, out: &mut [u8]) -> usize
+    ensures answer { λ r. ⌜ r ≡ length (inputListing ended (now (block .entry)) (choice .revolutions) (choice .revolution) (choice .track) (choice .side)) ⌝ }
+    ensures few { λ r. ⌜ r ≤ 65536 ⌝ }
+    ensures out { λ _. ⌜ now (out .exit) ≡ outAfter (inputListing ended (now (block .entry)) (choice .revolutions) (choice .revolution) (choice .track) (choice .side)) (now (out .entry)) ⌝ }
+{
+    if ended {
+        return list_block(
+            block,
+            choice.revolutions,
+            choice.revolution,
+            choice.track,
+            choice.side,
+            out,
+        );
+    }
+    0
+}
+
 // Reads the block, by way of `block`, and puts its listing at the front of `out`; the answer is the number of its bytes. It is 0 where the
 // input cannot be read to its end, or has more bytes than there is room for: there is nothing to write then.
 fn list_input(choice: Choice, block: &mut [u8], out: &mut [u8]) -> usize
@@ -152,17 +171,8 @@ fn list_input(choice: Choice, block: &mut [u8], out: &mut [u8]) -> usize
     ensures listing { λ r. ⌜ ListedBlock (choice .revolutions) (choice .revolution) (choice .track) (choice .side) (now (block .exit)) (now (out .entry)) r (now (out .exit)) ⌝ }
 {
     let length = io::read_full(STDIN_FILENO, block);
-    if !at_end() {
-        return 0;
-    }
-    list_block(
-        &block[..length],
-        choice.revolutions,
-        choice.revolution,
-        choice.track,
-        choice.side,
-        out,
-    )
+    let ended = at_end();
+    list_read(choice, &block[..length], ended, out)
 }
 
 // As list_input, in an array. `main` does not lend it as a slice itself: the length of an array so large is not computed in a proof.

@@ -16,7 +16,7 @@ use Rattle.flux.proofs.Judging.{no-timings}
 use Rattle.refusals.specs.RefusedCalls.{Answer, bufferAfter}
 use Rattle.refusals.specs.RefusedCalls.Answer.{gives, refused}
 use Rattle.supercard_pro.specs.TrackBlock.{valueCount, valueOffset, tableEnd, valueBytes, valuesOf, timingsFrom, timingsIn, revolutionTimings, endsInZero, otherLetters, tableShort, badRevolution, someBad, notATrackBlock, blockJudged, roomJudged, blockAnswer, blockTimings}
-use Rattle.supercard_pro.specs.Portions.{timingsEnding, freshReader, isLeft, usableReader, portionJudged, portionTimings, portionAnswer, portionList}
+use Rattle.supercard_pro.specs.Portions.{timingsEnding, freshReader, isLeftByCalls, usableReader, portionJudged, portionTimings, portionAnswer, portionList}
 use Rattle.supercard_pro.specs.PrivateContracts.{between}
 use Rattle.supercard_pro.specs.declared.RevolutionReader.{RevolutionReader}
 use Rattle.supercard_pro.proofs.Judging.{Accepted, accepted}
@@ -77,7 +77,7 @@ some-values (high ∷ low ∷ bytes) h e = omega arith
 
 -- a portion with all bytes, from a fresh reader on
 fresh-used : usableReader freshReader ≡ freshReader
-unfolding usableReader isLeft
+unfolding usableReader isLeftByCalls
 fresh-used = refl
 
 module _ (bytes : List ℕ) (room : ℕ) where

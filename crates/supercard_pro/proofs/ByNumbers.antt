@@ -8,10 +8,11 @@ use native.Mathlib.Omega.{arith}
 use native.Mathlib.Decide.{ℕ-discrete}
 use borrow.Author.Tests.{eq-eqb, ne-eqb}
 use lib.Dec.{eqb}
+use Rattle.refusals.specs.RefusedCalls.{Answer}
 use Rattle.refusals.specs.RefusedCalls.Answer.{gives, refused}
-use Rattle.supercard_pro.specs.Portions.{unfinishedAfterValue, unfinishedAfterByte, unfinishedAfter, freshReader, isLeft, usableReader, portionTimings, portionAnswer, readerLeft, portionReader, Calls}
+use Rattle.supercard_pro.specs.Portions.{unfinishedAfterValue, unfinishedAfterByte, unfinishedAfter, freshReader, isLeftByCalls, usableReader, portionTimings, portionAnswer, readerLeft, portionReader, Calls, AllTimings}
 use Rattle.supercard_pro.specs.Portions.Calls.{none as no-call, more as one-more}
-use Rattle.supercard_pro.specs.Numbers.{heldNumber, heldFrom, numberOfParts, revolutionNumber, revolutionFrom, numberKept, PortionBytes, NumberCalls}
+use Rattle.supercard_pro.specs.Numbers.{heldNumber, heldFrom, numberOfParts, numberOfReader, readerOfNumber, numberKept, PortionBytes, NumberCalls, AllByNumber}
 use Rattle.supercard_pro.specs.Numbers.NumberCalls.{none, more}
 use Rattle.supercard_pro.specs.declared.Held.{Held}
 use Rattle.supercard_pro.specs.declared.Held.the-variants.{Nothing, High}
@@ -28,13 +29,13 @@ pub one-held : (n : ℕ) → (n ≡ 0 → ⊥) → High (n - 1) ≡ heldFrom n
 one-held n e = rw (ne-eqb n 0 e)
 
 pub parts-from : (n : ℕ) {held : Held} → held ≡ heldFrom (n % 257)
-    → record { unfinished = record { held = held; zeros = n / 257 % 8 }; timings = n / 257 / 8 } ≡ revolutionFrom n
-unfolding revolutionFrom
+    → record { unfinished = record { held = held; zeros = n / 257 % 8 }; timings = n / 257 / 8 } ≡ readerOfNumber n
+unfolding readerOfNumber
 parts-from n e = rw e
 
 pub parts-number : (reader : RevolutionReader) {used : RevolutionReader} → used ≡ usableReader reader → {held : ℕ} → held ≡ heldNumber (used .unfinished .held)
-    → held + 257 * (used .unfinished .zeros + 8 * used .timings) ≡ revolutionNumber reader
-unfolding revolutionNumber
+    → held + 257 * (used .unfinished .zeros + 8 * used .timings) ≡ numberOfReader reader
+unfolding numberOfReader
 parts-number reader {used} u h = ap (λ (n : ℕ). n + 257 * (used .unfinished .zeros + 8 * used .timings)) h ∙ ap numberOfParts u
 
 -- what is held is a byte
@@ -55,8 +56,8 @@ part-0 a z t h = omega arith
 part-1 : (a z t : ℕ) → a < 257 → (a + 257 * (z + 8 * t)) / 257 ≡ z + 8 * t
 part-1 a z t h = omega arith
 
-pub read-back : (reader : RevolutionReader) → HeldByte (usableReader reader .unfinished .held) → revolutionFrom (revolutionNumber reader) ≡ usableReader reader
-unfolding revolutionNumber revolutionFrom
+pub read-back : (reader : RevolutionReader) → HeldByte (usableReader reader .unfinished .held) → readerOfNumber (numberOfReader reader) ≡ usableReader reader
+unfolding numberOfReader readerOfNumber
 read-back reader h = back (usableReader reader) h (usable-few reader .0)
   where
     back : (r : RevolutionReader) → HeldByte (r .unfinished .held) → r .unfinished .zeros ≤ 7
@@ -93,41 +94,45 @@ left-as-is {reader} calls =
     as-it-is reader (is-left reader (b .few-zeros) (b .few-timings))
 
 -- calls that keep the reader as a number are calls
-module _ (n : ℕ) (bytes given portion : List ℕ) (room count : ℕ) (calls : Calls (revolutionFrom n) bytes given) (byte : HeldByte (revolutionFrom n .unfinished .held))
-    (portion-is : PortionBytes portion) (answer : portionAnswer (revolutionFrom n) portion room ≡ gives count) where
+module _ (n : ℕ) (bytes given portion : List ℕ) (room count : ℕ) (calls : Calls (readerOfNumber n) bytes given) (byte : HeldByte (readerOfNumber n .unfinished .held))
+    (portion-is : PortionBytes portion) (answer : portionAnswer (readerOfNumber n) portion room ≡ gives count) where
   abbrev next : RevolutionReader
-  next = portionReader (revolutionFrom n) portion room
+  next = portionReader (readerOfNumber n) portion room
 
-  next-calls : Calls next (bytes ++ portion) (given ++ portionTimings (revolutionFrom n) portion)
+  next-calls : Calls next (bytes ++ portion) (given ++ portionTimings (readerOfNumber n) portion)
   next-calls = one-more portion room count calls answer
 
   next-byte : HeldByte (next .unfinished .held)
   unfolding readerLeft
   next-byte =
-      rw (answer, left-as-is calls) (held-after (revolutionFrom n .unfinished) portion byte portion-is)
+      rw (answer, left-as-is calls) (held-after (readerOfNumber n .unfinished) portion byte portion-is)
 
-  same-next : revolutionFrom (revolutionNumber next) ≡ next
+  same-next : readerOfNumber (numberOfReader next) ≡ next
   same-next =
       let e = left-as-is next-calls in
       read-back next (subst (λ (r : RevolutionReader). HeldByte (r .unfinished .held)) (sym e) next-byte) ∙ e
 
-  next-by-number : Calls (revolutionFrom (revolutionNumber next)) (bytes ++ portion) (given ++ portionTimings (revolutionFrom n) portion)
-      × HeldByte (revolutionFrom (revolutionNumber next) .unfinished .held)
+  next-by-number : Calls (readerOfNumber (numberOfReader next)) (bytes ++ portion) (given ++ portionTimings (readerOfNumber n) portion)
+      × HeldByte (readerOfNumber (numberOfReader next) .unfinished .held)
   next-by-number =
       subst
-      (λ (r : RevolutionReader). Calls r (bytes ++ portion) (given ++ portionTimings (revolutionFrom n) portion) × HeldByte (r .unfinished .held))
+      (λ (r : RevolutionReader). Calls r (bytes ++ portion) (given ++ portionTimings (readerOfNumber n) portion) × HeldByte (r .unfinished .held))
       (sym same-next)
       (next-calls, next-byte)
 
-calls-and-byte : {n : ℕ} {bytes given : List ℕ} → NumberCalls n bytes given → Calls (revolutionFrom n) bytes given × HeldByte (revolutionFrom n .unfinished .held)
-unfolding revolutionFrom
+calls-and-byte : {n : ℕ} {bytes given : List ℕ} → NumberCalls n bytes given → Calls (readerOfNumber n) bytes given × HeldByte (readerOfNumber n .unfinished .held)
+unfolding readerOfNumber
 calls-and-byte none = (no-call, tt)
 calls-and-byte (more {n} {bytes} {given} portion room count calls portion-is answer) =
     let c = calls-and-byte calls in
     next-by-number n bytes given portion room count (c .0) (c .1) portion-is answer
 
-pub calls-by-numbers : {n : ℕ} {bytes given : List ℕ} → NumberCalls n bytes given → Calls (revolutionFrom n) bytes given
+pub calls-by-numbers : {n : ℕ} {bytes given : List ℕ} → NumberCalls n bytes given → Calls (readerOfNumber n) bytes given
 calls-by-numbers calls = calls-and-byte calls .0
+
+-- so what is promised of a reader is promised of its number
+pub all-by-number : (n : ℕ) (portion : List ℕ) (answer : Answer ℕ) (list : List ℕ) → AllTimings (readerOfNumber n) portion answer list → AllByNumber n portion answer list
+all-by-number n portion answer list all = record { same = λ bytes given calls count e. all .same bytes given (calls-by-numbers calls) count e }
 
 -- and each number is that of its reader, where calls leave the reader
 held-is : (m : ℕ) → heldNumber (heldFrom m) ≡ m
@@ -137,10 +142,10 @@ held-is m = go (ℕ-discrete m 0)
     go (yes z) = rw (eq-eqb m 0 z) (sym z)
     go (no z) = rw (ne-eqb m 0 z) (omega (arith, z))
 
-parts-back : (n : ℕ) → numberOfParts (revolutionFrom n) ≡ n
-unfolding revolutionFrom
+parts-back : (n : ℕ) → numberOfParts (readerOfNumber n) ≡ n
+unfolding readerOfNumber
 parts-back n = rw (held-is (n % 257)) (omega arith)
 
-pub number-back : (n : ℕ) → isLeft (revolutionFrom n) ≡ true → revolutionNumber (revolutionFrom n) ≡ n
-unfolding revolutionNumber
-number-back n e = rw (as-it-is (revolutionFrom n) e) (parts-back n)
+pub number-back : (n : ℕ) → isLeftByCalls (readerOfNumber n) ≡ true → numberOfReader (readerOfNumber n) ≡ n
+unfolding numberOfReader
+number-back n e = rw (as-it-is (readerOfNumber n) e) (parts-back n)

@@ -13,7 +13,7 @@ use Rattle.flux.specs.Separation.{firstOut}
 use Rattle.refusals.specs.RefusedCalls.{Answer, bufferAfter}
 use Rattle.refusals.specs.RefusedCalls.Answer.{gives, refused}
 use Rattle.supercard_pro.specs.TrackBlock.{timingsIn}
-use Rattle.supercard_pro.specs.Portions.{unfinishedAfter, timingsEnding, freshReader, isLeft, usableReader, portionJudged, portionTimings, portionAnswer, readerLeft, portionReader, portionList, Calls, AllTimings}
+use Rattle.supercard_pro.specs.Portions.{unfinishedAfter, timingsEnding, freshReader, isLeftByCalls, usableReader, portionJudged, portionTimings, portionAnswer, readerLeft, portionReader, portionList, Calls, AllTimings}
 use Rattle.supercard_pro.specs.Portions.Calls.{none, more}
 use Rattle.supercard_pro.specs.PrivateContracts.{between}
 use Rattle.supercard_pro.specs.declared.RevolutionReader.{RevolutionReader}
@@ -30,7 +30,7 @@ pub record Behind (reader : RevolutionReader) (bytes given : List ℕ) : Type 0 
   pub given-is : given ≡ timingsEnding (between 0) bytes
   pub all-in : firstOut given ≡ length given
 
-pub as-it-is : (reader : RevolutionReader) → isLeft reader ≡ true → usableReader reader ≡ reader
+pub as-it-is : (reader : RevolutionReader) → isLeftByCalls reader ≡ true → usableReader reader ≡ reader
 unfolding usableReader
 as-it-is reader e = rw e
 

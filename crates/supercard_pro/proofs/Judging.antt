@@ -12,7 +12,7 @@ use Rattle.flux.proofs.FirstOut.{out-within}
 use Rattle.refusals.specs.RefusedCalls.{Answer}
 use Rattle.refusals.specs.RefusedCalls.Answer.{gives, refused}
 use Rattle.supercard_pro.specs.TrackBlock.{roomJudged}
-use Rattle.supercard_pro.specs.Portions.{freshReader, isLeft, usableReader, portionJudged}
+use Rattle.supercard_pro.specs.Portions.{freshReader, isLeftByCalls, usableReader, portionJudged}
 use Rattle.supercard_pro.specs.declared.RevolutionReader.{RevolutionReader}
 
 -- which readers are used as they are
@@ -22,15 +22,15 @@ and-false false = refl
 
 module _ (reader : RevolutionReader) where
   pub many-zeros : 7 < reader .unfinished .zeros → freshReader ≡ usableReader reader
-  unfolding usableReader isLeft
+  unfolding usableReader isLeftByCalls
   many-zeros h = rw (lt-leb (reader .unfinished .zeros) 7 h)
 
   pub many-timings : 65536 < reader .timings → freshReader ≡ usableReader reader
-  unfolding usableReader isLeft
+  unfolding usableReader isLeftByCalls
   many-timings h = rw (lt-leb (reader .timings) 65536 h, and-false (leb (reader .unfinished .zeros) 7))
 
-  pub is-left : reader .unfinished .zeros ≤ 7 → reader .timings ≤ 65536 → isLeft reader ≡ true
-  unfolding isLeft
+  pub is-left : reader .unfinished .zeros ≤ 7 → reader .timings ≤ 65536 → isLeftByCalls reader ≡ true
+  unfolding isLeftByCalls
   is-left a b = rw (le-leb (reader .unfinished .zeros) 7 a, le-leb (reader .timings) 65536 b)
 
   pub used-as-is : reader .unfinished .zeros ≤ 7 → reader .timings ≤ 65536 → reader ≡ usableReader reader
@@ -38,7 +38,7 @@ module _ (reader : RevolutionReader) where
   used-as-is a b = rw (is-left a b)
 
 pub usable-few : (reader : RevolutionReader) → (usableReader reader .unfinished .zeros ≤ 7) × (usableReader reader .timings ≤ 65536)
-unfolding usableReader isLeft
+unfolding usableReader isLeftByCalls
 usable-few reader = go (leb (reader .unfinished .zeros) 7) refl (leb (reader .timings) 65536) refl
   where
     go : (x : Bool) → leb (reader .unfinished .zeros) 7 ≡ x → (y : Bool) → leb (reader .timings) 65536 ≡ y

@@ -2,7 +2,7 @@
 --
 --   left-few         after an accepted portion at most 7 zeros are counted, and at most 65,536 timings
 --   accepted-left    so the reader that it leaves is one that calls leave
---   left-exactly     "a carried state no call leaves": calls leave the states of which `isLeft` is true, and no others
+--   left-exactly     "a carried state no call leaves": calls leave the states of which `isLeftByCalls` is true, and no others
 --   counted          a reader that calls left counts the timings that they gave
 --   as-whole-call    "where nothing is refused, the timings in all are the same" as the whole call's, on a list with room for them
 --   whole-in-one     where the whole call is accepted, so is one portion with all bytes, with the same answer and the same list
@@ -25,7 +25,7 @@ use Rattle.flux.proofs.Judging.{no-timings, timings-accepted}
 use Rattle.refusals.specs.RefusedCalls.{Answer, bufferAfter}
 use Rattle.refusals.specs.RefusedCalls.Answer.{gives, refused}
 use Rattle.supercard_pro.specs.TrackBlock.{valueBytes, revolutionTimings, notATrackBlock, blockJudged, roomJudged, blockAnswer, blockTimings}
-use Rattle.supercard_pro.specs.Portions.{unfinishedAfterValue, timingsOfValue, unfinishedAfter, timingsEnding, freshReader, isLeft, usableReader, portionTimings, portionAnswer, readerLeft, portionReader, portionList, Calls}
+use Rattle.supercard_pro.specs.Portions.{unfinishedAfterValue, timingsOfValue, unfinishedAfter, timingsEnding, freshReader, isLeftByCalls, usableReader, portionTimings, portionAnswer, readerLeft, portionReader, portionList, Calls}
 use Rattle.supercard_pro.specs.Portions.Calls.{none, more}
 use Rattle.supercard_pro.specs.PrivateContracts.{between}
 use Rattle.supercard_pro.specs.declared.Held.{Held}
@@ -47,11 +47,11 @@ module _ (reader : RevolutionReader) (portion : List ℕ) (room count : ℕ) (an
       (zeros-stay-few (usableReader reader .unfinished) portion (used .0), omega (arith, a .few, a .count-is))
 
   -- so it leaves a state that calls leave
-  pub accepted-left : isLeft (readerLeft (gives count) reader portion) ≡ true
+  pub accepted-left : isLeftByCalls (readerLeft (gives count) reader portion) ≡ true
   accepted-left = is-left (readerLeft (gives count) reader portion) (left-few .0) (left-few .1)
 
--- calls leave only states of which `isLeft` is true
-pub calls-leave : {reader : RevolutionReader} {bytes given : List ℕ} → Calls reader bytes given → isLeft reader ≡ true
+-- calls leave only states of which `isLeftByCalls` is true
+pub calls-leave : {reader : RevolutionReader} {bytes given : List ℕ} → Calls reader bytes given → isLeftByCalls reader ≡ true
 calls-leave {reader} calls = let b = behind-calls calls in is-left reader (b .few-zeros) (b .few-timings)
 
 -- a reader that calls leave: all bytes that they were handed, and all timings that they gave
@@ -98,9 +98,9 @@ unfolding unfinishedAfter timingsEnding firstOut
 after-held Nothing z n a b = after-zeros z n a b
 after-held (High byte) z n a b = rw (← add-zero n) (one-more (between z) n a (byte ∷ []) (omega arith) (omega arith) (after-zeros z n a b))
 
--- each state of which `isLeft` is true is left by calls
-pub left-by-calls : (reader : RevolutionReader) → isLeft reader ≡ true → LeftByCalls reader
-unfolding isLeft
+-- each state of which `isLeftByCalls` is true is left by calls
+pub left-by-calls : (reader : RevolutionReader) → isLeftByCalls reader ≡ true → LeftByCalls reader
+unfolding isLeftByCalls
 left-by-calls reader = go (leb (reader .unfinished .zeros) 7) refl (leb (reader .timings) 65536) refl
   where
     go : (x : Bool) → leb (reader .unfinished .zeros) 7 ≡ x → (y : Bool) → leb (reader .timings) 65536 ≡ y → (x && y) ≡ true → LeftByCalls reader
@@ -109,8 +109,8 @@ left-by-calls reader = go (leb (reader .unfinished .zeros) 7) refl (leb (reader 
     go true a false b e = let z : _≡_ {A = ℕ} 0 1 = cc in absurd (omega arith)
     go false a y b e = let z : _≡_ {A = ℕ} 0 1 = cc in absurd (omega arith)
 
--- the states that calls leave are exactly those of which `isLeft` is true
-pub left-exactly : (reader : RevolutionReader) → (LeftByCalls reader → isLeft reader ≡ true) × (isLeft reader ≡ true → LeftByCalls reader)
+-- the states that calls leave are exactly those of which `isLeftByCalls` is true
+pub left-exactly : (reader : RevolutionReader) → (LeftByCalls reader → isLeftByCalls reader ≡ true) × (isLeftByCalls reader ≡ true → LeftByCalls reader)
 left-exactly reader = ((λ l. calls-leave (l .calls)), left-by-calls reader)
 
 -- a reader that calls left counts the timings that they gave

@@ -3,15 +3,17 @@
 --
 --   number = held + 257 * (zeros + 8 * timings)          held is 0 where no byte is, and else one more than the byte
 --
--- A fresh reader is 0, and each number stands for one reader. The main property: calls that keep the reader as a number go on as those that
--- keep it itself (`calls-by-numbers`, in proofs/ByNumbers). Assumes nothing.
+-- A fresh reader is 0, and each number stands for one reader. The main property: however the bytes are cut, calls that keep the reader as a
+-- number give the timings of all bytes (`AllByNumber`). Assumes nothing.
 use Prim.Native.Nat.{ℕ, _+_, _-_, _*_, _/_, _%_, _<_}
 use mathlib.Core.Path.{_≡_}
 use mathlib.Core.Bool.{cond}
 use mathlib.Core.List.{List, [], _∷_, _++_}
 use lib.Dec.{eqb}
+use lib.ListN.{take}
 use Rattle.refusals.specs.RefusedCalls.{Answer}
 use Rattle.refusals.specs.RefusedCalls.Answer.{gives, refused}
+use Rattle.supercard_pro.specs.TrackBlock.{timingsIn}
 use Rattle.supercard_pro.specs.Portions.{usableReader, portionTimings, portionAnswer, portionReader}
 use Rattle.supercard_pro.specs.declared.Held.{Held}
 use Rattle.supercard_pro.specs.declared.Held.the-variants.{Nothing, High}
@@ -30,17 +32,17 @@ abbrev pub numberOfParts : RevolutionReader → ℕ
 numberOfParts reader = heldNumber (reader .unfinished .held) + 257 * (reader .unfinished .zeros + 8 * reader .timings)
 
 -- the number of a reader. One that no call leaves counts as a fresh one
-unfoldable pub revolutionNumber : RevolutionReader → ℕ
-revolutionNumber reader = numberOfParts (usableReader reader)
+unfoldable pub numberOfReader : RevolutionReader → ℕ
+numberOfReader reader = numberOfParts (usableReader reader)
 
 -- the reader of a number
-unfoldable pub revolutionFrom : ℕ → RevolutionReader
-revolutionFrom n = record { unfinished = record { held = heldFrom (n % 257); zeros = n / 257 % 8 }; timings = n / 257 / 8 }
+unfoldable pub readerOfNumber : ℕ → RevolutionReader
+readerOfNumber n = record { unfinished = record { held = heldFrom (n % 257); zeros = n / 257 % 8 }; timings = n / 257 / 8 }
 
 -- a number that is kept from call to call, after a call that answers so and leaves the reader `next`: its number, or, beside a refusal, the
 -- one that came
 abbrev pub numberKept : Answer ℕ → ℕ → RevolutionReader → ℕ
-numberKept (gives count) n next = revolutionNumber next
+numberKept (gives count) n next = numberOfReader next
 numberKept (refused number value) n next = n
 
 -- what can be handed over as a portion: bytes
@@ -53,6 +55,10 @@ PortionBytes (byte ∷ bytes) = (byte < 256) × PortionBytes bytes
 pub data NumberCalls : ℕ → List ℕ → List ℕ → Type 0 where
   none : NumberCalls 0 [] []
   more : {n : ℕ} {bytes given : List ℕ} (portion : List ℕ) (room count : ℕ)
-      → NumberCalls n bytes given → PortionBytes portion → portionAnswer (revolutionFrom n) portion room ≡ gives count
-      → NumberCalls (numberKept (gives count) n (portionReader (revolutionFrom n) portion room)) (bytes ++ portion)
-      (given ++ portionTimings (revolutionFrom n) portion)
+      → NumberCalls n bytes given → PortionBytes portion → portionAnswer (readerOfNumber n) portion room ≡ gives count
+      → NumberCalls (numberKept (gives count) n (portionReader (readerOfNumber n) portion room)) (bytes ++ portion)
+      (given ++ portionTimings (readerOfNumber n) portion)
+
+-- what a call promises that is lent the number n, takes a portion and leaves a list, as `AllTimings` has it of the reader itself
+pub record AllByNumber (n : ℕ) (portion : List ℕ) (answer : Answer ℕ) (list : List ℕ) : Type 0 where
+  pub same : (bytes given : List ℕ) → NumberCalls n bytes given → (count : ℕ) → answer ≡ gives count → given ++ take count list ≡ timingsIn (bytes ++ portion)

@@ -51,12 +51,12 @@ freshReader = record { unfinished = record { held = Nothing; zeros = 0 }; timing
 
 -- the states that calls leave: at most 7 zeros counted, and at most 65,536 timings, since more are refused with 7. That calls leave these
 -- and no others is `left-exactly`, in proofs/Laws
-unfoldable pub isLeft : RevolutionReader → Bool
-isLeft reader = leb (reader .unfinished .zeros) 7 && leb (reader .timings) 65536
+unfoldable pub isLeftByCalls : RevolutionReader → Bool
+isLeftByCalls reader = leb (reader .unfinished .zeros) 7 && leb (reader .timings) 65536
 
 -- "a carried state no call leaves counts as a fresh one"
 unfoldable pub usableReader : RevolutionReader → RevolutionReader
-usableReader reader = cond (isLeft reader) reader freshReader
+usableReader reader = cond (isLeftByCalls reader) reader freshReader
 
 -- "A portion is refused only with 7, 8 (both counted from the revolution's start) or 10 (for its own timings)": where so many timings
 -- ended before it, these end in it, and the list has this room

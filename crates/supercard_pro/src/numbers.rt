@@ -5,12 +5,12 @@ use crate::Unfinished;
 use crate::portions::usable;
 ghost use mathlib.Core.Path.{_≡_};
 ghost use Prim.Native.Nat.{_<_};
-ghost use Rattle.supercard_pro.specs.Numbers.{heldNumber, heldFrom, revolutionNumber, revolutionFrom};
+ghost use Rattle.supercard_pro.specs.Numbers.{heldNumber, heldFrom, numberOfReader, readerOfNumber};
 
 impl RevolutionReader {
     // The number of a reader; that of one which no call leaves is a fresh reader's.
     pub fn number(self) -> u32
-        ensures { λ r. ⌜ r ≡ revolutionNumber self ⌝ }
+        ensures { λ r. ⌜ r ≡ numberOfReader self ⌝ }
     {
         let reader = usable(self);
         let unfinished = reader.unfinished;
@@ -20,7 +20,7 @@ impl RevolutionReader {
 
     // The reader of a number.
     pub fn from_number(number: u32) -> Self
-        ensures { λ r. ⌜ r ≡ revolutionFrom number ⌝ }
+        ensures { λ r. ⌜ r ≡ readerOfNumber number ⌝ }
     {
         RevolutionReader {
             unfinished: Unfinished {

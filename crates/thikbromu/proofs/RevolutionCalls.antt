@@ -5,7 +5,8 @@ use mathlib.Core.List.{List}
 use lib.ListN.{length}
 use Rattle.refusals.specs.RefusedCalls.{Answer}
 use Rattle.supercard_pro.specs.Portions.{portionAnswer, portionReader, portionList, AllTimings}
-use Rattle.supercard_pro.specs.Numbers.{revolutionFrom, numberKept}
+use Rattle.supercard_pro.specs.Numbers.{readerOfNumber, numberKept, AllByNumber}
+use Rattle.supercard_pro.proofs.ByNumbers.{all-by-number}
 use Rattle.supercard_pro.specs.declared.RevolutionReader.{RevolutionReader}
 use Rattle.thikbromu.specs.Numbers.{numberIn, valueIn}
 
@@ -18,13 +19,13 @@ Taken reader portion list answer next after =
 -- and what is told of it, as the reader of the number n
 abbrev Told : ℕ → List ℕ → List ℕ → ℕ → ℕ → ℕ → List ℕ → Type 0
 Told n portion list r v s after =
-    (r ≡ numberIn (portionAnswer (revolutionFrom n) portion (length list)))
-    × ((v ≡ valueIn (portionAnswer (revolutionFrom n) portion (length list)))
-    × ((s ≡ numberKept (portionAnswer (revolutionFrom n) portion (length list)) n (portionReader (revolutionFrom n) portion (length list)))
-    × ((after ≡ portionList (revolutionFrom n) portion list)
-    × AllTimings (revolutionFrom n) portion (portionAnswer (revolutionFrom n) portion (length list)) after)))
+    (r ≡ numberIn (portionAnswer (readerOfNumber n) portion (length list)))
+    × ((v ≡ valueIn (portionAnswer (readerOfNumber n) portion (length list)))
+    × ((s ≡ numberKept (portionAnswer (readerOfNumber n) portion (length list)) n (portionReader (readerOfNumber n) portion (length list)))
+    × ((after ≡ portionList (readerOfNumber n) portion list)
+    × AllByNumber n portion (portionAnswer (readerOfNumber n) portion (length list)) after)))
 
-pub portion-told : (n : ℕ) (portion list : List ℕ) {reader : RevolutionReader} → reader ≡ revolutionFrom n → {answer : Answer ℕ} {next : RevolutionReader} {after : List ℕ}
+pub portion-told : (n : ℕ) (portion list : List ℕ) {reader : RevolutionReader} → reader ≡ readerOfNumber n → {answer : Answer ℕ} {next : RevolutionReader} {after : List ℕ}
     → Taken reader portion list answer next after → {r v s : ℕ} → (r ≡ numberIn answer) × (v ≡ valueIn answer) × (s ≡ numberKept answer n next)
     → Told n portion list r v s after
 portion-told n portion list is {answer} {next} {after} t told =
@@ -35,7 +36,7 @@ portion-told n portion list is {answer} {next} {after} t told =
         told .1 ∙ ap valueIn a,
         (
           told .2 ∙ rw (a, p .1 .0),
-          (p .1 .1 .0, subst (λ (x : Answer ℕ). AllTimings (revolutionFrom n) portion x after) a (p .1 .1 .1)),
+          (p .1 .1 .0, all-by-number n portion _ after (subst (λ (x : Answer ℕ). AllTimings (readerOfNumber n) portion x after) a (p .1 .1 .1))),
         ),
       ),
     )

@@ -6,9 +6,9 @@ use supercard_pro::TakenPortion;
 ghost use mathlib.Core.Path.{_≡_};
 ghost use lib.ListN.{length};
 ghost use Rattle.supercard_pro.specs.TrackBlock.{givenAnswer, blockAnswer, blockTimings};
-ghost use Rattle.supercard_pro.specs.Portions.{portionAnswer, portionReader, portionList, AllTimings};
+ghost use Rattle.supercard_pro.specs.Portions.{portionAnswer, portionReader, portionList};
 ghost use Rattle.supercard_pro.specs.BlockToCells.{blockSeparation, blockCells, BlockDemand3};
-ghost use Rattle.supercard_pro.specs.Numbers.{revolutionFrom, numberKept};
+ghost use Rattle.supercard_pro.specs.Numbers.{readerOfNumber, numberKept, AllByNumber};
 ghost use Rattle.thikbromu.specs.Numbers.{numberIn, valueIn};
 
 // The timings of one revolution of a block, counted from 0, to the front of `timings`; `value` is their number. `revolutions` is the number
@@ -40,11 +40,11 @@ pub extern "C" fn thikbromu_revolution_portion(
     timings: &mut [u32],
     value: &mut usize,
 ) -> u32
-    ensures number { λ r. ⌜ r ≡ numberIn (portionAnswer (revolutionFrom (now (state .entry))) (now (portion .entry)) (length (now (timings .entry)))) ⌝ }
-    ensures value { λ _. ⌜ now (value .exit) ≡ valueIn (portionAnswer (revolutionFrom (now (state .entry))) (now (portion .entry)) (length (now (timings .entry)))) ⌝ }
-    ensures state { λ _. ⌜ now (state .exit) ≡ numberKept (portionAnswer (revolutionFrom (now (state .entry))) (now (portion .entry)) (length (now (timings .entry)))) (now (state .entry)) (portionReader (revolutionFrom (now (state .entry))) (now (portion .entry)) (length (now (timings .entry)))) ⌝ }
-    ensures list { λ _. ⌜ now (timings .exit) ≡ portionList (revolutionFrom (now (state .entry))) (now (portion .entry)) (now (timings .entry)) ⌝ }
-    ensures all { λ _. ⌜ AllTimings (revolutionFrom (now (state .entry))) (now (portion .entry)) (portionAnswer (revolutionFrom (now (state .entry))) (now (portion .entry)) (length (now (timings .entry)))) (now (timings .exit)) ⌝ }
+    ensures number { λ r. ⌜ r ≡ numberIn (portionAnswer (readerOfNumber (now (state .entry))) (now (portion .entry)) (length (now (timings .entry)))) ⌝ }
+    ensures value { λ _. ⌜ now (value .exit) ≡ valueIn (portionAnswer (readerOfNumber (now (state .entry))) (now (portion .entry)) (length (now (timings .entry)))) ⌝ }
+    ensures state { λ _. ⌜ now (state .exit) ≡ numberKept (portionAnswer (readerOfNumber (now (state .entry))) (now (portion .entry)) (length (now (timings .entry)))) (now (state .entry)) (portionReader (readerOfNumber (now (state .entry))) (now (portion .entry)) (length (now (timings .entry)))) ⌝ }
+    ensures list { λ _. ⌜ now (timings .exit) ≡ portionList (readerOfNumber (now (state .entry))) (now (portion .entry)) (now (timings .entry)) ⌝ }
+    ensures all { λ _. ⌜ AllByNumber (now (state .entry)) (now (portion .entry)) (portionAnswer (readerOfNumber (now (state .entry))) (now (portion .entry)) (length (now (timings .entry)))) (now (timings .exit)) ⌝ }
 {
     let reader = RevolutionReader::from_number(*state);
     told_portion(reader.take(portion, timings), state, value)
