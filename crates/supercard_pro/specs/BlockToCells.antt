@@ -22,6 +22,7 @@ blockCells block revolutions k buffer =
     bufferAfter (blockSeparation block revolutions k (length buffer)) (packed (cellsOf (revolutionTimings block k))) buffer
 
 -- demand 3 of a revolution: where the block is one and has the revolution, the call recovers the cells written, for all reversals and
--- pulses within the tolerance of which the revolution's timings are the differences
+-- pulses within the tolerance of which the revolution's timings are the differences. Where the first value runs from the index and not from a
+-- pulse it is no such difference, and demand 3 says nothing; the cells are those of the separator's rule all the same
 pub record BlockDemand3 (block : List ℕ) (revolutions k : ℕ) (answer : Answer ℕ) (before after : List ℕ) : Type 0 where
   pub recovers : notATrackBlock block revolutions ≡ false → ltb k revolutions ≡ true → Demand3 (revolutionTimings block k) answer before after

@@ -49,8 +49,8 @@ timingsEnding unfinished (byte ∷ bytes) =
 abbrev pub freshReader : RevolutionReader
 freshReader = record { unfinished = record { held = Nothing; zeros = 0 }; timings = 0 }
 
--- the states that calls leave: at most 7 zeros counted, and at most 65,536 timings, since more are refused with 7. That calls leave these
--- and no others is `left-exactly`, in proofs/Laws
+-- the states that calls leave: at most 7 zeros counted, and at most 65,536 timings, since more are refused with 7. That calls from
+-- a fresh reader on leave these and no others is `left-exactly`, in proofs/Laws
 unfoldable pub isLeftByCalls : RevolutionReader → Bool
 isLeftByCalls reader = leb (reader .unfinished .zeros) 7 && leb (reader .timings) 65536
 
