@@ -9,7 +9,7 @@ use borrow.Author.Tests.{leb-true, lt-ltb, le-ltb}
 use lib.Dec.{leb, ltb}
 use lib.ListN.{length, getD, drop, drop-of-length-le}
 use lib.Seq.{drop-cons}
-use Rattle.scp_track.specs.Arguments.{isDigit, withDigit, byteFrom, argumentOf}
+use Rattle.scp_track.specs.Arguments.{isDigit, withDigit, argumentFrom, argumentOf}
 use Rattle.scp_track.specs.declared.Argument.{Argument}
 use Rattle.scp_track.specs.declared.Argument.the-variants.{Byte, Other}
 
@@ -30,7 +30,7 @@ no-word (byte ∷ word) e = absurd (omega arith)
 pub record AtDigit (word : List ℕ) (number i : ℕ) : Type 0 where
   pub within : i ≤ length word
   pub small : number ≤ 255
-  pub rest : byteFrom number (drop i word) ≡ argumentOf word
+  pub rest : argumentFrom number (drop i word) ≡ argumentOf word
 
 pub first-digit : (word : List ℕ) → (length word ≡ 0 → ⊥) → AtDigit word 0 0
 unfolding argumentOf
@@ -42,9 +42,9 @@ module _ {word : List ℕ} {number i : ℕ} (at : AtDigit word number i) where
     abbrev byte : ℕ
     byte = getD word i 0
 
-    here : byteFrom number (drop i word)
-        ≡ cond (isDigit byte) (cond (ltb (withDigit number byte) 256) (byteFrom (withDigit number byte) (drop (i + 1) word)) Other) Other
-    unfolding byteFrom
+    here : argumentFrom number (drop i word)
+        ≡ cond (isDigit byte) (cond (ltb (withDigit number byte) 256) (argumentFrom (withDigit number byte) (drop (i + 1) word)) Other) Other
+    unfolding argumentFrom
     here = rw (add-one i, drop-cons word i 0 h)
 
     pub no-digit : isDigit byte ≡ false → Other ≡ argumentOf word
@@ -63,5 +63,5 @@ module _ {word : List ℕ} {number i : ℕ} (at : AtDigit word number i) where
           }
 
   pub last-digit : length word ≤ i → Byte number ≡ argumentOf word
-  unfolding byteFrom
+  unfolding argumentFrom
   last-digit l = rw (drop-of-length-le word l) at (at .rest)

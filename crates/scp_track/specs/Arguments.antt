@@ -14,11 +14,11 @@ abbrev pub withDigit : ℕ → ℕ → ℕ
 withDigit n byte = 10 * n + (byte - 48)
 
 -- the rest of a word, after digits that make n: all are digits, and the number stays below 256
-unfoldable pub byteFrom : ℕ → List ℕ → Argument
-byteFrom n [] = Byte n
-byteFrom n (byte ∷ word) = cond (isDigit byte) (cond (ltb (withDigit n byte) 256) (byteFrom (withDigit n byte) word) Other) Other
+unfoldable pub argumentFrom : ℕ → List ℕ → Argument
+argumentFrom n [] = Byte n
+argumentFrom n (byte ∷ word) = cond (isDigit byte) (cond (ltb (withDigit n byte) 256) (argumentFrom (withDigit n byte) word) Other) Other
 
 -- a word: one digit at least
 unfoldable pub argumentOf : List ℕ → Argument
 argumentOf [] = Other
-argumentOf (byte ∷ word) = byteFrom 0 (byte ∷ word)
+argumentOf (byte ∷ word) = argumentFrom 0 (byte ∷ word)
