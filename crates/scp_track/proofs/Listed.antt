@@ -21,8 +21,8 @@ use Rattle.supercard_pro.specs.BlockToCells.{blockSeparation, blockCells}
 use Rattle.supercard_pro.proofs.BlockCells.{Outcome, outcome}
 use Rattle.supercard_pro.proofs.BlockCells.Outcome.{stops, goes-on}
 use Rattle.track_file.specs.FluxFile.{fluxFile}
-use Rattle.track_file.specs.TrackFile.{placed, fileAnswerIn, fileBuffer}
-use Rattle.track_file.proofs.Laws.{AsSeparated, blank, flux-file-separated}
+use Rattle.track_file.specs.TrackFile.{placed}
+use Rattle.track_file.proofs.Laws.{blank, flux-file-separated}
 use Rattle.scp_track.specs.BlockListing.{roomForCells, printedBlock, blockListing, inputListing}
 
 pub room-long : length roomForCells ≡ 16384

@@ -31,8 +31,8 @@ unfoldable pub inputListing : Bool → (block : List ℕ) (revolutions k T H : �
 inputListing ended block revolutions k T H = cond ended (blockListing block revolutions k T H) []
 
 -- there is a number of bytes at the front of the block's room, and a yes or no, of which the listing stands at the front of `out`; the answer
--- is the number of its bytes. That they are how many were read, and whether the input ended there, is seen in the code of `list_input` and
--- `at_end`: the contract of the system's `read` does not say which bytes it brings. A program that reads nothing meets this too
+-- is the number of its bytes. That they are how many were read, and whether the input ended there, is seen in the code of `read_once` and
+-- `read_block`: the contract of the system's `read` does not say which bytes it brings. A program that reads nothing meets this too
 pub record ListedBlock (revolutions k T H : ℕ) (block before : List ℕ) (answer : ℕ) (out : List ℕ) : Type 0 where
   pub count : ℕ
   pub ended : Bool

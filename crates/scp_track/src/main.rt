@@ -5,7 +5,7 @@
 //
 // REVOLUTIONS is the number of revolutions in the image's header, REVOLUTION the one to list, counted from 0, TRACK and SIDE the drive's.
 // Each is a number from 0 to 255. With other arguments the program writes how it is called to standard error, and nothing else. Where the
-// input cannot be read to its end, or is longer than 4,194,304 bytes, it writes nothing.
+// input cannot be read to its end, or is longer than 4,194,304 bytes, it says so there, and lists nothing.
 use flux::Separated;
 use libc::STDERR_FILENO;
 use libc::STDIN_FILENO;
@@ -139,10 +139,44 @@ fn arguments() -> Choice {
     }
 }
 
-// Whether there is nothing more to read. A read that fails tells of no end.
-fn at_end() -> bool {
-    let mut more = [0u8; 1];
-    libc::read(STDIN_FILENO, &mut more) == 0
+// What was read: so many bytes, after which the input ended or not. One that failed or goes on has not ended.
+struct Input {
+    pub count: usize,
+    pub ended: bool,
+}
+
+// One read, of as much as there is and the room holds.
+fn read_once(room: &mut [u8]) -> Input
+    ensures { λ r. ⌜ r .count ≤ length (now (room .exit)) ⌝ }
+{
+    let got = libc::read(STDIN_FILENO, room);
+    Input {
+        count: io::count(got, room),
+        ended: got == 0,
+    }
+}
+
+// Reads the block. A read that fails is not tried again: after a connection that was reset, the next one would tell of an end.
+fn read_block(block: &mut [u8]) -> Input
+    ensures { λ r. ⌜ r .count ≤ length (now (block .exit)) ⌝ }
+{
+    let mut count: usize = 0;
+    while count < block.len() {
+        let more = read_once(&mut block[count..]);
+        if more.count == 0 {
+            return Input {
+                count,
+                ended: more.ended,
+            };
+        }
+        count += more.count;
+    }
+    let mut beyond = [0u8; 1];
+    let last = read_once(&mut beyond);
+    Input {
+        count,
+        ended: last.ended,
+    }
 }
 
 // What is to be written of an input of which these bytes were read, and which ended there or not.
@@ -170,9 +204,9 @@ fn list_input(choice: Choice, block: &mut [u8], out: &mut [u8]) -> usize
     ensures few { λ r. ⌜ r ≤ 65536 ⌝ }
     ensures listing { λ r. ⌜ ListedBlock (choice .revolutions) (choice .revolution) (choice .track) (choice .side) (now (block .exit)) (now (out .entry)) r (now (out .exit)) ⌝ }
 {
-    let length = io::read_full(STDIN_FILENO, block);
-    let ended = at_end();
-    list_read(choice, &block[..length], ended, out)
+    let input = read_block(block);
+    let count = input.count;
+    list_read(choice, &block[..count], input.ended, out)
 }
 
 // As list_input, in an array. `main` does not lend it as a slice itself: the length of an array so large is not computed in a proof.
@@ -195,5 +229,12 @@ fn main() {
     let mut block = [0u8; ROOM];
     let mut out = io::large_buffer();
     let count = list_input_in(choice, &mut block, &mut out);
+    if count == 0 {
+        io::write_all(
+            STDERR_FILENO,
+            b"scp_track: the block cannot be read to its end, or is longer than 4,194,304 bytes\n",
+        );
+        return;
+    }
     io::write_all(STDOUT_FILENO, &out[..count]);
 }

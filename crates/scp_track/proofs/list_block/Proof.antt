@@ -1,5 +1,4 @@
 -- `scp_track::list_block` meets its contract. Assumes nothing.
-use native.Mathlib.Omega.{arith}
 use Rattle.scp_track.proofs.Listed.{cells-written, refusal-written}
 use borrow.Author.Needs.{needs}
 use Rattle.scp_track.proofs.list_block.Statement.{statement}

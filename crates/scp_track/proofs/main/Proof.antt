@@ -27,19 +27,28 @@ slice-aggregate-list-input-in c = search needs
 list-input-in-requires : tie.Need-list-input-in-requires
 list-input-in-requires c κs = search needs
 
-array-share-prefix-out : tie.Need-array-share-prefix-out
-array-share-prefix-out c = search needs
-
 slice-aggregate-write-all-2 : tie.Need-slice-aggregate-write-all-2
-slice-aggregate-write-all-2 c =
-    let l = c .before .before .list-input-in in
-    sym (length-take-le _ _ (omega (arith, l .kept .1 .1 .0, l .ensures .0, c .before .before .before .before .before .large-buffer .ensures)))
+slice-aggregate-write-all-2 c = search needs
 
 write-all-requires-2 : tie.Need-write-all-requires-2
 write-all-requires-2 c κs = search needs
 
 returns-2 : tie.Need-returns-2
 returns-2 c = search needs
+
+array-share-prefix-out : tie.Need-array-share-prefix-out
+array-share-prefix-out c = search needs
+
+slice-aggregate-write-all-3 : tie.Need-slice-aggregate-write-all-3
+slice-aggregate-write-all-3 c =
+    let l = c .before .before .before .list-input-in in
+    sym (length-take-le _ _ (omega (arith, l .kept .1 .1 .0, l .ensures .0, c .before .before .before .before .before .before .large-buffer .ensures)))
+
+write-all-requires-3 : tie.Need-write-all-requires-3
+write-all-requires-3 c κs = search needs
+
+returns-3 : tie.Need-returns-3
+returns-3 c = search needs
 
 pub main-spec : {M : Type 1} → statement M
 main-spec =
@@ -52,7 +61,10 @@ main-spec =
     large-buffer-requires
     slice-aggregate-list-input-in
     list-input-in-requires
-    array-share-prefix-out
     slice-aggregate-write-all-2
     write-all-requires-2
-    returns-2)
+    returns-2
+    array-share-prefix-out
+    slice-aggregate-write-all-3
+    write-all-requires-3
+    returns-3)

@@ -1,0 +1,39 @@
+-- `scp_track::list_input` meets its contract. Assumes nothing but the contract of the system's `read`.
+use mathlib.Core.Path.{sym}
+use lib.Seq.{length-take-le}
+use borrow.Author.Needs.{needs}
+use Rattle.scp_track.proofs.list_input.Statement.{statement}
+use Rattle.scp_track.proofs.list_input.Tie as tie
+
+read-block-requires : tie.Need-read-block-requires
+read-block-requires c κs = search needs
+
+slice-reshare-prefix-list-read : tie.Need-slice-reshare-prefix-list-read
+slice-reshare-prefix-list-read c = search needs
+
+slice-aggregate-list-read : tie.Need-slice-aggregate-list-read
+slice-aggregate-list-read c = sym (length-take-le _ _ (c .before .before .before .read-block .ensures))
+
+list-read-requires : tie.Need-list-read-requires
+list-read-requires c κs = search needs
+
+same-length : tie.Need-same-length
+same-length c = search needs
+
+same-length-2 : tie.Need-same-length-2
+same-length-2 c = search needs
+
+returns : tie.Need-returns
+returns c = search needs
+
+pub list-input-spec : {M : Type 1} → statement M
+list-input-spec =
+    tie.close
+    (tie.spec
+    read-block-requires
+    slice-reshare-prefix-list-read
+    slice-aggregate-list-read
+    list-read-requires
+    same-length
+    same-length-2
+    returns)
