@@ -91,16 +91,16 @@ fn told_portion(taken: TakenPortion, state: &mut u32, value: &mut usize) -> u32
     ensures { λ r. ⌜ (r ≡ numberIn (givenAnswer (taken .given))) × (now (value .exit) ≡ valueIn (givenAnswer (taken .given))) × (now (state .exit) ≡ numberKept (givenAnswer (taken .given)) (now (state .entry)) (taken .next)) ⌝ }
 {
     let given = taken.given;
-    let next = taken.next;
+    *state = number_kept(given, *state, taken.next);
+    told_given(given, value)
+}
+
+fn number_kept(given: Given, number: u32, next: RevolutionReader) -> u32
+    ensures { λ r. ⌜ r ≡ numberKept (givenAnswer given) number next ⌝ }
+{
+    let advanced = next.number();
     match given {
-        Given::Timings(count) => {
-            *state = next.number();
-            *value = count;
-            0
-        }
-        Given::Refused(refusal) => {
-            *value = refusal.value();
-            refusal.number()
-        }
+        Given::Timings(_) => advanced,
+        Given::Refused(_) => number,
     }
 }

@@ -1,0 +1,22 @@
+-- `thikbromu::blocks::number_kept` meets its contract. Assumes nothing.
+use borrow.Author.Needs.{needs}
+use Rattle.thikbromu.proofs.blocks.number_kept.Statement.{statement}
+use Rattle.thikbromu.proofs.blocks.number_kept.Tie as tie
+
+number-requires : tie.Need-number-requires
+number-requires c κs = search needs
+
+enum-told : tie.Need-enum-told
+enum-told c = search needs
+
+enum-told-2 : tie.Need-enum-told-2
+enum-told-2 c = search needs
+
+returns : tie.Need-returns
+returns c = rw (c .enum-told .given .1) (c .before .before .number .ensures)
+
+returns-2 : tie.Need-returns-2
+returns-2 c = search needs
+
+pub number-kept-spec : {M : Type 1} → statement M
+number-kept-spec = tie.close (tie.spec number-requires enum-told enum-told-2 returns returns-2)
