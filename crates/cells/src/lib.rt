@@ -1,6 +1,7 @@
 // The cells of a track, packed eight to a byte, highest bit first; the track is circular.
+use basis::smaller;
 ghost use mathlib.Core.Path.{_≡_};
-ghost use Prim.Native.Nat.{ℕ, _<_, _≤_, _*_, _+_, _-_, _/_, _%_, _^_, min};
+ghost use Prim.Native.Nat.{ℕ, _<_, _≤_, _*_, _+_, _-_, _/_, _%_, _^_};
 ghost use mathlib.Core.Bool.{true, false, cond};
 ghost use lib.Dec.{eqb};
 ghost use lib.ListN.{length, getD};
@@ -234,11 +235,4 @@ fn place_after(from: usize, k: usize, n: usize) -> usize
     let at = from % n;
     let left = n - at;
     if k < left { at + k } else { (k - left) % n }
-}
-
-// The smaller of two numbers.
-fn smaller(a: usize, b: usize) -> usize
-    ensures { λ r. ⌜ (r ≡ min a b) × (r ≤ b) ⌝ }
-{
-    if a < b { a } else { b }
 }

@@ -18,7 +18,7 @@ use Rattle.refusals.specs.RefusedCalls.{Answer}
 use Rattle.refusals.specs.RefusedCalls.Answer.{gives, refused}
 use Rattle.refusals.specs.declared.Refusal.the-variants.{CellCount as CellsRefused, TooManyTimings, NoRoom, NotATrackFile as NoTrackFile}
 use Rattle.cells.specs.CellsAndBytes.{bytesFor}
-use Rattle.reader_numbers.specs.Portions.{Bytes}
+use Rattle.basis.specs.Bytes.{AreBytes}
 use Rattle.track_file.specs.Portions.{startOf, numberAfter, takenStep, takenAfter, afterPlaceCount, afterCellCount, afterPackedByte, afterFluxCount, afterTiming, inPlaceCount, inCellCount, inFluxCount, inTiming, readerAfterByte, readerAfter}
 use Rattle.track_file.specs.declared.Place.{Place}
 use Rattle.track_file.specs.declared.Number.{Number}
@@ -153,7 +153,7 @@ held-byte (AllTimings place taken) byte h b = tt
 held-byte NotATrackFile byte h b = tt
 held-byte (Stopped refusal) byte h b = tt
 
-pub held-after : (reader : Reader) (portion : List ℕ) → Held reader → Bytes portion → Held (readerAfter reader portion)
+pub held-after : (reader : Reader) (portion : List ℕ) → Held reader → AreBytes portion → Held (readerAfter reader portion)
 unfolding readerAfter
 held-after reader [] h b = h
 held-after reader (byte ∷ portion) h b = held-after (readerAfterByte reader byte) portion (held-byte reader byte h (b .0)) (b .1)

@@ -1,7 +1,7 @@
 -- What follows from the definitions: the numbers of a reader give that reader, and numbers that are no reader's give none. Assumes nothing.
 use Prim.Native.Nat.{ℕ, _+_, _%_, _≤_, _<_}
 use mathlib.Core.Path.{_≡_, refl, sym, _∙_, ap, subst}
-use mathlib.Core.Bool.{Bool, true, false, cond, _&&_}
+use mathlib.Core.Bool.{Bool, true, false, cond}
 use mathlib.Core.List.{List, [], _∷_, _++_}
 use native.Mathlib.Nat.{mod-eq-of-lt}
 use native.Mathlib.Omega.{arith}
@@ -23,6 +23,7 @@ use Rattle.track_file.specs.declared.TakenTimings.the-variants.{InRange, OutOfR
 use Rattle.track_file.specs.declared.Reader.{Reader}
 use Rattle.track_file.specs.declared.Reader.the-variants.{PlaceCount, Track, Side, CellCount, PackedCells, FluxCount, Timings, AllCells, AllTimings, NotATrackFile, Stopped}
 use Rattle.reader_numbers.specs.Numbers.{bytesHeld, firstByte, secondByte, thirdByte, lowered, takenKind, takenCount, cellsTaken, takenResidual, row, stateOf, numberFrom, takenFrom, lowRefusal, highRefusal, laterRefusal, refusalFrom, earlyFrom, lateFrom, readerFrom, readerAsGiven, atFront, readerOf, stateAfter}
+use Rattle.basis.proofs.Bools.{and-left, and-right}
 use Rattle.reader_numbers.specs.Portions.{AllBytes, stateAfterAll, bufferAfterAll, stateThrough, bufferThrough}
 use Rattle.reader_numbers.proofs.Held.{HeldPlace, HeldNumber, HeldTaken, Held, held-start, held-after}
 use Rattle.reader_numbers.proofs.Residuals.{raised-small, lowered-raised}
@@ -85,15 +86,6 @@ front-self : (numbers rest : List ℕ) → atFront numbers (numbers ++ rest) ≡
 unfolding atFront
 front-self [] rest = refl
 front-self (x ∷ numbers) rest = rw (eq-eqb x x refl, front-self numbers rest)
-
-and-left : (a b : Bool) → a && b ≡ true → a ≡ true
-and-left true b e = refl
-and-left false b e = e
-
-and-right : (a b : Bool) → a && b ≡ true → b ≡ true
-and-right true b e = e
-and-right false true e = refl
-and-right false false e = e
 
 front-is : (numbers list : List ℕ) → atFront numbers list ≡ true → list ≡ numbers ++ drop (length numbers) list
 unfolding atFront

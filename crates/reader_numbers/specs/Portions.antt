@@ -1,20 +1,17 @@
 -- A track file read by calls that keep the reader as numbers: `start` on lent numbers and a cell buffer, then `feed` on each portion in
 -- turn, each call as it promises. However the file is cut, the end gives what is said of the whole file (`whole-file`, in proofs/Laws).
 -- Assumes nothing.
-use Prim.Native.Nat.{ℕ, _<_}
+use Prim.Native.Nat.{ℕ}
 use mathlib.Core.List.{List, [], _∷_}
 use lib.ListN.{length}
+use Rattle.basis.specs.Bytes.{AreBytes}
 use Rattle.reader_numbers.specs.Numbers.{readerOf, stateAfter}
 use Rattle.track_file.specs.Portions.{startOf, startCells, readerAfter, cellsAfter}
 
--- what C and Rust can hand over as a portion: bytes
-abbrev pub Bytes : List ℕ → Type 0
-Bytes [] = Unit
-Bytes (byte ∷ bytes) = (byte < 256) × Bytes bytes
-
+-- what C and Rust can hand over: portions of bytes
 abbrev pub AllBytes : List (List ℕ) → Type 0
 AllBytes [] = Unit
-AllBytes (portion ∷ portions) = Bytes portion × AllBytes portions
+AllBytes (portion ∷ portions) = AreBytes portion × AllBytes portions
 
 -- the numbers after `feed` on each portion, and the cell buffer
 abbrev pub stateAfterAll : List ℕ → List (List ℕ) → List ℕ

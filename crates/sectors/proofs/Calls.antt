@@ -7,6 +7,7 @@ use native.Mathlib.Omega.{arith}
 use borrow.Author.Tests.{lt-ltb, le-ltb, le-leb, lt-leb, eq-eqb, ne-eqb, ltb-false}
 use lib.Dec.{ltb, leb}
 use lib.ListN.{length}
+use Rattle.basis.proofs.Bools.{or-right}
 use Rattle.cells.specs.CellsAndBytes.{cell, bytesFor}
 use Rattle.refusals.specs.RefusedCalls.{Answer, bufferAfter}
 use Rattle.refusals.specs.RefusedCalls.Answer.{gives, refused}
@@ -14,10 +15,6 @@ use Rattle.sectors.specs.Sectors.{noSector, sectorsOf, kept, dataBytes}
 use Rattle.sectors.specs.Calls.{trackJudged, countJudged, indexJudged, sectorsAnswer, sectorsBeside, indexAnswer, recordBeside, sectorOf, DataRead, dataJudged, dataAnswer, dataAfter}
 use Rattle.sectors.specs.declared.Sector.{Sector}
 use Rattle.sectors.specs.declared.Sectors.{Sectors}
-
-or-right : (a b : Bool) → (a || b) ≡ false → b ≡ false
-or-right true b e = let z : _≡_ {A = ℕ} 0 1 = cc in absurd (omega arith)
-or-right false b e = e
 
 pub most-cells : (n : ℕ) → (ltb n 20000 || ltb 131072 n) ≡ false → n ≤ 131072
 most-cells n e = ltb-false 131072 n (or-right (ltb n 20000) (ltb 131072 n) e)

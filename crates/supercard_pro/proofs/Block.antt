@@ -1,36 +1,26 @@
 -- The whole call on a block: what its branches answer, and that a portion with all bytes of a revolution is the whole call. Assumes nothing.
-use Prim.Native.Nat.{ℕ, zero, suc, _+_, _-_, _*_, _≤_, _<_}
-use mathlib.Core.Path.{_≡_, refl, sym, _∙_, ap, subst}
+use Prim.Native.Nat.{ℕ, _+_, _-_, _*_, _≤_, _<_}
+use mathlib.Core.Path.{_≡_, refl, sym, _∙_, ap}
 use mathlib.Core.Bool.{Bool, true, false, cond, _||_}
 use mathlib.Core.List.{List, [], _∷_}
 use native.Mathlib.Omega.{arith}
 use native.Mathlib.Nat.{zero-add}
-use borrow.Author.Tests.{lt-ltb, le-ltb, ltb-false, ne-eqb, eqb-false}
+use borrow.Author.Tests.{lt-ltb, le-ltb, ltb-false, ne-eqb}
 use lib.Dec.{eqb, ltb}
 use lib.ListN.{length, take, drop, length-drop}
 use lib.Seq.{length-take-le}
 use Rattle.basis.specs.Search.{least}
+use Rattle.basis.proofs.Bools.{or-left, or-right}
 use Rattle.basis.proofs.Search.{least-before}
 use Rattle.flux.specs.Separation.{firstOut, timingsJudged}
 use Rattle.flux.proofs.Judging.{no-timings}
 use Rattle.refusals.specs.RefusedCalls.{Answer, bufferAfter}
 use Rattle.refusals.specs.RefusedCalls.Answer.{gives, refused}
 use Rattle.supercard_pro.specs.TrackBlock.{valueCount, valueOffset, tableEnd, valueBytes, valuesOf, timingsFrom, timingsIn, revolutionTimings, endsInZero, otherLetters, tableShort, badRevolution, someBad, notATrackBlock, blockJudged, roomJudged, blockAnswer, blockTimings}
-use Rattle.supercard_pro.specs.Portions.{timingsEnding, freshReader, isLeftByCalls, usableReader, portionJudged, portionTimings, portionAnswer, portionList}
-use Rattle.supercard_pro.specs.PrivateContracts.{between}
+use Rattle.supercard_pro.specs.Portions.{freshReader, isLeftByCalls, usableReader, portionJudged, portionTimings, portionAnswer, portionList}
 use Rattle.supercard_pro.specs.declared.RevolutionReader.{RevolutionReader}
-use Rattle.supercard_pro.proofs.Judging.{Accepted, accepted}
+use Rattle.supercard_pro.proofs.Judging.{accepted}
 use Rattle.supercard_pro.proofs.Timings.{Alike, alike-length, alike-out, alike-same, from-start}
-
--- either of three
-or-left : (a b : Bool) → (a || b) ≡ false → a ≡ false
-or-left true b e = e
-or-left false b e = refl
-
-or-right : (a b : Bool) → (a || b) ≡ false → b ≡ false
-or-right true true e = e
-or-right true false e = refl
-or-right false b e = e
 
 -- what holds of each revolution of a block that is not refused with 16
 pub record Sound (block : List ℕ) (revolutions k : ℕ) : Type 0 where

@@ -1,8 +1,8 @@
 -- From a block to cells: what the two calls give together. Assumes nothing.
 use Prim.Native.Nat.{ℕ, _≤_}
-use mathlib.Core.Path.{_≡_, refl, sym, _∙_, ap, subst}
+use mathlib.Core.Path.{_≡_, refl, sym, _∙_, ap}
 use mathlib.Core.Bool.{Bool, true, false, cond}
-use mathlib.Core.List.{List, _++_}
+use mathlib.Core.List.{List}
 use native.Mathlib.Omega.{arith}
 use borrow.Author.Tests.{le-ltb, ltb-false, eqb-false}
 use lib.Dec.{eqb, ltb}
@@ -11,7 +11,6 @@ use lib.Seq.{take-at}
 use Rattle.basis.specs.Lists.{writtenOver}
 use Rattle.cells.specs.CellsAndBytes.{packed}
 use Rattle.flux.specs.Separation.{cellsOf, firstOut, timingsJudged, cellsJudged, separation, separatedCells}
-use Rattle.flux.specs.Demand3.{Demand3}
 use Rattle.flux.proofs.Promise.{promised}
 use Rattle.refusals.specs.RefusedCalls.{Answer, bufferAfter}
 use Rattle.refusals.specs.RefusedCalls.Answer.{gives, refused}

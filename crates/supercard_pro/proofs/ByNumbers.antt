@@ -2,24 +2,24 @@
 -- numbers are calls. Assumes nothing.
 use Prim.Native.Nat.{ℕ, _+_, _-_, _*_, _/_, _%_, _≤_, _<_}
 use mathlib.Core.Path.{_≡_, refl, sym, _∙_, ap, subst}
-use mathlib.Core.Bool.{Bool, true, false, cond}
+use mathlib.Core.Bool.{true}
 use mathlib.Core.List.{List, [], _∷_, _++_}
 use native.Mathlib.Omega.{arith}
 use native.Mathlib.Decide.{ℕ-discrete}
 use borrow.Author.Tests.{eq-eqb, ne-eqb}
-use lib.Dec.{eqb}
 use Rattle.refusals.specs.RefusedCalls.{Answer}
-use Rattle.refusals.specs.RefusedCalls.Answer.{gives, refused}
-use Rattle.supercard_pro.specs.Portions.{unfinishedAfterValue, unfinishedAfterByte, unfinishedAfter, freshReader, isLeftByCalls, usableReader, portionTimings, portionAnswer, readerLeft, portionReader, Calls, AllTimings}
+use Rattle.refusals.specs.RefusedCalls.Answer.{gives}
+use Rattle.supercard_pro.specs.Portions.{unfinishedAfterValue, unfinishedAfterByte, unfinishedAfter, isLeftByCalls, usableReader, portionTimings, portionAnswer, readerLeft, portionReader, Calls, AllTimings}
 use Rattle.supercard_pro.specs.Portions.Calls.{none as no-call, more as one-more}
-use Rattle.supercard_pro.specs.Numbers.{heldNumber, heldFrom, numberOfParts, numberOfReader, readerOfNumber, numberKept, PortionBytes, NumberCalls, AllByNumber}
+use Rattle.basis.specs.Bytes.{AreBytes}
+use Rattle.supercard_pro.specs.Numbers.{heldNumber, heldFrom, numberOfParts, numberOfReader, readerOfNumber, NumberCalls, AllByNumber}
 use Rattle.supercard_pro.specs.Numbers.NumberCalls.{none, more}
 use Rattle.supercard_pro.specs.declared.Held.{Held}
 use Rattle.supercard_pro.specs.declared.Held.the-variants.{Nothing, High}
 use Rattle.supercard_pro.specs.declared.RevolutionReader.{RevolutionReader}
 use Rattle.supercard_pro.specs.declared.Unfinished.{Unfinished}
 use Rattle.supercard_pro.proofs.Judging.{usable-few, is-left}
-use Rattle.supercard_pro.proofs.History.{as-it-is, Behind, behind-calls}
+use Rattle.supercard_pro.proofs.History.{as-it-is, behind-calls}
 
 -- each branch of the code
 pub none-held : (n : ℕ) → n ≡ 0 → Nothing ≡ heldFrom n
@@ -78,7 +78,7 @@ read-back reader h = back (usableReader reader) h (usable-few reader .0)
         rw (p, q, m, d, b .0)
 
 -- bytes leave a byte held, or nothing
-held-after : (u : Unfinished) (bytes : List ℕ) → HeldByte (u .held) → PortionBytes bytes → HeldByte (unfinishedAfter u bytes .held)
+held-after : (u : Unfinished) (bytes : List ℕ) → HeldByte (u .held) → AreBytes bytes → HeldByte (unfinishedAfter u bytes .held)
 unfolding unfinishedAfter unfinishedAfterValue
 held-after u [] h b = h
 held-after u (byte ∷ bytes) h b = held-after (unfinishedAfterByte (u .held) (u .zeros) byte) bytes (one (u .held)) (b .1)
@@ -95,7 +95,7 @@ left-as-is {reader} calls =
 
 -- calls that keep the reader as a number are calls
 module _ (n : ℕ) (bytes given portion : List ℕ) (room count : ℕ) (calls : Calls (readerOfNumber n) bytes given) (byte : HeldByte (readerOfNumber n .unfinished .held))
-    (portion-is : PortionBytes portion) (answer : portionAnswer (readerOfNumber n) portion room ≡ gives count) where
+    (portion-is : AreBytes portion) (answer : portionAnswer (readerOfNumber n) portion room ≡ gives count) where
   abbrev next : RevolutionReader
   next = portionReader (readerOfNumber n) portion room
 

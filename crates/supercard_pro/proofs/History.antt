@@ -2,10 +2,9 @@
 -- Assumes nothing.
 use Prim.Native.Nat.{ℕ, _+_, _≤_}
 use mathlib.Core.Path.{_≡_, refl, sym, _∙_, ap, subst}
-use mathlib.Core.Bool.{Bool, true, false}
-use mathlib.Core.List.{List, [], _∷_, _++_}
+use mathlib.Core.Bool.{true}
+use mathlib.Core.List.{List, _++_}
 use native.Mathlib.Omega.{arith}
-use borrow.Author.Tests.{leb-true}
 use lib.ListN.{length, take, drop, length-append}
 use lib.Seq.{take-at}
 use Rattle.basis.specs.Lists.{writtenOver}
@@ -13,7 +12,7 @@ use Rattle.flux.specs.Separation.{firstOut}
 use Rattle.refusals.specs.RefusedCalls.{Answer, bufferAfter}
 use Rattle.refusals.specs.RefusedCalls.Answer.{gives, refused}
 use Rattle.supercard_pro.specs.TrackBlock.{timingsIn}
-use Rattle.supercard_pro.specs.Portions.{unfinishedAfter, timingsEnding, freshReader, isLeftByCalls, usableReader, portionJudged, portionTimings, portionAnswer, readerLeft, portionReader, portionList, Calls, AllTimings}
+use Rattle.supercard_pro.specs.Portions.{unfinishedAfter, timingsEnding, isLeftByCalls, usableReader, portionTimings, portionAnswer, readerLeft, portionReader, portionList, Calls, AllTimings}
 use Rattle.supercard_pro.specs.Portions.Calls.{none, more}
 use Rattle.supercard_pro.specs.PrivateContracts.{between}
 use Rattle.supercard_pro.specs.declared.RevolutionReader.{RevolutionReader}

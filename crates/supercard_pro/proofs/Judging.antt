@@ -1,25 +1,20 @@
 -- The refusals of a portion and of a block, each where it holds, and the answer where none does. Assumes nothing.
 use Prim.Native.Nat.{ℕ, _+_, _≤_, _<_}
-use mathlib.Core.Path.{_≡_, refl, sym, _∙_, ap}
+use mathlib.Core.Path.{_≡_, refl}
 use mathlib.Core.Bool.{Bool, true, false, cond, _&&_}
 use mathlib.Core.List.{List}
 use native.Mathlib.Omega.{arith}
 use borrow.Author.Tests.{lt-ltb, le-ltb, le-leb, lt-leb, ltb-false, leb-true}
 use lib.Dec.{leb, ltb}
 use lib.ListN.{length}
+use Rattle.basis.proofs.Bools.{and-false}
 use Rattle.flux.specs.Separation.{firstOut}
 use Rattle.flux.proofs.FirstOut.{out-within}
-use Rattle.refusals.specs.RefusedCalls.{Answer}
 use Rattle.refusals.specs.RefusedCalls.Answer.{gives, refused}
-use Rattle.supercard_pro.specs.TrackBlock.{roomJudged}
 use Rattle.supercard_pro.specs.Portions.{freshReader, isLeftByCalls, usableReader, portionJudged}
 use Rattle.supercard_pro.specs.declared.RevolutionReader.{RevolutionReader}
 
 -- which readers are used as they are
-and-false : (b : Bool) → (b && false) ≡ false
-and-false true = refl
-and-false false = refl
-
 module _ (reader : RevolutionReader) where
   pub many-zeros : 7 < reader .unfinished .zeros → freshReader ≡ usableReader reader
   unfolding usableReader isLeftByCalls

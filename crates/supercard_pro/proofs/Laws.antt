@@ -6,13 +6,15 @@
 --   counted          a reader that calls left counts the timings that they gave
 --   as-whole-call    "where nothing is refused, the timings in all are the same" as the whole call's, on a list with room for them
 --   whole-in-one     where the whole call is accepted, so is one portion with all bytes, with the same answer and the same list
+--   in-any-portions  where the whole call is accepted, so is each portion of any cut, given room for its own timings
 --
 -- Assumes nothing.
 use Prim.Native.Nat.{ℕ, zero, suc, _+_, _≤_, _<_, min}
 use mathlib.Core.Path.{_≡_, refl, sym, _∙_, ap, subst}
 use mathlib.Core.Bool.{Bool, true, false, cond, _&&_}
-use mathlib.Core.List.{List, [], _∷_}
-use native.Mathlib.Nat.{add-zero, min-eq-left}
+use mathlib.Core.List.{List, [], _∷_, _++_}
+use native.Mathlib.Decide.{decLe}
+use native.Mathlib.Nat.{add-zero, lt-of-not-le, min-eq-left}
 use native.Mathlib.Numerals.{add-one}
 use native.Mathlib.Omega.{arith}
 use borrow.Author.Tests.{leb-true, lt-ltb, le-ltb}
@@ -25,7 +27,7 @@ use Rattle.flux.proofs.Judging.{no-timings, timings-accepted}
 use Rattle.refusals.specs.RefusedCalls.{Answer, bufferAfter}
 use Rattle.refusals.specs.RefusedCalls.Answer.{gives, refused}
 use Rattle.supercard_pro.specs.TrackBlock.{valueBytes, revolutionTimings, notATrackBlock, blockJudged, roomJudged, blockAnswer, blockTimings}
-use Rattle.supercard_pro.specs.Portions.{unfinishedAfterValue, timingsOfValue, unfinishedAfter, timingsEnding, freshReader, isLeftByCalls, usableReader, portionTimings, portionAnswer, readerLeft, portionReader, portionList, Calls}
+use Rattle.supercard_pro.specs.Portions.{unfinishedAfterValue, timingsOfValue, unfinishedAfter, timingsEnding, freshReader, isLeftByCalls, usableReader, portionJudged, portionTimings, portionAnswer, readerLeft, portionReader, portionList, Calls}
 use Rattle.supercard_pro.specs.Portions.Calls.{none, more}
 use Rattle.supercard_pro.specs.PrivateContracts.{between}
 use Rattle.supercard_pro.specs.declared.Held.{Held}
@@ -34,8 +36,9 @@ use Rattle.supercard_pro.specs.declared.RevolutionReader.{RevolutionRead
 use Rattle.supercard_pro.specs.declared.Unfinished.{Unfinished}
 use Rattle.supercard_pro.proofs.Block.{whole-answer, whole-list}
 use Rattle.supercard_pro.proofs.History.{behind-calls}
+use Rattle.supercard_pro.proofs.Passing.{out-all, out-some}
 use Rattle.supercard_pro.proofs.Judging.{is-left, used-as-is, usable-few, all-given, accepted}
-use Rattle.supercard_pro.proofs.Timings.{alike-same, from-start, zeros-stay-few}
+use Rattle.supercard_pro.proofs.Timings.{ending-append, alike-same, from-start, zeros-stay-few}
 
 -- an accepted portion leaves few zeros and few timings, whatever reader came
 module _ (reader : RevolutionReader) (portion : List ℕ) (room count : ℕ) (answer : portionAnswer reader portion room ≡ gives count) where
@@ -171,6 +174,11 @@ module _ (block : List ℕ) (revolutions k : ℕ) where
       go false true e = e
       go false false e = cc
 
+  -- one portion from a fresh reader on is judged by the timings that end in it alone
+  one-portion : (bytes : List ℕ) (room : ℕ) → portionAnswer freshReader bytes room ≡ portionJudged 0 (timingsEnding (between 0) bytes) room
+  unfolding usableReader isLeftByCalls
+  one-portion bytes room = refl
+
   pub whole-in-one : (list : List ℕ) (count : ℕ) → blockAnswer block revolutions k (length list) ≡ gives count → InOne block revolutions k list count
   whole-in-one list count e =
       let ts = revolutionTimings block k in
@@ -182,3 +190,28 @@ module _ (block : List ℕ) (revolutions k : ℕ) where
         answer = same;
         written = whole-list (valueBytes block k) list ∙ ap (λ (a : Answer ℕ). bufferAfter a ts list) (same ∙ sym e);
       }
+
+  pub in-any-portions : (list : List ℕ) (count : ℕ) → blockAnswer block revolutions k (length list) ≡ gives count
+      → {reader : RevolutionReader} {bytes given : List ℕ} → Calls reader bytes given → (portion rest : List ℕ) → bytes ++ (portion ++ rest) ≡ valueBytes block k
+      → (room : ℕ) → length (portionTimings reader portion) ≤ room → portionAnswer reader portion room ≡ gives (length (portionTimings reader portion))
+  in-any-portions list count e {reader} {bytes} {given} calls portion rest cut room enough =
+      let b = behind-calls calls in
+      let ts = portionTimings reader portion in
+      let us = timingsEnding (unfinishedAfter (unfinishedAfter (between 0) bytes) portion) rest in
+      let used = used-as-is reader (b .few-zeros) (b .few-timings) in
+      let whole = accepted 0 (timingsEnding (between 0) (valueBytes block k)) (length list) count (sym (one-portion (valueBytes block k) (length list)) ∙ whole-in-one list count e .answer) in
+      let here : timingsEnding (unfinishedAfter (between 0) bytes) portion ≡ ts
+      = ap (λ (u : Unfinished). timingsEnding u portion) (sym (b .unfinished-is)) ∙ ap (λ (r : RevolutionReader). timingsEnding (r .unfinished) portion) used in
+      let all : timingsEnding (between 0) (valueBytes block k) ≡ given ++ (ts ++ us)
+      = ap (timingsEnding (between 0)) (sym cut) ∙ ending-append (between 0) bytes (portion ++ rest)
+      ∙ rw (← b .given-is, ending-append (unfinishedAfter (between 0) bytes) portion rest, here) in
+      let long : length (timingsEnding (between 0) (valueBytes block k)) ≡ length given + (length ts + length us)
+      = ap length all ∙ length-append given (ts ++ us) ∙ ap (λ (n : ℕ). length given + n) (length-append ts us) in
+      let out : firstOut (timingsEnding (between 0) (valueBytes block k)) ≡ length given + firstOut (ts ++ us) = ap firstOut all ∙ out-all given (ts ++ us) (b .all-in) in
+      let all-in : length ts ≤ firstOut ts = go ts us (omega (arith, whole .all-in, long, out)) (decLe (length ts) (firstOut ts)) in
+      let before : usableReader reader .timings ≡ length given = ap (λ (r : RevolutionReader). r .timings) (sym used) ∙ counted calls in
+      sym (all-given (usableReader reader .timings) ts room (omega (arith, before, whole .few, long)) all-in enough)
+    where
+      go : (xs ys : List ℕ) → firstOut (xs ++ ys) ≡ length xs + length ys → Dec (length xs ≤ firstOut xs) → length xs ≤ firstOut xs
+      go xs ys o (yes h) = h
+      go xs ys o (no h) = absurd (omega (arith, o, lt-of-not-le h, out-some xs ys (lt-of-not-le h)))

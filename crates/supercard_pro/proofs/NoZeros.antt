@@ -1,46 +1,35 @@
 -- Bytes without a value of 0: each value ends a timing, and it is in range. Assumes nothing.
-use Prim.Native.Nat.{ℕ, zero, suc, _+_, _-_, _*_, _/_, _≤_, _<_}
-use mathlib.Core.Path.{_≡_, refl, sym, _∙_, ap, subst}
-use mathlib.Core.Bool.{Bool, true, false, cond, not, _&&_}
-use mathlib.Core.List.{List, [], _∷_, _++_}
+use Prim.Native.Nat.{ℕ, zero, suc, _+_, _-_, _*_, _/_, _≤_, _<_, min}
+use mathlib.Core.Path.{_≡_, refl, sym, _∙_, ap}
+use mathlib.Core.Bool.{true, false, cond, not, _&&_}
+use mathlib.Core.List.{List, [], _∷_}
+use native.Mathlib.Decide.{decLe}
+use native.Mathlib.Nat.{add-zero, lt-of-not-le, min-eq-left, min-eq-right}
 use native.Mathlib.Omega.{arith}
-use borrow.Author.Tests.{not-true, eqb-false, le-leb}
+use borrow.Author.Tests.{not-true, eqb-false, ne-eqb, le-leb}
 use lib.Dec.{eqb}
-use lib.ListN.{length, getD, drop, length-drop}
-use lib.Seq.{drop-cons}
+use lib.ListN.{length, set, getD, drop, take, length-set, length-drop}
+use lib.Seq.{sets, set-out, take-all}
+use Rattle.basis.proofs.Bools.{and-left, and-right}
 use Rattle.flux.specs.Rule.{inRange}
 use Rattle.flux.specs.Separation.{firstOut}
 use Rattle.supercard_pro.specs.Portions.{unfinishedAfterValue, timingsOfValue, unfinishedAfter, timingsEnding}
-use Rattle.supercard_pro.specs.PrivateContracts.{between, LookedOver, noZeros}
-use Rattle.supercard_pro.specs.declared.Held.{Held}
-use Rattle.supercard_pro.specs.declared.Held.the-variants.{Nothing}
+use Rattle.supercard_pro.specs.PrivateContracts.{firstOutAfter, between, PassedOver, noZeros}
 use Rattle.supercard_pro.specs.declared.Unfinished.{Unfinished}
-use Rattle.supercard_pro.proofs.Passing.{other-ends, other-leaves}
+use Rattle.supercard_pro.proofs.Passing.{other-ends, other-leaves, two-more}
 
-and-left : (a b : Bool) → (a && b) ≡ true → a ≡ true
-and-left true b e = refl
-and-left false b e = e
-
-and-right : (a b : Bool) → (a && b) ≡ true → b ≡ true
-and-right true b e = e
-and-right false true e = refl
-and-right false false e = e
-
--- the loop: at byte i, where `all` tells of the values before
-module _ (portion : List ℕ) (i : ℕ) (h : 2 ≤ length portion - i) where
-  two-more : drop i portion ≡ getD portion i 0 ∷ getD portion (i + 1) 0 ∷ drop (i + 2) portion
-  two-more =
-      let e : i + 2 ≡ suc (suc i) = omega arith in
-      let f : i + 1 ≡ suc i = omega arith in
-      rw (e, f) (drop-cons portion i 0 (omega arith) ∙ ap (λ (x : List ℕ). getD portion i 0 ∷ x) (drop-cons portion (suc i) 0 (omega arith)))
-
-  pub one-more-value : (all : Bool) → (all ≡ true → noZeros (drop i portion) ≡ noZeros portion) → {value : ℕ}
-      → value ≡ 256 * getD portion i 0 + getD portion (i + 1) 0 → (all && not (eqb value 0)) ≡ true → noZeros (drop (i + 2) portion) ≡ noZeros portion
+-- the look for a 0: at byte i, where none stands before
+module _ (bytes : List ℕ) (i : ℕ) (h : 2 ≤ length bytes - i) (before : noZeros (drop i bytes) ≡ noZeros bytes) where
+  pub other-value : (256 * getD bytes i 0 + getD bytes (i + 1) 0 ≡ 0 → ⊥) → noZeros (drop (i + 2) bytes) ≡ noZeros bytes
   unfolding noZeros
-  one-more-value all before {value} is e =
-      let n : not (eqb (256 * getD portion i 0 + getD portion (i + 1) 0) 0) ≡ true = ap (λ (v : ℕ). not (eqb v 0)) (sym is) ∙ and-right all (not (eqb value 0)) e in
-      let s : noZeros (drop i portion) ≡ noZeros (drop (i + 2) portion) = rw (two-more, n) in
-      sym s ∙ before (and-left all (not (eqb value 0)) e)
+  other-value some =
+      let n : eqb (256 * getD bytes i 0 + getD bytes (i + 1) 0) 0 ≡ false = ne-eqb (256 * getD bytes i 0 + getD bytes (i + 1) 0) 0 some in
+      let s : noZeros (drop i bytes) ≡ noZeros (drop (i + 2) bytes) = rw (two-more bytes i h, n) in
+      sym s ∙ before
+
+  pub zero-value : getD bytes (i + 1) 0 ≡ 0 → getD bytes i 0 ≡ 0 → false ≡ noZeros bytes
+  unfolding noZeros
+  zero-value low high = let s : false ≡ noZeros (drop i bytes) = rw (two-more bytes i h, high, low) in s ∙ before
 
 pub no-value-left : (portion : List ℕ) (i : ℕ) → length portion - i < 2 → i ≤ length portion → noZeros (drop i portion) ≡ true
 unfolding noZeros
@@ -95,15 +84,77 @@ all-end (suc k) (high ∷ low ∷ bytes) a b small e =
       all-in = ap firstOut t ∙ one-more-in (25 * (65536 * 0 + v)) (timingsEnding (between 0) bytes) (small-in-range v some (omega arith)) ∙ ap suc (rest .all-in);
     }
 
--- so a look finds as many timings as there are values
-pub looked-at-once : (portion : List ℕ) {unfinished : Unfinished} → unfinished ≡ between 0 → ((i : ℕ) → getD portion i 0 < 256) → noZeros portion ≡ true
-    → {next : Unfinished} → next ≡ unfinishedAfter (between 0) (drop (2 * (length portion / 2)) portion)
-    → LookedOver unfinished portion next (length portion / 2) (length portion / 2)
-looked-at-once portion {unfinished} is small e {next} n =
-    let a = all-end (length portion / 2) portion (omega arith) (omega arith) small e in
-    subst (λ (u : Unfinished). LookedOver u portion next (length portion / 2) (length portion / 2)) (sym is)
-    (record { unfinished-is = n ∙ a .leaves; count-is = sym (a .many); out-is = sym (a .all-in) })
+-- so such values are passed over at once, after `count` timings of which `out` is the first out of range
+module _ (count out : ℕ) (bytes list : List ℕ) (small : (i : ℕ) → getD bytes i 0 < 256) (none : noZeros bytes ≡ true) where
+  pub passed-at-once : {next : Unfinished} {first : ℕ} {after : List ℕ} → next ≡ unfinishedAfter (between 0) (drop (2 * (length bytes / 2)) bytes)
+      → first ≡ cond (eqb out count) (count + length bytes / 2) out → after ≡ sets list count (timingsEnding (between 0) bytes)
+      → PassedOver (between 0) count out bytes list next (count + length bytes / 2) first after
+  unfolding firstOutAfter
+  passed-at-once n f l =
+      let a = all-end (length bytes / 2) bytes (omega arith) (omega arith) small none in
+      record { unfinished-is = n ∙ a .leaves; count-is = omega (arith, a .many); out-is = rw (a .all-in) f; list-is = l }
 
--- what nothing before the next value means
-pub nothing-is : (u : Unfinished) → u .zeros ≡ 0 → u .held ≡ Nothing → u ≡ between 0
-nothing-is u z h = ap (λ (n : ℕ). record { held = u .held; zeros = n }) z ∙ ap (λ (x : Held). record { held = x; zeros = 0 }) h
+-- what is passed over so is the rest of a portion, from byte `from` on
+pub rest-is : (portion : List ℕ) (from : ℕ) → take (length portion - from) (drop from portion) ≡ drop from portion
+rest-is portion from = take-all (length portion - from) (drop from portion) (omega (arith, length-drop from portion))
+
+pub passed-rest : {zeros count out : ℕ} (portion : List ℕ) (from : ℕ) {list : List ℕ} → zeros ≡ 0 → {next : Unfinished} {total first : ℕ} {after : List ℕ}
+    → PassedOver (between 0) count out (take (length portion - from) (drop from portion)) list next total first after
+    → PassedOver (between zeros) count out (drop from portion) list next total first after
+passed-rest portion from z p = rw z (rw (← rest-is portion from) p)
+
+-- timings stored past the end of a list
+pub sets-past : (ts list : List ℕ) (at : ℕ) → length list ≤ at → sets list at ts ≡ list
+sets-past [] list at h = refl
+sets-past (t ∷ ts) list at h = rw (set-out list at t h) (sets-past ts list (suc at) (omega arith))
+
+-- storing the timings of such values from a place of the list on: after i of them
+pub record Stored (values list₀ : List ℕ) (at i : ℕ) (list : List ℕ) : Type 0 where
+  pub within : 2 * i ≤ length values
+  pub long : length list ≡ length list₀
+  pub none : noZeros (drop (2 * i) values) ≡ true
+  pub same : sets list (at + i) (timingsEnding (between 0) (drop (2 * i) values)) ≡ sets list₀ at (timingsEnding (between 0) values)
+
+pub none-stored : (values list : List ℕ) (at : ℕ) → noZeros values ≡ true → Stored values list at 0 list
+none-stored values list at e = record { within = omega arith; long = refl; none = e; same = rw (add-zero at) }
+
+pub one-stored : {values list₀ : List ℕ} {at i : ℕ} {list : List ℕ} → Stored values list₀ at i list → 2 ≤ length values - 2 * i → {value : ℕ}
+    → value ≡ 256 * getD values (2 * i) 0 + getD values (2 * i + 1) 0 → Stored values list₀ at (i + 1) (set list (at + i) (25 * value))
+unfolding noZeros
+one-stored {values} {list₀} {at} {i} {list} s h {value} is =
+    let v = 256 * getD values (2 * i) 0 + getD values (2 * i + 1) 0 in
+    let rest = drop (2 * i + 2) values in
+    let d = two-more values (2 * i) h in
+    let e : (not (eqb v 0) && noZeros rest) ≡ true = ap noZeros (sym d) ∙ s .none in
+    let some : v ≡ 0 → ⊥ = eqb-false v 0 (not-true (eqb v 0) (and-left (not (eqb v 0)) (noZeros rest) e)) in
+    let t : timingsEnding (between 0) (drop (2 * i) values) ≡ 25 * (65536 * 0 + v) ∷ timingsEnding (between 0) rest
+    = ap (timingsEnding (between 0)) d ∙ two-ending (getD values (2 * i) 0) (getD values (2 * i + 1) 0) rest (other-ends 0 v some) (other-leaves 0 v some) in
+    let w : 25 * value ≡ 25 * (65536 * 0 + v) = omega arith in
+    let j : 2 * (i + 1) ≡ 2 * i + 2 = omega arith in
+    let k : at + (i + 1) ≡ suc (at + i) = omega arith in
+    record {
+      within = omega arith;
+      long = length-set list (at + i) (25 * value) ∙ s .long;
+      none = rw j (and-right (not (eqb v 0)) (noZeros rest) e);
+      same = rw (j, k, w) (sym (ap (sets list (at + i)) t) ∙ s .same);
+    }
+
+-- the end: no value is left, or no place of the list
+short-ends : (bytes : List ℕ) → length bytes < 2 → timingsEnding (between 0) bytes ≡ []
+unfolding timingsEnding
+short-ends [] h = refl
+short-ends (x ∷ []) h = refl
+short-ends (x ∷ y ∷ bytes) h = absurd (omega arith)
+
+pub stored-end : {values list₀ : List ℕ} {at i : ℕ} {list : List ℕ} → Stored values list₀ at i list → {count : ℕ} → i ≡ count
+    → count ≡ min (length values / 2) (length list₀ - at) → list ≡ sets list₀ at (timingsEnding (between 0) values)
+stored-end {values} {list₀} {at} {i} {list} s e m = go (decLe (length values / 2) (length list₀ - at))
+  where
+    go : Dec (length values / 2 ≤ length list₀ - at) → list ≡ sets list₀ at (timingsEnding (between 0) values)
+    go (yes h) =
+        let n : i ≡ length values / 2 = e ∙ m ∙ min-eq-left h in
+        sym (ap (sets list (at + i)) (short-ends (drop (2 * i) values) (omega (arith, length-drop (2 * i) values)))) ∙ s .same
+    go (no h) =
+        let g : length list₀ - at ≤ length values / 2 = omega (arith, lt-of-not-le h) in
+        let n : i ≡ length list₀ - at = e ∙ m ∙ min-eq-right g in
+        sym (sets-past (timingsEnding (between 0) (drop (2 * i) values)) list (at + i) (omega (arith, s .long))) ∙ s .same

@@ -2,11 +2,10 @@
 use Prim.Native.Nat.{ℕ, suc, _+_, _-_, _*_, _≤_, _<_, min}
 use mathlib.Core.Path.{_≡_, refl, sym, _∙_, ap, subst}
 use mathlib.Core.Bool.{Bool, true, false, cond}
-use mathlib.Core.List.{List, [], _∷_, _++_, append-assoc}
+use mathlib.Core.List.{List, [], _∷_, _++_}
 use native.Mathlib.Omega.{arith}
 use native.Mathlib.Decide.{decLe}
 use native.Mathlib.Nat.{add-zero, zero-add, lt-of-not-le, min-le-right}
-use native.Mathlib.Numerals.{add-one}
 use borrow.Author.Tests.{eq-eqb, ne-eqb, eqb-true, eqb-false}
 use lib.Dec.{eqb}
 use lib.ListN.{length, set, getD, drop, length-append, length-drop, drop-of-length-le}
@@ -230,13 +229,20 @@ zeros-few zeros value = go (eqb value 0)
 passed-zeros-few : {zeros count out value : ℕ} {list : List ℕ} {z c o : ℕ} {l : List ℕ} → PassedValue zeros count out value list z c o l → z ≤ 7
 passed-zeros-few {zeros} {value = value} v = subst (λ (u : Unfinished). u .zeros ≤ 7) (sym (v .zeros-are)) (zeros-few zeros value)
 
+-- two bytes more at byte i
+pub two-more : (bytes : List ℕ) (i : ℕ) → 2 ≤ length bytes - i → drop i bytes ≡ getD bytes i 0 ∷ getD bytes (i + 1) 0 ∷ drop (i + 2) bytes
+two-more bytes i h =
+    let e : i + 2 ≡ suc (suc i) = omega arith in
+    let f : i + 1 ≡ suc i = omega arith in
+    rw (e, f) (drop-cons bytes i 0 (omega arith) ∙ ap (λ (x : List ℕ). getD bytes i 0 ∷ x) (drop-cons bytes (suc i) 0 (omega arith)))
+
 -- a turn
 pub at-next : {zeros count out : ℕ} {portion : List ℕ} {from : ℕ} {list : List ℕ} {z c o i : ℕ} {l : List ℕ} → AtValue zeros count out portion from list z c o i l
     → 2 ≤ length portion - i → {value : ℕ} → value ≡ 256 * getD portion i 0 + getD portion (i + 1) 0 → {z' c' o' : ℕ} {l' : List ℕ}
     → PassedValue z c o value l z' c' o' l' → AtValue zeros count out portion from list z' c' o' (i + 2) l'
 at-next {zeros} {count} {out} {portion} {from} {list} {z} {c} {o} {i} {l} at h {value} is {z'} {c'} {o'} {l'} v =
     let w = at .within in
-    let s : drop i portion ≡ getD portion i 0 ∷ getD portion (i + 1) 0 ∷ drop (i + 2) portion = two-more in
+    let s = two-more portion i h in
     record {
       within = omega arith;
       few-zeros = passed-zeros-few v;
@@ -248,13 +254,6 @@ at-next {zeros} {count} {out} {portion} {from} {list} {z} {c} {o} {i} {l} at h {
             onward = λ p. at .reaches .onward (rw s (passed-value (getD portion i 0) (getD portion (i + 1) 0) is (at .out-low) v p));
           };
     }
-  where
-    two-more : drop i portion ≡ getD portion i 0 ∷ getD portion (i + 1) 0 ∷ drop (i + 2) portion
-    two-more =
-        let w = at .within in
-        let e : i + 2 ≡ suc (suc i) = omega arith in
-        let f : i + 1 ≡ suc i = omega arith in
-        rw (e, f) (drop-cons portion i 0 (omega arith) ∙ ap (λ (x : List ℕ). getD portion i 0 ∷ x) (drop-cons portion (suc i) 0 (omega arith)))
 
 -- the end
 pub at-end : {zeros count out : ℕ} {portion : List ℕ} {from : ℕ} {list : List ℕ} {z c o i : ℕ} {l : List ℕ} → AtValue zeros count out portion from list z c o i l

@@ -1,18 +1,17 @@
 -- The table of a block: its numbers, and the revolutions that are bad. Assumes nothing.
 use Prim.Native.Nat.{ℕ, zero, suc, _+_, _-_, _*_, _≤_, _<_}
 use mathlib.Core.Path.{_≡_, refl, sym, _∙_, ap}
-use mathlib.Core.Bool.{Bool, true, false, cond, _||_}
+use mathlib.Core.Bool.{Bool, true, false, _||_}
 use mathlib.Core.List.{List, [], _∷_}
 use native.Mathlib.Omega.{arith}
-use native.Mathlib.Nat.{add-zero}
-use borrow.Author.Tests.{lt-ltb, le-ltb, eq-eqb}
-use lib.Dec.{eqb, ltb}
+use borrow.Author.Tests.{lt-ltb, le-ltb}
+use lib.Dec.{eqb}
 use lib.ListN.{length, getD, take, drop, length-drop}
 use lib.Seq.{getD-drop, getD-take, length-take-le}
 use Rattle.basis.specs.Bytes.{fourBytes, number}
 use Rattle.basis.specs.Search.{least}
 use Rattle.basis.proofs.Search.{least-step, least-hit, least-end}
-use Rattle.supercard_pro.specs.TrackBlock.{valueCount, valueOffset, tableEnd, valueBytes, valuesOf, endsInZero, otherLetters, tableShort, badRevolution, someBad, notATrackBlock}
+use Rattle.supercard_pro.specs.TrackBlock.{valueCount, valueOffset, tableEnd, valuesOf, endsInZero, otherLetters, badRevolution, someBad, notATrackBlock}
 
 -- a number at a place of the block
 pub number-here : (block : List ℕ) (at : ℕ)

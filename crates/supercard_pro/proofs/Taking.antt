@@ -1,12 +1,12 @@
 -- Each branch of the code that takes a portion. Assumes nothing.
 use Prim.Native.Nat.{ℕ, _+_, _≤_, _<_}
-use mathlib.Core.Path.{_≡_, refl, sym, _∙_, ap, subst}
+use mathlib.Core.Path.{_≡_, sym, _∙_, ap, subst}
 use mathlib.Core.List.{List, _++_}
 use native.Mathlib.Omega.{arith}
 use lib.ListN.{length, drop}
 use lib.Seq.{sets, sets-eq}
 use Rattle.basis.specs.Lists.{writtenOver}
-use Rattle.refusals.specs.RefusedCalls.{Answer, refusedWith}
+use Rattle.refusals.specs.RefusedCalls.{refusedWith}
 use Rattle.refusals.specs.RefusedCalls.Answer.{gives, refused}
 use Rattle.refusals.specs.declared.Refusal.{Refusal}
 use Rattle.flux.specs.Separation.{firstOut}
@@ -14,7 +14,7 @@ use Rattle.supercard_pro.specs.TrackBlock.{givenAnswer}
 use Rattle.supercard_pro.specs.Portions.{unfinishedAfter, timingsEnding, usableReader, portionTimings, portionAnswer}
 use Rattle.supercard_pro.specs.PrivateContracts.{LookedOver}
 use Rattle.supercard_pro.specs.declared.Given.{Given}
-use Rattle.supercard_pro.specs.declared.Given.the-variants.{Timings, Refused}
+use Rattle.supercard_pro.specs.declared.Given.the-variants.{Refused}
 use Rattle.supercard_pro.specs.declared.RevolutionReader.{RevolutionReader}
 use Rattle.supercard_pro.specs.declared.Unfinished.{Unfinished}
 use Rattle.supercard_pro.proofs.Judging.{usable-few, too-many, one-out, no-room, all-given}

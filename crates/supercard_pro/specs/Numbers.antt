@@ -5,12 +5,13 @@
 --
 -- A fresh reader is 0, and each number stands for one reader. The main property: however the bytes are cut, calls that keep the reader as a
 -- number give the timings of all bytes (`AllByNumber`). Assumes nothing.
-use Prim.Native.Nat.{ℕ, _+_, _-_, _*_, _/_, _%_, _<_}
+use Prim.Native.Nat.{ℕ, _+_, _-_, _*_, _/_, _%_}
 use mathlib.Core.Path.{_≡_}
 use mathlib.Core.Bool.{cond}
-use mathlib.Core.List.{List, [], _∷_, _++_}
+use mathlib.Core.List.{List, [], _++_}
 use lib.Dec.{eqb}
 use lib.ListN.{take}
+use Rattle.basis.specs.Bytes.{AreBytes}
 use Rattle.refusals.specs.RefusedCalls.{Answer}
 use Rattle.refusals.specs.RefusedCalls.Answer.{gives, refused}
 use Rattle.supercard_pro.specs.TrackBlock.{timingsIn}
@@ -45,17 +46,12 @@ abbrev pub numberKept : Answer ℕ → ℕ → RevolutionReader → ℕ
 numberKept (gives count) n next = numberOfReader next
 numberKept (refused number value) n next = n
 
--- what can be handed over as a portion: bytes
-abbrev pub PortionBytes : List ℕ → Type 0
-PortionBytes [] = Unit
-PortionBytes (byte ∷ bytes) = (byte < 256) × PortionBytes bytes
-
 -- calls on portions from the number 0 on, none of them refused: the number that they left, all bytes that they were handed, and all timings
 -- that they gave, in order
 pub data NumberCalls : ℕ → List ℕ → List ℕ → Type 0 where
   none : NumberCalls 0 [] []
   more : {n : ℕ} {bytes given : List ℕ} (portion : List ℕ) (room count : ℕ)
-      → NumberCalls n bytes given → PortionBytes portion → portionAnswer (readerOfNumber n) portion room ≡ gives count
+      → NumberCalls n bytes given → AreBytes portion → portionAnswer (readerOfNumber n) portion room ≡ gives count
       → NumberCalls (numberKept (gives count) n (portionReader (readerOfNumber n) portion room)) (bytes ++ portion)
       (given ++ portionTimings (readerOfNumber n) portion)
 

@@ -14,9 +14,10 @@ ghost use mathlib.Core.Bool.{cond, true};
 ghost use Prim.Native.Nat.{_+_, _≤_, _<_, min};
 ghost use lib.Dec.{eqb};
 ghost use lib.ListN.{length, drop, set};
+ghost use lib.Seq.{sets};
 ghost use Rattle.flux.specs.Rule.{inRange};
 ghost use Rattle.supercard_pro.specs.TrackBlock.{givenAnswer};
-ghost use Rattle.supercard_pro.specs.Portions.{unfinishedAfter, freshReader, usableReader, portionAnswer, portionReader, portionList, AllTimings};
+ghost use Rattle.supercard_pro.specs.Portions.{unfinishedAfter, timingsEnding, freshReader, usableReader, portionAnswer, portionReader, portionList, AllTimings};
 ghost use Rattle.supercard_pro.specs.PrivateContracts.{between, PassedValue, PassedOver, LookedOver, noZeros};
 
 impl RevolutionReader {
@@ -115,51 +116,13 @@ fn refused(reader: RevolutionReader, refusal: Refusal) -> TakenPortion
     }
 }
 
-// What a pass over a portion finds. Where no value is a 0 each ends a timing, which is in range: that is seen by a look at several values at
-// once. Else the timings are passed over and not kept: there is a list for one, since a pass stores them as far as a list reaches.
+// What a pass over a portion finds. The timings are not kept: there is a list for one, since a pass stores them as far as a list reaches.
 fn look(unfinished: Unfinished, portion: &[u8]) -> Passed
     requires { ⌜ unfinished .zeros ≤ 7 ⌝ }
     ensures { λ r. ⌜ LookedOver unfinished (now (portion .entry)) (r .unfinished) (r .count) (r .out) ⌝ }
 {
-    if nothing_before(unfinished) {
-        if no_zeros(portion) {
-            let count = portion.len() / 2;
-            return Passed {
-                unfinished: held_at(0, portion, 2 * count),
-                count,
-                out: count,
-            };
-        }
-    }
     let mut unused = [0u32; 1];
     pass(unfinished, portion, &mut unused)
-}
-
-// Whether no byte is held, and no zeros stand before the next value.
-fn nothing_before(unfinished: Unfinished) -> bool
-    ensures { λ r. ⌜ (r ≡ true → unfinished ≡ between 0) ⌝ }
-{
-    if unfinished.zeros != 0 {
-        return false;
-    }
-    let held = unfinished.held;
-    match held {
-        Held::Nothing => true,
-        Held::High(_) => false,
-    }
-}
-
-// Whether no value of a portion is a 0. The loop goes on to the end whatever it finds, so that the compiler can test several values at once.
-fn no_zeros(portion: &[u8]) -> bool
-    ensures { λ r. ⌜ (r ≡ true → noZeros (now (portion .entry)) ≡ true) ⌝ }
-{
-    let mut all = true;
-    let mut i: usize = 0;
-    while 2 <= portion.len() - i {
-        all = all & (two_bytes(portion[i], portion[i + 1]) != 0);
-        i += 2;
-    }
-    all
 }
 
 // Passes over a portion, and stores its timings from the front of the list on, as far as it reaches.
@@ -189,8 +152,70 @@ fn pass(unfinished: Unfinished, portion: &[u8], list: &mut [u32]) -> Passed
     }
 }
 
-// Passes over the values from byte `from` on, where nothing is held.
+// Passes over the values from byte `from` on, where nothing is held. On most tracks no value is a 0, and then all are passed over at once.
 fn pass_values(start: Seen, portion: &[u8], from: usize, list: &mut [u32]) -> Passed
+    requires { ⌜ (from ≤ length (now portion)) × (start .zeros ≤ 7) × (start .out ≤ start .count) × (start .count ≤ from) ⌝ }
+    ensures { λ r. ⌜ PassedOver (between (start .zeros)) (start .count) (start .out) (drop from (now (portion .entry))) (now (list .entry)) (r .unfinished) (r .count) (r .out) (now (list .exit)) ⌝ }
+{
+    if start.zeros == 0 {
+        let values = &portion[from..];
+        if no_zeros(values) {
+            return pass_at_once(start, values, list);
+        }
+    }
+    pass_in_turn(start, portion, from, list)
+}
+
+// Passes over values, none of which is a 0, where no zeros stand before them: each ends a timing, which is in range.
+fn pass_at_once(start: Seen, values: &[u8], list: &mut [u32]) -> Passed
+    requires { ⌜ (noZeros (now values) ≡ true) × (start .out ≤ start .count) × (start .count + length (now values) < 18446744073709551616) ⌝ }
+    ensures { λ r. ⌜ PassedOver (between 0) (start .count) (start .out) (now (values .entry)) (now (list .entry)) (r .unfinished) (r .count) (r .out) (now (list .exit)) ⌝ }
+{
+    let more = values.len() / 2;
+    store_at_once(values, list, start.count);
+    Passed {
+        unfinished: held_at(0, values, 2 * more),
+        count: start.count + more,
+        out: out_after_more(start.out, start.count, more),
+    }
+}
+
+// Stores the timings of values, none of which is a 0, from a place of the list on, as far as it reaches. The loop does so little that the
+// compiler can store several at once.
+fn store_at_once(values: &[u8], list: &mut [u32], at: usize)
+    requires { ⌜ noZeros (now values) ≡ true ⌝ }
+    ensures { λ _. ⌜ now (list .exit) ≡ sets (now (list .entry)) at (timingsEnding (between 0) (now (values .entry))) ⌝ }
+{
+    if list.len() <= at {
+        return;
+    }
+    let count = basis::smaller(values.len() / 2, list.len() - at);
+    let mut i: usize = 0;
+    while i < count {
+        list[at + i] = UNIT * two_bytes(values[2 * i], values[2 * i + 1]);
+        i += 1;
+    }
+}
+
+// Whether no value of some bytes is a 0. The first byte of a value is looked at only where the second is a 0, which is seldom: the first one
+// alone is a 0 in most values of a track.
+fn no_zeros(values: &[u8]) -> bool
+    ensures { λ r. ⌜ r ≡ noZeros (now (values .entry)) ⌝ }
+{
+    let mut i: usize = 0;
+    while 2 <= values.len() - i {
+        if values[i + 1] == 0 {
+            if values[i] == 0 {
+                return false;
+            }
+        }
+        i += 2;
+    }
+    true
+}
+
+// Passes over the values from byte `from` on, one after the other.
+fn pass_in_turn(start: Seen, portion: &[u8], from: usize, list: &mut [u32]) -> Passed
     requires { ⌜ (from ≤ length (now portion)) × (start .zeros ≤ 7) × (start .out ≤ start .count) × (start .count ≤ from) ⌝ }
     ensures { λ r. ⌜ PassedOver (between (start .zeros)) (start .count) (start .out) (drop from (now (portion .entry))) (now (list .entry)) (r .unfinished) (r .count) (r .out) (now (list .exit)) ⌝ }
 {
@@ -254,6 +279,14 @@ fn one_zero_more(zeros: u32) -> u32
     } else {
         MOST_ZEROS
     }
+}
+
+// The index of the first timing out of range, after so many more that are in range.
+fn out_after_more(out: usize, count: usize, more: usize) -> usize
+    requires { ⌜ count + more < 18446744073709551616 ⌝ }
+    ensures { λ r. ⌜ r ≡ cond (eqb out count) (count + more) out ⌝ }
+{
+    if out == count { count + more } else { out }
 }
 
 // The index of the first timing out of range, after one more.

@@ -9,6 +9,7 @@ use borrow.Author.Tests.{le-ltb, eq-eqb, ne-eqb}
 use lib.Dec.{eqb, ltb}
 use lib.ListN.{length, drop, replicate, length-replicate}
 use Rattle.cells.specs.CellsAndBytes.{packed}
+use Rattle.basis.proofs.Bools.{and-false}
 use Rattle.refusals.specs.RefusedCalls.{Answer, bufferAfter}
 use Rattle.refusals.specs.RefusedCalls.Answer.{gives, refused}
 use Rattle.flux.specs.Separation.{cellsOf, separation, separatedCells}
@@ -36,10 +37,6 @@ pub record AsSeparated (track side : ℕ) (ts buffer file : List ℕ) : Type 0 w
   pub answer : fileAnswerIn (length buffer) file ≡ placed track side (separation ts (length (blank buffer)))
   pub cells : fileBuffer buffer file ≡ separatedCells ts (blank buffer)
   pub demand3 : Demand3 ts (separation ts (length (blank buffer))) (blank buffer) (fileBuffer buffer file)
-
-and-false : (x : Bool) → (x && false) ≡ false
-and-false true = refl
-and-false false = refl
 
 -- no refusal goes before the separator's, whatever counts are there
 none-before : (a b c : Bool) (p n v len total : ℕ) (accepted : Bool → Answer Content) → p ≡ 2 → n ≡ 0 → (v ≡ 0 → ⊥) → v ≤ 65536 → len ≡ total

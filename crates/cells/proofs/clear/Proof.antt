@@ -23,7 +23,7 @@ loop-holds : tie.Need-loop-holds Inv-loop μ-loop
 loop-holds c = (search needs, refl, fill-none _ 0)
 
 slice-write-bytes : tie.Need-slice-write-bytes Inv-loop μ-loop
-slice-write-bytes c = omega (arith, c .before .loop .inv .1, c .before .before .smaller .ensures .1)
+slice-write-bytes c = omega (arith, c .before .loop .inv .1, c .before .before .smaller .ensures .2)
 
 add-i : tie.Need-add-i Inv-loop μ-loop
 add-i c = search needs
@@ -35,7 +35,7 @@ loop-again : tie.Need-loop-again Inv-loop μ-loop
 loop-again c =
     let l = c .before .loop in
     let b = c .before .before .before .before .args .bytes .now in
-    let h : l .i < length b = omega (arith, c .before .before .smaller .ensures .1) in
+    let h : l .i < length b = omega (arith, c .before .before .smaller .ensures .2) in
     (search needs, simp length-set (l .inv .1), ap (λ (x : List ℕ). set x (l .i) 0) (l .inv .2) ∙ fill-more (l .i) 0 b h)
 
 same-length : tie.Need-same-length Inv-loop μ-loop

@@ -1,7 +1,6 @@
 -- `supercard_pro::some_bad` meets its contract. Assumes nothing.
 use Prim.Native.Nat.{_-_, _≤_}
 use mathlib.Core.Path.{refl, sym, _∙_}
-use native.Mathlib.Omega.{arith}
 use borrow.Author.Needs.{needs}
 use Rattle.supercard_pro.proofs.Table.{NoneBefore, none-more, found-bad, found-none}
 use Rattle.supercard_pro.proofs.some_bad.Statement.{statement}

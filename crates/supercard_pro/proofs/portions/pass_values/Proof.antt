@@ -1,82 +1,58 @@
--- `supercard_pro::portions::pass_values` meets its contract: what is passed from byte i on is passed from the start on. Assumes nothing.
-use Prim.Native.Nat.{_+_, _-_}
+-- `supercard_pro::portions::pass_values` meets its contract. Assumes nothing.
+use mathlib.Core.Path.{sym, _∙_, ap}
 use native.Mathlib.Omega.{arith}
 use borrow.Author.Needs.{needs}
 use lib.ListN.{length}
-use Rattle.supercard_pro.proofs.Passing.{AtValue, at-start, at-next, at-end}
+use Rattle.supercard_pro.proofs.NoZeros.{rest-is, passed-rest}
 use Rattle.supercard_pro.proofs.portions.pass_values.Statement.{statement}
 use Rattle.supercard_pro.proofs.portions.pass_values.Tie as tie
 
-abbrev Inv-loop : tie.InvT-loop
-Inv-loop portion from list₀ seen₀ i₀ list seen i =
-    AtValue (seen₀ .zeros) (seen₀ .count) (seen₀ .out) portion from list₀ (seen .zeros) (seen .count) (seen .out) i list
+sub-values : tie.Need-sub-values
+sub-values c = search needs
 
-abbrev μ-loop : tie.MeasureT-loop
-μ-loop portion from list₀ seen₀ i₀ list seen i = length portion - i
+part-values-start : tie.Need-part-values-start
+part-values-start c = search needs
 
-loop-holds : tie.Need-loop-holds Inv-loop μ-loop
-loop-holds c =
-    let p = c .before .before .pre in
-    at-start _ _ _ _ _ _ (p .0) (p .1) (p .2) (p .3)
+part-values-end : tie.Need-part-values-end
+part-values-end c = search needs
 
-sub-loop : tie.Need-sub-loop Inv-loop μ-loop
-sub-loop c = omega (arith, c .loop .inv .within)
+no-zeros-requires : tie.Need-no-zeros-requires
+no-zeros-requires c κs = search needs
 
-shared-slice-read-two-bytes : tie.Need-shared-slice-read-two-bytes Inv-loop μ-loop
-shared-slice-read-two-bytes c = omega (arith, c .before .loop-test .taken)
+pass-at-once-requires : tie.Need-pass-at-once-requires
+pass-at-once-requires c κs =
+    let a = c .before .before .before .before .before .before .before .before .args in
+    let p = c .before .before .before .before .before .before .before .before .pre in
+    (sym (c .before .before .no-zeros .ensures) ∙ c .before .if2 .taken, p .2, omega (arith, p, ap length (rest-is (a .portion .now) (a .from))))
 
-add-two-bytes : tie.Need-add-two-bytes Inv-loop μ-loop
-add-two-bytes c = search needs
+same-length : tie.Need-same-length
+same-length c = search needs
 
-shared-slice-read-two-bytes-2 : tie.Need-shared-slice-read-two-bytes-2 Inv-loop μ-loop
-shared-slice-read-two-bytes-2 c = omega (arith, c .before .before .loop-test .taken)
+returns : tie.Need-returns
+returns c =
+    let a = c .before .before .before .before .before .before .before .before .before .before .before .args in
+    passed-rest (a .portion .now) (a .from) (c .before .before .before .before .before .before .before .if1 .taken) (c .before .before .pass-at-once .ensures)
 
-two-bytes-requires : tie.Need-two-bytes-requires Inv-loop μ-loop
-two-bytes-requires c κs = search needs
+pass-in-turn-requires : tie.Need-pass-in-turn-requires
+pass-in-turn-requires c κs = search needs
 
-pass-value-requires : tie.Need-pass-value-requires Inv-loop μ-loop
-pass-value-requires c κs =
-    let l = c .before .before .before .before .before .loop in
-    let i = l .inv in
-    let high = c .before .before .before .shared-slice-known2 .given (l .i) in
-    let low = c .before .before .shared-slice-known3 .given (l .i + 1) in
-    (i .few-zeros, omega (arith, c .before .two-bytes .ensures, high, low), i .out-low, omega (arith, i .count-low, i .within, c .before .before .before .before .loop-test .taken))
+same-length-2 : tie.Need-same-length-2
+same-length-2 c = search needs
 
-add-i : tie.Need-add-i Inv-loop μ-loop
-add-i c = search needs
-
-loop-less : tie.Need-loop-less Inv-loop μ-loop
-loop-less c = search needs
-
-loop-again : tie.Need-loop-again Inv-loop μ-loop
-loop-again c =
-    at-next (c .before .before .before .before .before .before .before .before .loop .inv) (c .before .before .before .before .before .before .before .loop-test .taken) (c .before .before .before .before .two-bytes .ensures) (c .before .before .pass-value .ensures)
-
-held-at-requires : tie.Need-held-at-requires Inv-loop μ-loop
-held-at-requires c κs = (c .before .loop .inv .within, omega (arith, c .loop-test .left))
-
-same-length : tie.Need-same-length Inv-loop μ-loop
-same-length c = c .before .before .loop .inv .long
-
-returns : tie.Need-returns Inv-loop μ-loop
-returns c = at-end (c .before .before .loop .inv) (omega (arith, c .before .loop-test .left)) (c .held-at .ensures)
+returns-2 : tie.Need-returns-2
+returns-2 c = search needs
 
 pub pass-values-spec : {M : Type 1} → statement M
 pass-values-spec =
     tie.close
     (tie.spec
-    Inv-loop
-    μ-loop
-    loop-holds
-    sub-loop
-    shared-slice-read-two-bytes
-    add-two-bytes
-    shared-slice-read-two-bytes-2
-    two-bytes-requires
-    pass-value-requires
-    add-i
-    loop-less
-    loop-again
-    held-at-requires
+    sub-values
+    part-values-start
+    part-values-end
+    no-zeros-requires
+    pass-at-once-requires
     same-length
-    returns)
+    returns
+    pass-in-turn-requires
+    same-length-2
+    returns-2)

@@ -1,12 +1,8 @@
 -- `supercard_pro::separating::separate_revolution` meets its contract. Assumes nothing.
-use Prim.Native.Nat.{ℕ}
-use mathlib.Core.Path.{_≡_, sym, _∙_, ap}
-use mathlib.Core.List.{List}
+use mathlib.Core.Path.{sym, _∙_, ap}
 use native.Mathlib.Omega.{arith}
-use lib.ListN.{length}
 use lib.Seq.{length-take-le}
-use Rattle.refusals.specs.RefusedCalls.Answer.{gives}
-use Rattle.supercard_pro.specs.TrackBlock.{givenAnswer, blockAnswer}
+use Rattle.supercard_pro.specs.TrackBlock.{givenAnswer}
 use Rattle.supercard_pro.proofs.BlockCells.{block-refused, filled-long, block-separated}
 use borrow.Author.Needs.{needs}
 use Rattle.supercard_pro.proofs.separating.separate_revolution.Statement.{statement}
