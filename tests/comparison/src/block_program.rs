@@ -1,21 +1,25 @@
 //! 02, ticket 3: the program `scp_track` beside the second program, on whole blocks and on blocks that come in portions, and what it does
-//! with other arguments.
+//! with inputs that fail and with other arguments.
 
-use crate::program::{built, ends_within, in_portions, in_shell, started, text, through_pipe, Seen};
+use crate::program::{
+    built, ends_within, four_reads, in_portions, in_shell, left_after_pipe, left_after_socket, started, text, through_pipe, Seen,
+    SocketEnd,
+};
 use crate::report::Group;
 use second_program::listing::listing;
 use second_program::random::Random;
 use second_program::track_block::printed;
 use second_program::track_blocks::{
-    block_of_parts, block_of_values, bytes_of_values, odd_track_block, random_portions, standard_track_block,
-    track_that_ends_in_a_one, BlockPlan, GROUPS,
+    block_of_parts, block_of_values, bytes_of_values, odd_track_block, random_portions, samplings, standard_track_block,
+    track_that_ends_in_a_one, BlockPlan, BETWEEN_SECTORS, GROUPS, IN_A_SECTOR,
 };
 use second_program::track_builder::standard_track as standard_track_cells;
 use second_program::track_files::file_of_cells;
 use std::ffi::OsStr;
 use std::fs::File;
+use std::io::ErrorKind;
 use std::os::unix::ffi::OsStrExt;
-use std::process::{Command, Stdio};
+use std::process::{Command, Output, Stdio};
 use std::time::Duration;
 use thikbromu::TrackBlock;
 
@@ -119,6 +123,46 @@ pub fn standard_track(totals: &mut (usize, usize)) {
     group.close(totals);
 }
 
+/// The standard track's flux as the device samples it, from the index on: every later revolution lists as the track itself does, and where
+/// the index lies in a sector, as the track turned to it. The first timing of revolution 0 is no difference of two pulses, so that demand 3
+/// says nothing of it: it is only compared with the second program.
+pub fn standard_track_from_index(totals: &mut (usize, usize)) {
+    let mut group = Group::new("the block program on the standard track from the index on");
+    let mut random = Random::new(75);
+    let all = samplings(&[&BETWEEN_SECTORS[..], &IN_A_SECTOR].concat());
+    let tracks = [(0, 0, 0xE5), (40, 1, 0x00), (79, 0, 0x4E)].into_iter().cycle();
+    for (sampling, (own_track, own_side, filler)) in all.into_iter().zip(tracks) {
+        let standard = standard_track_cells(own_track, own_side, filler);
+        let turned = sampling.whole_revolution(&standard);
+        let block = sampling.block(&mut random, &standard).bytes();
+        let between = BETWEEN_SECTORS.contains(&sampling.index_cell);
+        for revolution in 0..sampling.revolutions as u8 {
+            for (track, side) in [(own_track, own_side), (81, 1)] {
+                let numbers = [sampling.revolutions as u8, revolution, track, side];
+                let given = || format!("{sampling:?}, {numbers:?}");
+                let ours = text(&through_pipe(program_with(numbers), &block));
+                group.same(&ours, &expected(&block, numbers), given);
+                group.same(&listing_by_crate(&block, numbers), &ours, given);
+                if revolution == 0 {
+                    continue;
+                }
+                let listed = if between && track == own_track {
+                    format!("T{track:02} H{side} cells 100000 sectors 9 findings 0\n")
+                } else {
+                    text(&listing(&file_of_cells(track, side, &turned)))
+                };
+                group.same(ours, listed, given);
+            }
+        }
+    }
+    group.close(totals);
+}
+
+/// A short block of two revolutions, the second of 20,000 cells.
+fn two_revolutions() -> Vec<u8> {
+    block_of_values(&[vec![160, 240], [0, 0, 0, 0, 0, 0, 6_784].repeat(4)]).bytes()
+}
+
 /// A block of so many bytes, whose one revolution, of 20,000 cells, is at its end.
 fn block_of_length(length: usize) -> BlockPlan {
     let own = bytes_of_values(&[0, 0, 0, 0, 0, 0, 6_784].repeat(4));
@@ -129,10 +173,102 @@ fn block_of_length(length: usize) -> BlockPlan {
     block_of_parts(values, &[(start, own.len() / 2)])
 }
 
-/// Other arguments, blocks at the longest, blocks that come in portions, and inputs and outputs that fail.
+/// The program with these numbers, its standard error kept.
+fn program_that_may_fail(numbers: [u8; 4]) -> Command {
+    let mut command = program_with(numbers);
+    command.stderr(Stdio::piped());
+    command
+}
+
+/// Whether standard error has one line, and it begins so.
+fn says_one_line(output: &Output, start: &str) -> bool {
+    let error = text(&output.stderr);
+    error.starts_with(start) && error.ends_with('\n') && error.lines().count() == 1
+}
+
+/// An input that is too long or cannot be read to its end: nothing is listed, since the block is not known, and one line says why.
+fn not_listed(group: &mut Group, output: &Output, given: impl Fn() -> String) {
+    let ours = (text(&output.stdout), says_one_line(output, "scp_track: "), output.status.success());
+    group.same(ours, (String::new(), true, true), || format!("{}, which says {:?}", given(), text(&output.stderr)));
+}
+
+/// A block that is listed, and nothing said beside it.
+fn listed_alone(group: &mut Group, output: &Output, listed: &str, given: impl Fn() -> String) {
+    group.same((text(&output.stdout), text(&output.stderr)), (listed.to_string(), String::new()), given);
+}
+
+/// Inputs through stream sockets that end, and inputs that fail once and then end: of these nothing is listed, however much was read.
+pub fn failing_inputs(totals: &mut (usize, usize)) {
+    let mut group = Group::new("the block program on inputs that fail");
+    // What the system gives, without which the cases below would say nothing.
+    let (ends, fails_once) = (four_reads(b"TRK", SocketEnd::Ends), four_reads(b"TRK", SocketEnd::FailsOnce));
+    group.same(ends, vec![Ok(3), Ok(0), Ok(0), Ok(0)], || "a socket that ends".to_string());
+    let reset = Err(ErrorKind::ConnectionReset);
+    group.same(fails_once, vec![Ok(3), reset, Ok(0), Ok(0)], || "a socket that fails once".to_string());
+
+    let mut random = Random::new(76);
+    for (name, block, numbers) in [
+        ("two revolutions", two_revolutions(), [2, 1, 5, 1]),
+        ("the standard track", standard_track_block(16, 0, 0, 0xE5, 2).bytes(), [2, 1, 0, 0]),
+        ("a block of 300,001 bytes", block_of_length(300_001).bytes(), [1, 0, 80, 0]),
+        ("the longest block", block_of_length(LONGEST_BLOCK).bytes(), [1, 0, 5, 0]),
+    ] {
+        let mut places = vec![0, 1, 3, 4, block.len() - 1, block.len()];
+        if block.len() < 100 {
+            places.extend(0..block.len());
+        } else {
+            places.extend([4_096, 65_535, 65_536, 65_537]);
+            places.extend((0..6).map(|_| random.below(block.len() as u64) as usize));
+        }
+        places.sort_unstable();
+        places.dedup();
+        for place in places {
+            let front = &block[..place];
+            let given = || format!("{place} bytes of {name}");
+            let output = left_after_socket(program_that_may_fail(numbers), front, SocketEnd::FailsOnce);
+            not_listed(&mut group, &output, || format!("{}, then a failure", given()));
+            let output = left_after_socket(program_that_may_fail(numbers), front, SocketEnd::Ends);
+            listed_alone(&mut group, &output, &expected(front, numbers), given);
+        }
+    }
+    // No input, or one that cannot be read at all.
+    let numbers = [2, 1, 5, 1];
+    for redirection in ["<&-", "< /", "< /proc/self/mem"] {
+        not_listed(&mut group, &in_shell(&program_with(numbers), redirection), || redirection.to_string());
+    }
+
+    // The longest block, and longer ones.
+    let lengths = [(LONGEST_BLOCK, 0), (LONGEST_BLOCK - 1, 0), (LONGEST_BLOCK - 1, 1), (1_000, LONGEST_BLOCK - 1_000)];
+    for (length, left_over) in lengths {
+        let mut plan = block_of_length(length);
+        plan.left_over = vec![0; left_over];
+        for more in [0, 1, 65_536, LONGEST_BLOCK] {
+            let given = || format!("values to {length}, {left_over} left over, {more} more");
+            let block = [plan.bytes(), vec![0; more]].concat();
+            let numbers = [1, 0, 5, 0];
+            let output = left_after_pipe(program_that_may_fail(numbers), &block);
+            if block.len() > LONGEST_BLOCK {
+                not_listed(&mut group, &output, given);
+            } else {
+                listed_alone(&mut group, &output, &expected(&block, numbers), given);
+            }
+        }
+    }
+    let output = left_after_pipe(program_that_may_fail(numbers), &vec![0; LONGEST_BLOCK]);
+    listed_alone(&mut group, &output, "refused 16\n", || "zeros".to_string());
+    let mut child = started(program_that_may_fail(numbers), Stdio::from(File::open("/dev/zero").expect("zeros without end")));
+    if !ends_within(&mut child, Duration::from_secs(20)) {
+        child.kill().expect("a program that reads without end");
+    }
+    let output = child.wait_with_output().expect("the program's output");
+    not_listed(&mut group, &output, || "zeros without end".to_string());
+    group.close(totals);
+}
+
+/// Other arguments, blocks that come in portions, and outputs that fail.
 pub fn system(totals: &mut (usize, usize)) {
     let mut group = Group::new("the block program's arguments, and the system");
-    let block = block_of_values(&[vec![160, 240], [0, 0, 0, 0, 0, 0, 6_784].repeat(4)]).bytes();
+    let block = two_revolutions();
     let numbers = [2, 1, 5, 1];
     let good: [&[u8]; 4] = [b"2", b"1", b"5", b"1"];
     let listed = expected(&block, numbers);
@@ -157,9 +293,9 @@ pub fn system(totals: &mut (usize, usize)) {
     let mut refused = |arguments: &[&[u8]]| {
         let arguments: Vec<&OsStr> = arguments.iter().map(|argument| OsStr::from_bytes(argument)).collect();
         let output = program(&arguments).stdin(Stdio::null()).output().expect("the program");
-        let error = text(&output.stderr);
-        let one_line = error.starts_with("usage: scp_track") && error.ends_with('\n') && error.lines().count() == 1;
-        group.same((text(&output.stdout), one_line), (String::new(), true), || format!("{arguments:?}, which says {error}"));
+        let one_line = says_one_line(&output, "usage: scp_track");
+        let given = || format!("{arguments:?}, which says {:?}", text(&output.stderr));
+        group.same((text(&output.stdout), one_line), (String::new(), true), given);
     };
     for count in 0..4 {
         refused(&good[..count]);
@@ -208,29 +344,6 @@ pub fn system(totals: &mut (usize, usize)) {
         }
     }
 
-    // The longest block, and longer ones, of which nothing is said.
-    let lengths = [(LONGEST_BLOCK, 0), (LONGEST_BLOCK - 1, 0), (LONGEST_BLOCK - 1, 1), (1_000, LONGEST_BLOCK - 1_000)];
-    for (length, left_over) in lengths {
-        let mut plan = block_of_length(length);
-        plan.left_over = vec![0; left_over];
-        for more in [0, 1, 65_536, LONGEST_BLOCK] {
-            let given = || format!("values to {length}, {left_over} left over, {more} more");
-            let block = [plan.bytes(), vec![0; more]].concat();
-            let numbers = [1, 0, 5, 0];
-            let expected = if block.len() > LONGEST_BLOCK { String::new() } else { expected(&block, numbers) };
-            group.same(text(&through_pipe(program_with(numbers), &block)), expected, given);
-        }
-    }
-    let zeros = vec![0; LONGEST_BLOCK];
-    group.same(text(&through_pipe(program_with(numbers), &zeros)), "refused 16\n".to_string(), || "zeros".to_string());
-    let mut child = started(program_with(numbers), Stdio::from(File::open("/dev/zero").expect("zeros without end")));
-    if !ends_within(&mut child, Duration::from_secs(20)) {
-        child.kill().expect("a program that reads without end");
-    }
-    let output = child.wait_with_output().expect("the program's output");
-    let ours = (text(&output.stdout), output.status.success());
-    group.same(ours, (String::new(), true), || "zeros without end".to_string());
-
     // Blocks in portions.
     let mut random = Random::new(74);
     for place in 1..block.len() {
@@ -258,13 +371,8 @@ pub fn system(totals: &mut (usize, usize)) {
         }
     }
 
-    // No input, or one that cannot be read: nothing is known of a block, and nothing is said.
-    let command = program_with(numbers);
-    for redirection in ["<&-", "< /", "< /proc/self/mem"] {
-        let output = in_shell(&command, redirection);
-        group.same((text(&output.stdout), output.status.success()), (String::new(), true), || redirection.to_string());
-    }
     // An output that cannot be written, or whose reader goes away: the program ends all the same.
+    let command = program_with(numbers);
     for redirection in [">&-", "> /dev/full"] {
         group.same(in_shell(&command, redirection).status.success(), true, || redirection.to_string());
     }

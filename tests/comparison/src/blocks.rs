@@ -4,7 +4,7 @@ use crate::report::{Group, Lent};
 use crate::terms::answer;
 use second_program::random::Random;
 use second_program::refusal::{Refusal, MOST_TIMINGS};
-use second_program::track_block::{self, revolution_bytes, Carried};
+use second_program::track_block::{self, revolution_bytes, BytesSoFar, Carried, PortionAnswer};
 use second_program::track_blocks::{any_carried, any_portion, cases, equal_portions, random_portions, with_empty_portions};
 use std::collections::HashSet;
 use thikbromu::boundary::{revolution_cells, revolution_portion, revolution_timings};
@@ -68,6 +68,38 @@ fn state_of(number: u32) -> Carried {
     }
 }
 
+/// What the second program carries from portion to portion.
+#[derive(Debug)]
+enum Second {
+    /// All bytes so far: none of the parts that the library's state has, and nothing capped.
+    Bytes(BytesSoFar),
+    /// The same three parts, for revolutions in very many portions and for states of any number.
+    Numbers(Carried),
+}
+
+impl Second {
+    fn portion(&self, portion: &[u8], room: usize) -> (PortionAnswer, Second) {
+        match self {
+            Second::Bytes(state) => {
+                let (answer, next) = state.portion(portion, room);
+                (answer, Second::Bytes(next))
+            }
+            Second::Numbers(state) => {
+                let (answer, next) = state.portion(portion, room);
+                (answer, Second::Numbers(next))
+            }
+        }
+    }
+
+    /// The numbers of the state.
+    fn numbers(&self) -> Carried {
+        match self {
+            Second::Bytes(state) => Carried::of(state),
+            Second::Numbers(state) => *state,
+        }
+    }
+}
+
 /// What the library did with a portion: its refusal, or the timings that it wrote.
 struct Taken {
     refusal: Option<Refusal>,
@@ -77,16 +109,19 @@ struct Taken {
 /// A revolution that both sides take portion by portion, each with its own state.
 struct Both {
     ours: u32,
-    second: Carried,
+    second: Second,
 }
 
 impl Both {
-    fn new() -> Both {
-        Both { ours: 0, second: Carried::new() }
+    /// Before the first of a revolution's portions. To keep all bytes is to go over them again for each portion.
+    fn before(portions: &[&[u8]]) -> Both {
+        let length: usize = portions.iter().map(|portion| portion.len()).sum();
+        let by_bytes = length <= LONG || portions.len() <= FEW_PORTIONS;
+        Both { ours: 0, second: if by_bytes { Second::Bytes(BytesSoFar::new()) } else { Second::Numbers(Carried::new()) } }
     }
 
     fn of_number(number: u32) -> Both {
-        Both { ours: number, second: state_of(number) }
+        Both { ours: number, second: Second::Numbers(state_of(number)) }
     }
 
     /// How many timings end in the portion, whatever the room is; none where it is refused.
@@ -112,13 +147,14 @@ impl Both {
         let mut list_of_reader = Lent::new(room);
         let taken = RevolutionReader::from_number(self.ours).take(&passed, list_of_reader.part());
         let by_reader = (answer(taken.timings), taken.next.number());
-        let (state_after, list_after) = (Lent::expected(1, &[number_of(next)]), Lent::expected(room, &written));
+        let number_after = number_of(next.numbers());
+        let (state_after, list_after) = (Lent::expected(1, &[number_after]), Lent::expected(room, &written));
         group.same(
             (ours, state.into_all(), list.into_all(), by_reader, list_of_reader.into_all(), &passed[..]),
-            (expected, state_after, list_after.clone(), (expected, number_of(next)), list_after, portion),
+            (expected, state_after, list_after.clone(), (expected, number_after), list_after, portion),
             || {
                 let front = &portion[..portion.len().min(16)];
-                format!("{}, {} bytes {front:02X?}, room {room}, from {:?}", given(), portion.len(), self.second)
+                format!("{}, {} bytes {front:02X?}, room {room}, from {:?}", given(), portion.len(), self.second.numbers())
             },
         );
         (self.ours, self.second) = (number, next);
@@ -151,6 +187,9 @@ fn revolutions() -> Vec<Revolution> {
 /// Revolutions longer than this are cut into fewer portions.
 const LONG: usize = 2_000;
 
+/// For so few portions all bytes of a long revolution are kept, too; 65,536 timings come in 32 portions of 4,096 bytes.
+const FEW_PORTIONS: usize = 40;
+
 /// Ways to cut a revolution's bytes: into portions of 1 to 7 bytes, and at random with empty ones among them.
 fn cuts<'a>(random: &mut Random, bytes: &'a [u8]) -> Vec<Vec<&'a [u8]>> {
     let (sizes, most) = if bytes.len() > LONG { (vec![999, 4_096, bytes.len()], 3_000) } else { ((1..=7).collect(), 9) };
@@ -168,7 +207,7 @@ pub fn portions(totals: &mut (usize, usize)) {
     for Revolution { name, bytes, whole } in &all {
         for portions in cuts(&mut random, bytes) {
             let given = || format!("{name}, in {} portions", portions.len());
-            let mut both = Both::new();
+            let mut both = Both::before(&portions);
             let mut first_refusal = None;
             let mut timings = Vec::new();
             for portion in &portions {
@@ -195,9 +234,10 @@ pub fn portions(totals: &mut (usize, usize)) {
     let mut group = Group::new("a revolution of the standard track, byte by byte");
     let standard = all.iter().find(|revolution| revolution.name.starts_with("standard track"));
     let Revolution { name, bytes, whole } = standard.expect("the standard track's flux is among the cases");
-    let mut both = Both::new();
+    let portions = equal_portions(bytes, 1);
+    let mut both = Both::before(&portions);
     let mut timings = Vec::new();
-    for portion in bytes.chunks(1) {
+    for portion in portions {
         timings.extend(both.take(&mut group, portion, 1, || name.clone()).timings);
     }
     group.same(Ok(timings), whole.clone(), || name.clone());
@@ -210,9 +250,10 @@ pub fn short_rooms(totals: &mut (usize, usize)) {
     let mut random = Random::new(72);
     for Revolution { name, bytes, whole } in revolutions() {
         let most = if bytes.len() > LONG { 3_000 } else { 12 };
-        let mut both = Both::new();
+        let portions = random_portions(&mut random, &bytes, most);
+        let mut both = Both::before(&portions);
         let mut timings = Vec::new();
-        for portion in random_portions(&mut random, &bytes, most) {
+        for portion in portions {
             let needed = both.needed(portion);
             if needed > 0 && random.one_in(2) {
                 let rooms = if random.one_in(2) { vec![needed - 1] } else { vec![0, needed - 1] };

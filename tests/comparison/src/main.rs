@@ -24,7 +24,7 @@ use std::sync::Mutex;
 type Part = fn(&mut (usize, usize));
 
 /// The groups of cases, by their module.
-const PARTS: [(&str, Part); 35] = [
+const PARTS: [(&str, Part); 37] = [
     ("terms", terms::tables),
     ("track_cells", track_cells::reading),
     ("track_cells", track_cells::finding),
@@ -59,6 +59,8 @@ const PARTS: [(&str, Part); 35] = [
     ("program", program::portions),
     ("program", program::system),
     ("block_program", block_program::standard_track),
+    ("block_program", block_program::standard_track_from_index),
+    ("block_program", block_program::failing_inputs),
     ("block_program", block_program::system),
 ];
 

@@ -14,7 +14,7 @@ use std::ffi::OsStr;
 use std::fs::File;
 use std::io::{ErrorKind, Read, Write};
 use std::os::fd::OwnedFd;
-use std::os::unix::net::UnixDatagram;
+use std::os::unix::net::{UnixDatagram, UnixStream};
 use std::path::Path;
 use std::process::{Child, Command, Output, Stdio};
 use std::time::{Duration, Instant};
@@ -34,16 +34,62 @@ pub fn started(mut command: Command, input: Stdio) -> Child {
     child.unwrap_or_else(|error| panic!("{command:?}: {error}"))
 }
 
-/// What a program prints for a file that comes through a pipe.
-pub fn through_pipe(command: Command, file: &[u8]) -> Vec<u8> {
+/// Writes a file to a program, which may stop reading before the end.
+fn write_to_program(input: &mut impl Write, file: &[u8]) {
+    if let Err(error) = input.write_all(file) {
+        let kind = error.kind();
+        assert!(kind == ErrorKind::BrokenPipe || kind == ErrorKind::ConnectionReset, "{error}");
+    }
+}
+
+/// What a program leaves for a file that comes through a pipe; of standard error only what the command keeps.
+pub fn left_after_pipe(command: Command, file: &[u8]) -> Output {
     let mut child = started(command, Stdio::piped());
     let mut input = child.stdin.take().expect("a pipe");
-    // The program may stop reading before the end.
-    if let Err(error) = input.write_all(file) {
-        assert_eq!(error.kind(), ErrorKind::BrokenPipe);
-    }
+    write_to_program(&mut input, file);
     drop(input);
-    printed(child)
+    child.wait_with_output().expect("the program's output")
+}
+
+/// What a program prints for a file that comes through a pipe.
+pub fn through_pipe(command: Command, file: &[u8]) -> Vec<u8> {
+    left_after_pipe(command, file).stdout
+}
+
+/// How an input through a stream socket ends.
+#[derive(Clone, Copy, Debug, PartialEq, Eq)]
+pub enum SocketEnd {
+    /// All reads after the last byte give the end.
+    Ends,
+    /// The first read after the last byte fails, the others give the end: so it is where the writer goes away with something unread.
+    FailsOnce,
+}
+
+/// A socket to write to, and one to read what was written and then this end.
+fn sockets(end: SocketEnd) -> (UnixStream, UnixStream) {
+    let (writer, mut reader) = UnixStream::pair().expect("a pair of sockets");
+    if end == SocketEnd::FailsOnce {
+        reader.write_all(&[0]).expect("room for a byte that nobody reads");
+    }
+    (writer, reader)
+}
+
+/// What a program leaves for a file that comes through a stream socket; of standard error only what the command keeps.
+pub fn left_after_socket(command: Command, file: &[u8], end: SocketEnd) -> Output {
+    let (mut writer, reader) = sockets(end);
+    let child = started(command, Stdio::from(OwnedFd::from(reader)));
+    write_to_program(&mut writer, file);
+    drop(writer);
+    child.wait_with_output().expect("the program's output")
+}
+
+/// What four reads of a stream socket give: how many bytes, or which failure.
+pub fn four_reads(file: &[u8], end: SocketEnd) -> Vec<Result<usize, ErrorKind>> {
+    let (mut writer, mut reader) = sockets(end);
+    writer.write_all(file).expect("room for a short file");
+    drop(writer);
+    let mut buffer = vec![0; file.len() + 1];
+    (0..4).map(|_| reader.read(&mut buffer).map_err(|error| error.kind())).collect()
 }
 
 /// What a program prints for a file that comes in these portions, none of them empty: each read gets one of them, since a

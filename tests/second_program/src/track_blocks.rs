@@ -1,9 +1,11 @@
 //! Made track blocks (ticket 3 of 02): sound ones, blocks at and past each limit, cut,
 //! too long or changed, that reach every refusal and try the order of the refusals;
-//! the flux of the standard track; and portions to hand values over in.
+//! the flux of the standard track, from a pulse on and as the device samples it, from the
+//! index on; and portions to hand values over in.
 
 mod broken_blocks;
 mod flux_blocks;
+mod index_blocks;
 mod random_blocks;
 mod sound_blocks;
 
@@ -15,6 +17,7 @@ use crate::track_block::{
 pub use flux_blocks::{
     odd_track_block, reported_revolution, standard_track_block, track_that_ends_in_a_one,
 };
+pub use index_blocks::{samplings, IndexPlace, Sampling, BETWEEN_SECTORS, IN_A_SECTOR};
 pub use random_blocks::{block_of_any_bytes, changed_block, mixed_block};
 pub use sound_blocks::{laid_out, overlapping_block, sound_block, Layout};
 
@@ -292,7 +295,7 @@ impl Cases {
 pub type BlockGroup = (&'static str, fn() -> Vec<BlockCase>);
 
 /// All groups. The same cases come each time.
-pub const GROUPS: [BlockGroup; 20] = [
+pub const GROUPS: [BlockGroup; 22] = [
     ("sound blocks", sound_blocks::sound_blocks),
     ("overlapping values", sound_blocks::overlapping_blocks),
     ("revolutions without values", sound_blocks::without_values),
@@ -322,6 +325,11 @@ pub const GROUPS: [BlockGroup; 20] = [
     ("any bytes", random_blocks::blocks_of_any_bytes),
     ("the standard track's flux", flux_blocks::flux_blocks),
     ("odd tracks", flux_blocks::odd_tracks),
+    (
+        "the standard track from the index on",
+        index_blocks::standard_tracks,
+    ),
+    ("odd tracks from the index on", index_blocks::odd_tracks),
 ];
 
 /// The cases of all groups, one group after the other; a group is made when its first

@@ -10,7 +10,7 @@ use crate::random::Random;
 use crate::track_builder::{odd_track, standard_track};
 
 /// The nanoseconds of a unit.
-const UNIT: i64 = 25;
+pub(super) const UNIT: i64 = 25;
 /// The nanoseconds between true places for each cell.
 const LEAST_FOR_A_CELL: i64 = 1_950;
 const MOST_FOR_A_CELL: i64 = 2_050;
@@ -55,10 +55,9 @@ fn distances(random: &mut Random, gaps: &[usize], choice: Choice) -> Vec<i64> {
     distances
 }
 
-/// One turn of a track's cells, the last of which is a one and whose ones stand 2, 3 or
-/// 4 cells apart, as a drive reports it: each pulse at a multiple of 25 ns that lies at
-/// most 250 ns from its true place. `choice` says how distances and shifts are chosen.
-pub fn reported_revolution(random: &mut Random, track_cells: &[u8], choice: Choice) -> FluxTrack {
+/// How many cells after the one before each one of a track stands. The last cell is a one,
+/// which the first one of the next turn comes after.
+pub(super) fn gaps_of(track_cells: &[u8]) -> Vec<usize> {
     let mut gaps = Vec::new();
     let mut gap = 0;
     for &cell in track_cells {
@@ -69,8 +68,15 @@ pub fn reported_revolution(random: &mut Random, track_cells: &[u8], choice: Choi
         }
     }
     assert_eq!(gap, 0, "the last cell is a one");
-    let distances = distances(random, &gaps, choice);
-    let true_places = flux_track_of(&gaps, &distances, &vec![0; gaps.len() + 1]).true_places;
+    gaps
+}
+
+/// Reversals so many cells apart as a drive reports them: each pulse at a multiple of
+/// 25 ns that lies at most 250 ns from its true place. `choice` says how distances and
+/// shifts are chosen.
+pub(super) fn reported_flux(random: &mut Random, gaps: &[usize], choice: Choice) -> FluxTrack {
+    let distances = distances(random, gaps, choice);
+    let true_places = flux_track_of(gaps, &distances, &vec![0; gaps.len() + 1]).true_places;
     let mut shifts = Vec::new();
     for true_place in true_places {
         // The least and the most multiple of 25 ns that lie near enough.
@@ -83,7 +89,13 @@ pub fn reported_revolution(random: &mut Random, track_cells: &[u8], choice: Choi
         };
         shifts.push(UNIT * pulse - true_place);
     }
-    flux_track_of(&gaps, &distances, &shifts)
+    flux_track_of(gaps, &distances, &shifts)
+}
+
+/// One turn of a track's cells as a drive reports it; the last cell is a one, and the ones
+/// stand 2, 3 or 4 cells apart.
+pub fn reported_revolution(random: &mut Random, track_cells: &[u8], choice: Choice) -> FluxTrack {
+    reported_flux(random, &gaps_of(track_cells), choice)
 }
 
 /// The block of so many turns of the standard track, each with shifts of its own.

@@ -22,12 +22,13 @@ fn any_revolution(random: &mut Random, revolutions: u32) -> u32 {
     }
 }
 
-/// A sound block with at most five revolutions, so that a mistake meets the chosen one
-/// often enough.
-fn small_block(random: &mut Random) -> BlockPlan {
+/// A sound block of 0 to 20 revolutions; every other one has 1 to 5, so that a mistake meets
+/// the chosen one often enough.
+fn block_to_break(random: &mut Random) -> BlockPlan {
+    let few = random.one_in(2);
     loop {
         let plan = sound_block(random.next_number());
-        if (1..=5).contains(&plan.revolutions()) {
+        if !few || (1..=5).contains(&plan.revolutions()) {
             return plan;
         }
     }
@@ -49,27 +50,29 @@ fn odd_number(random: &mut Random, plan: &BlockPlan) -> u32 {
 /// A block of mixed mistakes: none, one or several.
 pub fn mixed_block(seed: u64) -> BlockCase {
     let mut random = Random::new(seed);
-    let mut plan = small_block(&mut random);
+    let mut plan = block_to_break(&mut random);
     let mut revolutions = plan.revolutions();
     let mut name = format!("mixture of seed {seed}");
     if random.one_in(20) {
         plan.letters[random.below(3) as usize] = random.byte();
         name += ", a letter";
     }
+    // A table of many entries has hardly more mistakes than one of four.
+    let seldom = 16.max(4 * plan.entries.len() as u64);
     for index in 0..plan.entries.len() {
-        if random.one_in(16) {
+        if random.one_in(seldom) {
             plan.entries[index].offset = odd_number(&mut random, &plan);
             name += ", an offset";
         }
-        if random.one_in(16) {
+        if random.one_in(seldom) {
             plan.entries[index].count = odd_number(&mut random, &plan);
             name += ", a number of values";
         }
-        if random.one_in(16) {
+        if random.one_in(seldom) {
             plan.entries[index].count = 0;
             name += ", no values";
         }
-        if random.one_in(16) {
+        if random.one_in(seldom) {
             let entry = &mut plan.entries[index];
             entry.count = entry.count.saturating_sub(1);
             name += ", a value less";
@@ -98,7 +101,7 @@ pub fn mixed_block(seed: u64) -> BlockCase {
 /// or that is cut or made longer.
 pub fn changed_block(seed: u64) -> BlockCase {
     let mut random = Random::new(seed);
-    let plan = small_block(&mut random);
+    let plan = block_to_break(&mut random);
     let mut block = plan.bytes();
     for _ in 0..random.between(1, 3) {
         let first = if random.one_in(2) {
@@ -125,22 +128,32 @@ pub fn changed_block(seed: u64) -> BlockCase {
     case(name, block, revolutions, revolution)
 }
 
-/// A block of any bytes, which may begin as a track block does, and whose entries may
-/// lie in the block.
+/// A block of any bytes for 0 to 20 revolutions, which may begin as a track block does, and
+/// whose entries may lie in the block.
 pub fn block_of_any_bytes(seed: u64) -> BlockCase {
     let mut random = Random::new(seed);
-    let revolutions = random.below(5) as u32;
+    // Few for the most part: each entry that lies wrong is a 16.
+    let most = if random.one_in(3) { 20 } else { 4 };
+    let revolutions = random.below(most + 1) as u32;
     let mut block = Vec::new();
     if !random.one_in(8) {
         block.extend(b"TRK");
         block.push(random.byte());
     }
     if !random.one_in(4) {
+        // Low offsets and numbers, so that values lie in the block now and then.
+        let table_end = 4 + 12 * i64::from(revolutions);
+        let (most_values, least_offset) = if revolutions > 4 {
+            (1, table_end)
+        } else {
+            (5, table_end - 10)
+        };
         for _ in 0..revolutions {
-            // Low bytes alone, so that values lie in the block now and then.
+            let count = random.between(0, most_values) as u32;
+            let offset = random.between(least_offset, table_end + 60) as u32;
             block.extend([random.byte(), 0, 0, 0]);
-            block.extend([random.below(6) as u8, 0, 0, 0]);
-            block.extend([random.between(10, 110) as u8, 0, 0, 0]);
+            block.extend(count.to_le_bytes());
+            block.extend(offset.to_le_bytes());
         }
     }
     for _ in 0..random.below(80) {
@@ -163,4 +176,36 @@ pub(super) fn changed_blocks() -> Vec<BlockCase> {
 
 pub(super) fn blocks_of_any_bytes() -> Vec<BlockCase> {
     (0..3_000).map(block_of_any_bytes).collect()
+}
+
+#[cfg(test)]
+mod tests {
+    use super::*;
+    use crate::track_block::revolution_bytes;
+
+    #[test]
+    fn broken_blocks_have_0_to_20_revolutions() {
+        for (name, cases, most_taken) in [
+            ("mixed", mixed_blocks(), 20),
+            ("changed", changed_blocks(), 20),
+            ("any bytes", blocks_of_any_bytes(), 4),
+        ] {
+            let mut taken = [0; 23];
+            let mut refused = [0; 23];
+            for case in cases {
+                let counts = match revolution_bytes(&case.block, case.revolutions, case.revolution)
+                {
+                    Err(refusal) if refusal.number == 16 => &mut refused,
+                    _ => &mut taken,
+                };
+                counts[case.revolutions as usize] += 1;
+            }
+            for revolutions in 0..=20 {
+                assert!(refused[revolutions] >= 3, "{name}, 16 for {revolutions}");
+                if revolutions <= most_taken {
+                    assert!(taken[revolutions] >= 10, "{name}, {revolutions} taken");
+                }
+            }
+        }
+    }
 }
