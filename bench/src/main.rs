@@ -1,8 +1,8 @@
 //! Times the library and the program beside plain Rust of the second program: the same inputs, in the same run, both optimised.
 //!
 //! A row for each measurement, as a table in Markdown: what was done, the median time of one call of each in microseconds, and the ratio
-//! of the library to plain Rust (below 1: the library is quicker). Whole files go through a process each: the program, and this one with
-//! the argument `plain`, which lists by the second program. Run it with bench/run; docs/BENCHMARKS.md has a run.
+//! of the library to plain Rust (below 1: the library is quicker). Whole files and blocks go through a process each: the program, and this
+//! one with the argument `plain` or `plain-block`, which lists by the second program. Run it with bench/run; docs/BENCHMARKS.md has a run.
 
 mod revolution;
 mod search;
@@ -264,9 +264,30 @@ fn list_by(command: &mut Command, file: &Path) {
     assert!(status.success());
 }
 
+/// The path of a program that is built.
+fn built(name: &str) -> String {
+    format!("{}/../target/bin/{name}", env!("CARGO_MANIFEST_DIR"))
+}
+
+/// A whole block: the second of the standard track's two revolutions.
+fn whole_block() {
+    let program = built("scp_track");
+    let own = std::env::current_exe().expect("a path");
+    let path = std::env::temp_dir().join(format!("thikbromu-bench-{}.block", std::process::id()));
+    std::fs::write(&path, standard_track_block(1, 0, 0, 0xE5, 2).bytes()).expect("a block to list");
+    row(
+        "whole block through the program, standard track, two revolutions",
+        (21, 10),
+        Some((1, "blocks")),
+        || list_by(Command::new(&program).args(["2", "1", "0", "0"]), &path),
+        || list_by(Command::new(&own).arg("plain-block"), &path),
+    );
+    std::fs::remove_file(&path).expect("the block to list");
+}
+
 /// Whole files: of timings, and of more and fewer cells.
 fn whole_files() {
-    let program = concat!(env!("CARGO_MANIFEST_DIR"), "/../target/bin/track_listing");
+    let program = built("track_listing");
     let own = std::env::current_exe().expect("a path");
     let standard = standard_track(0, 0, 0xE5);
     let mut files = vec![("standard track as timings".to_string(), file_of_timings(0, 0, &timings_of_cells(&standard)))];
@@ -282,7 +303,7 @@ fn whole_files() {
             &format!("whole file through the program, {name}"),
             (21, 10),
             Some((1, "files")),
-            || list_by(&mut Command::new(program), &path),
+            || list_by(&mut Command::new(&program), &path),
             || list_by(Command::new(&own).arg("plain"), &path),
         );
     }
@@ -290,10 +311,11 @@ fn whole_files() {
 }
 
 fn main() {
-    if std::env::args().nth(1).as_deref() == Some("plain") {
-        let mut file = Vec::new();
-        std::io::stdin().read_to_end(&mut file).expect("standard input");
-        std::io::stdout().write_all(&listing(&file)).expect("standard output");
+    if let Some(mode) = std::env::args().nth(1) {
+        let mut input = Vec::new();
+        std::io::stdin().read_to_end(&mut input).expect("standard input");
+        let listed = if mode == "plain-block" { track_block::printed(&input, 2, 1, 0, 0) } else { listing(&input) };
+        std::io::stdout().write_all(&listed).expect("standard output");
         return;
     }
     println!("| what | library, us | plain Rust, us | ratio | library in a second |");
@@ -317,4 +339,5 @@ fn main() {
     let any: Vec<u8> = (0..12_500).map(|_| random.byte()).collect();
     listing_sectors("random cells", &any, 100_000);
     whole_files();
+    whole_block();
 }

@@ -1,5 +1,5 @@
-//! Reads one track of an Atari ST floppy disk, as flux timings or as MFM cells: its cells, its sectors with their check results, and a
-//! list of copy-protection findings.
+//! Reads one track of an Atari ST floppy disk, as flux timings, as MFM cells or as a track block of a SuperCard Pro image: its cells, its
+//! sectors with their check results, and a list of copy-protection findings.
 //!
 //! This is a thin, safe layer over the verified library. "01" in these pages is its scope paper, `docs/01-scope.md`, and "02" the paper of
 //! later requests, whose ticket 3 adds [track blocks](TrackBlock). Each function gives what they say, or one of the [refusals](Refusal),

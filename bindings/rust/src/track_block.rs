@@ -11,10 +11,11 @@ use crate::track::MOST_CELL_BYTES;
 ///
 /// Nothing is judged when it is made. The calls on a revolution, which is counted from 0, judge the block and refuse
 /// [`NotATrackBlock`](Refusal::NotATrackBlock) exactly where the letters are not TRK, the table is cut short, or the values of some
-/// revolution, this one or another, start inside the table, end beyond the block (both judged by its offset where it has none) or end in
-/// a 0; then [`NoSuchRevolution`](Refusal::NoSuchRevolution), [`NoTimings`](Refusal::NoTimings),
+/// revolution, this one or another, start before the table's end, end beyond the block (both judged by its offset where it has none) or end
+/// in a 0; then [`NoSuchRevolution`](Refusal::NoSuchRevolution), [`NoTimings`](Refusal::NoTimings),
 /// [`TooManyTimings`](Refusal::TooManyTimings) and [`TimingOutOfRange`](Refusal::TimingOutOfRange), in this order, before what they name
-/// themselves. The first values of a later revolution are not joined to the one before.
+/// themselves. The first values of a later revolution are not joined to the one before. In an image that the device writes, the first value of
+/// revolution 0 runs from the index and not from a flux transition: its cells at the index may be wrong.
 ///
 /// One revolution of three values, which stand at byte 16, where the table ends:
 ///
