@@ -17,8 +17,13 @@ ghost use Rattle.listing.specs.Listing.{outAfter};
 ghost use Rattle.scp_track.specs.Arguments.{isDigit, argumentOf};
 ghost use Rattle.scp_track.specs.BlockListing.{roomForCells, blockListing, inputListing, ListedBlock};
 
-// Room for a block: 31 revolutions with 65,536 values each.
-const ROOM: usize = 4_194_304;
+// Room for a usual block: up to five revolutions, each with some 50,000 values. The longest, as 31 revolutions with 65,536 values each, gets a
+// room of its own only where it is needed: a program pays for each page of its room, and most blocks are short.
+const USUAL_REVOLUTIONS: u8 = 5;
+
+const USUAL_ROOM: usize = 524_288;
+
+const LONGEST_ROOM: usize = 4_194_304;
 
 // One argument: a number from 0 to 255, or anything else.
 enum Argument {
@@ -156,11 +161,13 @@ fn read_once(room: &mut [u8]) -> Input
     }
 }
 
-// Reads the block. A read that fails is not tried again: after a connection that was reset, the next one would tell of an end.
-fn read_block(block: &mut [u8]) -> Input
+// Reads on after the first `from` bytes of the block, to the end of the input or of the room. A read that fails is not tried again: after a
+// connection that was reset, the next one would tell of an end.
+fn read_block(block: &mut [u8], from: usize) -> Input
+    requires { ⌜ from ≤ length (now block) ⌝ }
     ensures { λ r. ⌜ r .count ≤ length (now (block .exit)) ⌝ }
 {
-    let mut count: usize = 0;
+    let mut count = from;
     while count < block.len() {
         let more = read_once(&mut block[count..]);
         if more.count == 0 {
@@ -171,12 +178,20 @@ fn read_block(block: &mut [u8]) -> Input
         }
         count += more.count;
     }
-    let mut beyond = [0u8; 1];
-    let last = read_once(&mut beyond);
     Input {
         count,
-        ended: last.ended,
+        ended: false,
     }
+}
+
+// Whether an input of which this was read ended there. Where the room is full, one read more tells.
+fn ended_after(input: Input, room: usize) -> bool {
+    if input.count < room {
+        return input.ended;
+    }
+    let mut beyond = [0u8; 1];
+    let last = read_once(&mut beyond);
+    last.ended
 }
 
 // What is to be written of an input of which these bytes were read, and which ended there or not.
@@ -198,23 +213,91 @@ fn list_read(choice: Choice, block: &[u8], ended: bool, out: &mut [u8]) -> usize
     0
 }
 
-// Reads the block, by way of `block`, and puts its listing at the front of `out`; the answer is the number of its bytes. It is 0 where the
-// input cannot be read to its end, or has more bytes than there is room for: there is nothing to write then.
-fn list_input(choice: Choice, block: &mut [u8], out: &mut [u8]) -> usize
+// Reads the block and puts its listing at the front of `out`; the answer is the number of its bytes. It is 0 where the input cannot be read to
+// its end, or has more bytes than the longest room: there is nothing to write then. A block of more revolutions than usual gets that at once.
+fn list_input(choice: Choice, out: &mut [u8]) -> usize
     ensures few { λ r. ⌜ r ≤ 65536 ⌝ }
-    ensures listing { λ r. ⌜ ListedBlock (choice .revolutions) (choice .revolution) (choice .track) (choice .side) (now (block .exit)) (now (out .entry)) r (now (out .exit)) ⌝ }
+    ensures listing { λ r. ⌜ ListedBlock (choice .revolutions) (choice .revolution) (choice .track) (choice .side) (now (out .entry)) r (now (out .exit)) ⌝ }
 {
-    let input = read_block(block);
-    let count = input.count;
-    list_read(choice, &block[..count], input.ended, out)
+    if USUAL_REVOLUTIONS < choice.revolutions {
+        let none = [0u8; 1];
+        return list_longer(choice, &none[..0], out);
+    }
+    list_usual(choice, out)
 }
 
-// As list_input, in an array. `main` does not lend it as a slice itself: the length of an array so large is not computed in a proof.
-fn list_input_in(choice: Choice, block: &mut [u8; ROOM], out: &mut [u8]) -> usize
+fn list_usual(choice: Choice, out: &mut [u8]) -> usize
     ensures few { λ r. ⌜ r ≤ 65536 ⌝ }
-    ensures listing { λ r. ⌜ ListedBlock (choice .revolutions) (choice .revolution) (choice .track) (choice .side) (now (block .exit)) (now (out .entry)) r (now (out .exit)) ⌝ }
+    ensures listing { λ r. ⌜ ListedBlock (choice .revolutions) (choice .revolution) (choice .track) (choice .side) (now (out .entry)) r (now (out .exit)) ⌝ }
 {
-    list_input(choice, block, out)
+    let mut block = [0u8; USUAL_ROOM];
+    list_usual_in(choice, &mut block, out)
+}
+
+// An array so large is not lent as a slice where it is made: its length is not computed in a proof.
+fn list_usual_in(choice: Choice, block: &mut [u8; USUAL_ROOM], out: &mut [u8]) -> usize
+    ensures few { λ r. ⌜ r ≤ 65536 ⌝ }
+    ensures listing { λ r. ⌜ ListedBlock (choice .revolutions) (choice .revolution) (choice .track) (choice .side) (now (out .entry)) r (now (out .exit)) ⌝ }
+{
+    read_first(choice, block, out)
+}
+
+// Reads the block, as far as it fits the usual room; a longer one goes on in the longest.
+fn read_first(choice: Choice, block: &mut [u8], out: &mut [u8]) -> usize
+    ensures few { λ r. ⌜ r ≤ 65536 ⌝ }
+    ensures listing { λ r. ⌜ ListedBlock (choice .revolutions) (choice .revolution) (choice .track) (choice .side) (now (out .entry)) r (now (out .exit)) ⌝ }
+{
+    let input = read_block(block, 0);
+    let count = input.count;
+    if count < block.len() {
+        return list_read(choice, &block[..count], input.ended, out);
+    }
+    list_longer(choice, block, out)
+}
+
+// Lists a block of which these bytes, none or those that filled the usual room, are read.
+fn list_longer(choice: Choice, front: &[u8], out: &mut [u8]) -> usize
+    ensures few { λ r. ⌜ r ≤ 65536 ⌝ }
+    ensures listing { λ r. ⌜ ListedBlock (choice .revolutions) (choice .revolution) (choice .track) (choice .side) (now (out .entry)) r (now (out .exit)) ⌝ }
+{
+    let mut block = [0u8; LONGEST_ROOM];
+    list_longer_in(choice, front, &mut block, out)
+}
+
+fn list_longer_in(
+    choice: Choice,
+    front: &[u8],
+    block: &mut [u8; LONGEST_ROOM],
+    out: &mut [u8],
+) -> usize
+    ensures few { λ r. ⌜ r ≤ 65536 ⌝ }
+    ensures listing { λ r. ⌜ ListedBlock (choice .revolutions) (choice .revolution) (choice .track) (choice .side) (now (out .entry)) r (now (out .exit)) ⌝ }
+{
+    read_on(choice, front, block, out)
+}
+
+fn read_on(choice: Choice, front: &[u8], block: &mut [u8], out: &mut [u8]) -> usize
+    ensures few { λ r. ⌜ r ≤ 65536 ⌝ }
+    ensures listing { λ r. ⌜ ListedBlock (choice .revolutions) (choice .revolution) (choice .track) (choice .side) (now (out .entry)) r (now (out .exit)) ⌝ }
+{
+    let from = copy_front(front, block);
+    let input = read_block(block, from);
+    let count = input.count;
+    let ended = ended_after(input, block.len());
+    list_read(choice, &block[..count], ended, out)
+}
+
+// Copies bytes to the front of the room, as many as it holds, and tells how many.
+fn copy_front(front: &[u8], block: &mut [u8]) -> usize
+    ensures { λ r. ⌜ r ≤ length (now (block .exit)) ⌝ }
+{
+    let count = basis::smaller(block.len(), front.len());
+    let mut i: usize = 0;
+    while i < count {
+        block[i] = front[i];
+        i += 1;
+    }
+    count
 }
 
 fn main() {
@@ -226,9 +309,8 @@ fn main() {
         );
         return;
     }
-    let mut block = [0u8; ROOM];
     let mut out = io::large_buffer();
-    let count = list_input_in(choice, &mut block, &mut out);
+    let count = list_input(choice, &mut out);
     if count == 0 {
         io::write_all(
             STDERR_FILENO,

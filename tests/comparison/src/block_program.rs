@@ -211,6 +211,9 @@ pub fn failing_inputs(totals: &mut (usize, usize)) {
         ("two revolutions", two_revolutions(), [2, 1, 5, 1]),
         ("the standard track", standard_track_block(16, 0, 0, 0xE5, 2).bytes(), [2, 1, 0, 0]),
         ("a block of 300,001 bytes", block_of_length(300_001).bytes(), [1, 0, 80, 0]),
+        // Where the program's usual room is full.
+        ("a block of 524,288 bytes", block_of_length(524_288).bytes(), [1, 0, 5, 0]),
+        ("a block of 524,289 bytes", block_of_length(524_289).bytes(), [1, 0, 5, 0]),
         ("the longest block", block_of_length(LONGEST_BLOCK).bytes(), [1, 0, 5, 0]),
     ] {
         let mut places = vec![0, 1, 3, 4, block.len() - 1, block.len()];

@@ -21,11 +21,11 @@ returns c = search needs
 large-buffer-requires : tie.Need-large-buffer-requires
 large-buffer-requires c κs = search needs
 
-slice-aggregate-list-input-in : tie.Need-slice-aggregate-list-input-in
-slice-aggregate-list-input-in c = search needs
+slice-aggregate-list-input : tie.Need-slice-aggregate-list-input
+slice-aggregate-list-input c = search needs
 
-list-input-in-requires : tie.Need-list-input-in-requires
-list-input-in-requires c κs = search needs
+list-input-requires : tie.Need-list-input-requires
+list-input-requires c κs = search needs
 
 slice-aggregate-write-all-2 : tie.Need-slice-aggregate-write-all-2
 slice-aggregate-write-all-2 c = search needs
@@ -41,8 +41,8 @@ array-share-prefix-out c = search needs
 
 slice-aggregate-write-all-3 : tie.Need-slice-aggregate-write-all-3
 slice-aggregate-write-all-3 c =
-    let l = c .before .before .before .list-input-in in
-    sym (length-take-le _ _ (omega (arith, l .kept .1 .1 .0, l .ensures .0, c .before .before .before .before .before .before .large-buffer .ensures)))
+    let l = c .before .before .before .list-input in
+    sym (length-take-le _ _ (omega (arith, l .kept, l .ensures .0, c .before .before .before .before .before .large-buffer .ensures)))
 
 write-all-requires-3 : tie.Need-write-all-requires-3
 write-all-requires-3 c κs = search needs
@@ -59,8 +59,8 @@ main-spec =
     write-all-requires
     returns
     large-buffer-requires
-    slice-aggregate-list-input-in
-    list-input-in-requires
+    slice-aggregate-list-input
+    list-input-requires
     slice-aggregate-write-all-2
     write-all-requires-2
     returns-2

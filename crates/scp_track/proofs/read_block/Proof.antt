@@ -21,10 +21,10 @@ module _ (block part : List ℕ) (count : ℕ) (h : count ≤ length block) (kep
       omega (arith, kept, length-take-le (length block - count) (drop count block) (omega (arith, d)))
 
 abbrev Inv-loop : tie.InvT-loop
-Inv-loop block₀ count₀ block count = (count ≤ length block) × (length block ≡ length block₀)
+Inv-loop block₀ from count₀ block count = (count ≤ length block) × (length block ≡ length block₀)
 
 abbrev μ-loop : tie.MeasureT-loop
-μ-loop block₀ count₀ block count = length block₀ - count
+μ-loop block₀ from count₀ block count = length block₀ - count
 
 loop-holds : tie.Need-loop-holds Inv-loop μ-loop
 loop-holds c = search needs
@@ -67,17 +67,11 @@ loop-again c =
     let long = as-long (l .block) (c .before .before .before .before .before .read-once .last .0) (l .count) (l .inv .0) (c .before .before .before .before .before .read-once .kept .0) in
     (omega (arith, long, within (l .block) (c .before .before .before .before .before .read-once .last .0) (l .count) (l .inv .0) (c .before .before .before .before .before .read-once .kept .0) (c .before .before .before .before .before .read-once .ensures)), long ∙ l .inv .1)
 
-slice-aggregate-read-once : tie.Need-slice-aggregate-read-once Inv-loop μ-loop
-slice-aggregate-read-once c = search needs
-
-read-once-requires-2 : tie.Need-read-once-requires-2 Inv-loop μ-loop
-read-once-requires-2 c κs = search needs
-
 same-length-2 : tie.Need-same-length-2 Inv-loop μ-loop
-same-length-2 c = c .before .before .before .before .loop .inv .1
+same-length-2 c = c .before .loop .inv .1
 
 returns-2 : tie.Need-returns-2 Inv-loop μ-loop
-returns-2 c = c .before .before .before .before .loop .inv .0
+returns-2 c = c .before .loop .inv .0
 
 pub read-block-spec : {M : Type 1} → statement M
 read-block-spec =
@@ -95,7 +89,5 @@ read-block-spec =
     add-count
     loop-less
     loop-again
-    slice-aggregate-read-once
-    read-once-requires-2
     same-length-2
     returns-2)
