@@ -1,4 +1,4 @@
--- 02, ticket 3: one track block of a SuperCard Pro image, as a whole.
+-- 02, ticket 3 (docs/changes/03-supercard-pro.md has its text): one track block of a SuperCard Pro image, as a whole.
 --
 --   letters    track number    table: for each revolution                                          values
 --   T R K      1 byte          index time       number of values      offset from block's start    2 bytes each, high byte first

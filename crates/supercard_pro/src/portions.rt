@@ -57,11 +57,11 @@ impl RevolutionReader {
             return refused(self, Refusal::NoRoom(count));
         }
         pass(unfinished, portion, timings);
-        let next = seen.unfinished;
+        let left = seen.unfinished;
         TakenPortion {
             given: Given::Timings(count),
             next: RevolutionReader {
-                unfinished: next,
+                unfinished: left,
                 timings: (before + count) as u32,
             },
         }
