@@ -186,7 +186,7 @@ uint32_t thikbromu_histogram(const uint32_t *timings, size_t length, uint32_t *c
  * values, their offset from the block's start, each 32 bits, low byte first), then values of 16 bits, high byte first, in units of 25 ns.
  * A value of 0 adds 65,536 to the next. `revolutions` is their number, from the image's header; `revolution` is the chosen one, from 0. The
  * first values of a later revolution are not joined to the one before. The track number and the index times are not looked at. In an image
- * that the device writes, the first value of revolution 0 runs from the index and not from a flux transition.
+ * that the device writes, revolution 0 begins at the index, and not at a flux transition: its cells there may be wrong.
  *
  * 16 is given exactly where the letters are not TRK, the table is cut short, or the values of some revolution, the chosen one or another,
  * start before the table's end, end beyond the block (both judged by its offset where it has none) or end in a 0.
@@ -200,7 +200,7 @@ uint32_t thikbromu_revolution_timings(const uint8_t *block, size_t length, uint3
 /* The same by portions: the bytes of one revolution's values are handed over in their order, cut between any two of them, and each call
  * gives the timings that end in its portion. Where nothing is refused, the timings in all are those of the whole revolution. Refuses 7, 8,
  * both counted from the revolution's start, and 10, with the timings that end in this portion; the state is then kept, so that the portion
- * may be handed over again. No portion is the last, so none is refused with 6 or 16: zeros at the end of a revolution, and half a value there,
+ * may be handed over again. No portion is the last, so none is refused with 6, 16 or 17: zeros at the end of a revolution, and half a value there,
  * give nothing, where thikbromu_revolution_timings refuses the block.
  *
  * The state is one number, which the caller keeps from call to call; it is 0 before the first portion. Calls leave the numbers

@@ -1,4 +1,4 @@
-//! Times the library and the program beside plain Rust of the second program: the same inputs, in the same run, both optimised.
+//! Times the library and the programs beside plain Rust of the second program: the same inputs, in the same run, both optimised.
 //!
 //! A row for each measurement, as a table in Markdown: what was done, the median time of one call of each in microseconds, and the ratio
 //! of the library to plain Rust (below 1: the library is quicker). Whole files and blocks go through a process each: the program, and this

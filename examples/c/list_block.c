@@ -17,15 +17,17 @@ int main(int count, char **arguments)
     static uint8_t listing[THIKBROMU_LONGEST_LISTING];
     uint32_t numbers[4];
 
-    if (count != 5) {
-        fprintf(stderr, "usage: list_block REVOLUTIONS REVOLUTION TRACK SIDE < BLOCK\n");
-        return 2;
-    }
     for (int i = 0; i < 4; i++) {
-        numbers[i] = (uint32_t)strtoul(arguments[i + 1], NULL, 10);
+        char *end = "";
+        unsigned long number = count == 5 ? strtoul(arguments[i + 1], &end, 10) : 256;
+        if (number > 255 || *end != '\0' || end == arguments[i + 1]) {
+            fprintf(stderr, "usage: list_block REVOLUTIONS REVOLUTION TRACK SIDE < BLOCK, each number up to 255\n");
+            return 2;
+        }
+        numbers[i] = (uint32_t)number;
     }
     size_t length = fread(block, 1, sizeof block, stdin);
-    if (ferror(stdin) || fgetc(stdin) != EOF) {
+    if (fgetc(stdin) != EOF || ferror(stdin)) {
         fprintf(stderr, "list_block: the block cannot be read to its end, or is too long\n");
         return 1;
     }

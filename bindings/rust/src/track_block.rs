@@ -14,8 +14,8 @@ use crate::track::MOST_CELL_BYTES;
 /// revolution, this one or another, start before the table's end, end beyond the block (both judged by its offset where it has none) or end
 /// in a 0; then [`NoSuchRevolution`](Refusal::NoSuchRevolution), [`NoTimings`](Refusal::NoTimings),
 /// [`TooManyTimings`](Refusal::TooManyTimings) and [`TimingOutOfRange`](Refusal::TimingOutOfRange), in this order, before what they name
-/// themselves. The first values of a later revolution are not joined to the one before. In an image that the device writes, the first value of
-/// revolution 0 runs from the index and not from a flux transition: its cells at the index may be wrong.
+/// themselves. The first values of a later revolution are not joined to the one before. In an image that the device writes, revolution 0
+/// begins at the index, and not at a flux transition: its cells there may be wrong.
 ///
 /// One revolution of three values, which stand at byte 16, where the table ends:
 ///
@@ -123,7 +123,8 @@ impl RevolutionReader {
     }
 
     /// Takes a portion: the timings that end in it go to the front of `timings`, and those behind keep their contents. Where nothing is
-    /// refused, the timings of all portions are those of the whole revolution.
+    /// refused, the timings of all portions are those of the whole revolution. No portion is the last, so none is refused with 6, 16 or 17:
+    /// zeros at the end of a revolution, and half a value there, give nothing.
     ///
     /// Refuses [`TooManyTimings`](Refusal::TooManyTimings), [`TimingOutOfRange`](Refusal::TimingOutOfRange), both counted from the
     /// revolution's start, [`NoRoom`](Refusal::NoRoom) with the timings that end in this portion. The list is then kept.

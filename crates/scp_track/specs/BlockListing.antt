@@ -31,8 +31,8 @@ unfoldable pub inputListing : Bool → (block : List ℕ) (revolutions k T H : �
 inputListing ended block revolutions k T H = cond ended (blockListing block revolutions k T H) []
 
 -- there are bytes, and a yes or no, of which the listing stands at the front of `out`; the answer is the number of its bytes. That they are
--- the bytes that were read, and whether the input ended there, is seen in the code of `read_once`, `read_block` and `read_on`: the contract of
--- the system's `read` does not say which bytes it brings. A program that reads nothing meets this too
+-- the bytes that were read, and whether the input ended there, is seen in the code from `read_once` to `copy_front`: the contract of the
+-- system's `read` does not say which bytes it brings. A program that reads nothing meets this too
 pub record ListedBlock (revolutions k T H : ℕ) (before : List ℕ) (answer : ℕ) (out : List ℕ) : Type 0 where
   pub block : List ℕ
   pub ended : Bool

@@ -1,5 +1,5 @@
 // Reads a track block of a SuperCard Pro image from standard input, and writes the listing that the track file with the timings of one of
-// its revolutions would give, or "refused" and a number, to standard output. It does nothing else.
+// its revolutions would give, or "refused" and a number, to standard output. The input is read as a stream of bytes.
 //
 //     scp_track REVOLUTIONS REVOLUTION TRACK SIDE < BLOCK
 //

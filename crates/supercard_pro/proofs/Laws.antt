@@ -7,12 +7,13 @@
 --   as-whole-call    "where nothing is refused, the timings in all are the same" as the whole call's, on a list with room for them
 --   whole-in-one     where the whole call is accepted, so is one portion with all bytes, with the same answer and the same list
 --   in-any-portions  where the whole call is accepted, so is each portion of any cut, given room for its own timings
+--   all-portions     so the portions of any cut are accepted one after another, and give the timings that the whole call gives
 --
 -- Assumes nothing.
 use Prim.Native.Nat.{ℕ, zero, suc, _+_, _≤_, _<_, min}
 use mathlib.Core.Path.{_≡_, refl, sym, _∙_, ap, subst}
 use mathlib.Core.Bool.{Bool, true, false, cond, _&&_}
-use mathlib.Core.List.{List, [], _∷_, _++_}
+use mathlib.Core.List.{List, [], _∷_, _++_, append-assoc, append-nil}
 use native.Mathlib.Decide.{decLe}
 use native.Mathlib.Nat.{add-zero, lt-of-not-le, min-eq-left}
 use native.Mathlib.Numerals.{add-one}
@@ -26,7 +27,7 @@ use Rattle.flux.specs.Separation.{firstOut}
 use Rattle.flux.proofs.Judging.{no-timings, timings-accepted}
 use Rattle.refusals.specs.RefusedCalls.{Answer, bufferAfter}
 use Rattle.refusals.specs.RefusedCalls.Answer.{gives, refused}
-use Rattle.supercard_pro.specs.TrackBlock.{valueBytes, revolutionTimings, notATrackBlock, blockJudged, roomJudged, blockAnswer, blockTimings}
+use Rattle.supercard_pro.specs.TrackBlock.{valueBytes, timingsIn, revolutionTimings, notATrackBlock, blockJudged, roomJudged, blockAnswer, blockTimings}
 use Rattle.supercard_pro.specs.Portions.{unfinishedAfterValue, timingsOfValue, unfinishedAfter, timingsEnding, freshReader, isLeftByCalls, usableReader, portionJudged, portionTimings, portionAnswer, readerLeft, portionReader, portionList, Calls}
 use Rattle.supercard_pro.specs.Portions.Calls.{none, more}
 use Rattle.supercard_pro.specs.PrivateContracts.{between}
@@ -138,6 +139,29 @@ pub record InOne (block : List ℕ) (revolutions k : ℕ) (list : List ℕ) (cou
   pub answer : portionAnswer freshReader (valueBytes block k) (length list) ≡ gives count
   pub written : portionList freshReader (valueBytes block k) list ≡ blockTimings block revolutions k list
 
+-- the bytes of portions, one after another
+abbrev pub allBytes : List (List ℕ) → List ℕ
+allBytes [] = []
+allBytes (portion ∷ portions) = portion ++ allBytes portions
+
+-- each of some portions in turn is accepted, with room for just its timings; and all timings that they give
+abbrev pub EachTaken : RevolutionReader → List (List ℕ) → Type 0
+EachTaken reader [] = Unit
+EachTaken reader (portion ∷ portions) =
+    (portionAnswer reader portion (length (portionTimings reader portion)) ≡ gives (length (portionTimings reader portion)))
+    × EachTaken (portionReader reader portion (length (portionTimings reader portion))) portions
+
+abbrev pub timingsThrough : RevolutionReader → List (List ℕ) → List ℕ
+timingsThrough reader [] = []
+timingsThrough reader (portion ∷ portions) =
+    portionTimings reader portion ++ timingsThrough (portionReader reader portion (length (portionTimings reader portion))) portions
+
+-- what calls gave is the timings of their bytes
+given-same : {reader : RevolutionReader} {bytes given : List ℕ} → Calls reader bytes given → given ≡ timingsIn bytes
+given-same {bytes = bytes} calls =
+    let b = behind-calls calls in
+    b .given-is ∙ alike-same (from-start bytes) (subst (λ (l : List ℕ). firstOut l ≡ length l) (b .given-is) (b .all-in))
+
 module _ (block : List ℕ) (revolutions k : ℕ) where
   -- a revolution that the block has, whose timings are these
   module _ (block-is : notATrackBlock block revolutions ≡ false) (has : k < revolutions) {ts : List ℕ} (is : ts ≡ revolutionTimings block k) where
@@ -153,8 +177,7 @@ module _ (block : List ℕ) (revolutions k : ℕ) where
   unfolding bufferAfter
   as-whole-call block-is has {reader} {given} calls =
       let b = behind-calls calls in
-      let same : given ≡ revolutionTimings block k
-      = b .given-is ∙ alike-same (from-start (valueBytes block k)) (subst (λ (l : List ℕ). firstOut l ≡ length l) (b .given-is) (b .all-in)) in
+      let same : given ≡ revolutionTimings block k = given-same calls in
       let few : length given ≤ 65536 = omega (arith, b .few-timings, counted calls) in
       record {
         same = same;
@@ -215,3 +238,19 @@ module _ (block : List ℕ) (revolutions k : ℕ) where
       go : (xs ys : List ℕ) → firstOut (xs ++ ys) ≡ length xs + length ys → Dec (length xs ≤ firstOut xs) → length xs ≤ firstOut xs
       go xs ys o (yes h) = h
       go xs ys o (no h) = absurd (omega (arith, o, lt-of-not-le h, out-some xs ys (lt-of-not-le h)))
+
+  -- the portions in `cut` are still to come
+  onward : (list : List ℕ) (count : ℕ) → blockAnswer block revolutions k (length list) ≡ gives count → {reader : RevolutionReader} {bytes given : List ℕ}
+      → Calls reader bytes given → (cut : List (List ℕ)) → bytes ++ allBytes cut ≡ valueBytes block k
+      → EachTaken reader cut × (given ++ timingsThrough reader cut ≡ revolutionTimings block k)
+  onward list count e {reader} {bytes} {given} calls [] whole =
+      (tt, append-nil given ∙ given-same calls ∙ ap timingsIn (sym (append-nil bytes) ∙ whole))
+  onward list count e {reader} {bytes} {given} calls (portion ∷ cut) whole =
+      let ts = portionTimings reader portion in
+      let answer = in-any-portions list count e calls portion (allBytes cut) whole (length ts) (omega arith) in
+      let next = onward list count e (more portion (length ts) (length ts) calls answer) cut (append-assoc bytes portion (allBytes cut) ∙ whole) in
+      ((answer, next .0), sym (append-assoc given ts (timingsThrough (portionReader reader portion (length ts)) cut)) ∙ next .1)
+
+  pub all-portions : (list : List ℕ) (count : ℕ) → blockAnswer block revolutions k (length list) ≡ gives count → (cut : List (List ℕ)) → allBytes cut ≡ valueBytes block k
+      → EachTaken freshReader cut × (timingsThrough freshReader cut ≡ revolutionTimings block k)
+  all-portions list count e cut whole = onward list count e none cut whole

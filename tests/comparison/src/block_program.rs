@@ -209,6 +209,8 @@ pub fn failing_inputs(totals: &mut (usize, usize)) {
     let mut random = Random::new(76);
     for (name, block, numbers) in [
         ("two revolutions", two_revolutions(), [2, 1, 5, 1]),
+        // More than five get the program's longest room at once.
+        ("six revolutions", standard_track_block(17, 0, 0, 0xE5, 6).bytes(), [6, 5, 0, 0]),
         ("the standard track", standard_track_block(16, 0, 0, 0xE5, 2).bytes(), [2, 1, 0, 0]),
         ("a block of 300,001 bytes", block_of_length(300_001).bytes(), [1, 0, 80, 0]),
         // Where the program's usual room is full.
@@ -248,12 +250,13 @@ pub fn failing_inputs(totals: &mut (usize, usize)) {
         for more in [0, 1, 65_536, LONGEST_BLOCK] {
             let given = || format!("values to {length}, {left_over} left over, {more} more");
             let block = [plan.bytes(), vec![0; more]].concat();
-            let numbers = [1, 0, 5, 0];
-            let output = left_after_pipe(program_that_may_fail(numbers), &block);
-            if block.len() > LONGEST_BLOCK {
-                not_listed(&mut group, &output, given);
-            } else {
-                listed_alone(&mut group, &output, &expected(&block, numbers), given);
+            for numbers in [[1, 0, 5, 0], [6, 0, 5, 0]] {
+                let output = left_after_pipe(program_that_may_fail(numbers), &block);
+                if block.len() > LONGEST_BLOCK {
+                    not_listed(&mut group, &output, given);
+                } else {
+                    listed_alone(&mut group, &output, &expected(&block, numbers), given);
+                }
             }
         }
     }

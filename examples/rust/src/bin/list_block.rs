@@ -8,15 +8,15 @@ use std::io::{self, Read, Write};
 use thikbromu::TrackBlock;
 
 fn main() -> io::Result<()> {
-    let numbers: Vec<u32> = std::env::args().skip(1).filter_map(|argument| argument.parse().ok()).collect();
-    let [revolutions, revolution, track, side] = numbers[..] else {
-        eprintln!("usage: list_block REVOLUTIONS REVOLUTION TRACK SIDE < BLOCK");
+    let numbers: Result<Vec<u8>, _> = std::env::args().skip(1).map(|argument| argument.parse()).collect();
+    let Ok(&[revolutions, revolution, track, side]) = numbers.as_deref() else {
+        eprintln!("usage: list_block REVOLUTIONS REVOLUTION TRACK SIDE < BLOCK, each number up to 255");
         std::process::exit(2);
     };
     let mut block = Vec::new();
     io::stdin().read_to_end(&mut block)?;
-    let listing = match TrackBlock::new(&block, revolutions).cells(revolution) {
-        Ok(cells) => cells.track(track, side).listing(),
+    let listing = match TrackBlock::new(&block, revolutions.into()).cells(revolution.into()) {
+        Ok(cells) => cells.track(track.into(), side.into()).listing(),
         Err(refusal) => format!("refused {}\n", refusal.number()),
     };
     io::stdout().write_all(listing.as_bytes())

@@ -1,8 +1,9 @@
 //! Blocks as the device writes them. "The sampling of transitions always starts at the
 //! index pulse" (source document 000, section 4.9.2), and "in (almost) all cases the index
-//! pulse and the data pulse are not synchronized": so the first value of revolution 0 runs
-//! from the index to the first flux transition, which is no time between two of them, and
-//! the first value of each later revolution is the whole interval over the index.
+//! pulse and the data pulse are not synchronized". We read this so that the first value of
+//! revolution 0 runs from the index to the first flux transition, which is no time between
+//! two of them. The first value of each later revolution is the whole interval over the
+//! index.
 
 use super::flux_blocks::{gaps_of, reported_flux, UNIT};
 use super::{block_of_timings, track_that_ends_in_a_one, BlockCase, BlockPlan, Cases};
@@ -369,8 +370,9 @@ mod tests {
             jitter: None,
             revolutions: 2,
         };
-        // "The No Flux Area is just not transmitted on the first rotation. On the second
-        // revolution the NFA is passed as if it was the first transition."
+        // ".. the No Flux Area is just not transmitted on the first rotation", here but for
+        // one unit. "On the second revolution the NFA is passed as if it was the first
+        // transition."
         let plan = sampling.block(&mut Random::new(93), &track_with_no_flux_area(2_150));
         assert_eq!(timings_of(&plan, 0)[0], 25);
         assert!((4_300_000..4_310_000).contains(&timings_of(&plan, 1)[0]));
