@@ -4,7 +4,7 @@ use Prim.Native.Nat.{ℕ}
 use mathlib.Core.Path.{_≡_}
 use mathlib.Core.Bool.{Bool, cond}
 use mathlib.Core.List.{List, []}
-use lib.ListN.{length, replicate}
+use lib.ListN.{length, take, replicate}
 use Rattle.listing.specs.Listing.{refusedLine, outAfter}
 use Rattle.listing.specs.ListingOfFile.{fileListing}
 use Rattle.refusals.specs.RefusedCalls.{Answer}
@@ -30,11 +30,13 @@ blockListing block revolutions k T H = printedBlock (blockAnswer block revolutio
 unfoldable pub inputListing : Bool → (block : List ℕ) (revolutions k T H : ℕ) → List ℕ
 inputListing ended block revolutions k T H = cond ended (blockListing block revolutions k T H) []
 
--- there are bytes, and a yes or no, of which the listing stands at the front of `out`; the answer is the number of its bytes. That they are
--- the bytes that were read, and whether the input ended there, is seen in the code from `read_once` to `copy_front`: the contract of the
--- system's `read` does not say which bytes it brings. A program that reads nothing meets this too
-pub record ListedBlock (revolutions k T H : ℕ) (before : List ℕ) (answer : ℕ) (out : List ℕ) : Type 0 where
+-- there are bytes, and a yes or no, of which the listing stands at the front of `out`; the answer is the number of its bytes. They begin with
+-- `front`, as far as both go: the bytes of which is known already that they were read. That the others were read, and whether the input ended
+-- there, is seen in the code of `read_once`, `read_block` and `ended_after`: the contract of the system's `read` does not say which bytes it
+-- brings. A program that reads nothing meets this too
+pub record ListedBlock (revolutions k T H : ℕ) (front before : List ℕ) (answer : ℕ) (out : List ℕ) : Type 0 where
   pub block : List ℕ
+  pub begins : take (length front) block ≡ take (length block) front
   pub ended : Bool
   pub answer-is : answer ≡ length (inputListing ended block revolutions k T H)
   pub out-is : out ≡ outAfter (inputListing ended block revolutions k T H) before

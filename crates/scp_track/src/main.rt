@@ -11,8 +11,9 @@ use libc::STDERR_FILENO;
 use libc::STDIN_FILENO;
 use libc::STDOUT_FILENO;
 ghost use mathlib.Core.Path.{_≡_};
-ghost use Prim.Native.Nat.{_≤_};
-ghost use lib.ListN.{length};
+ghost use Prim.Native.Nat.{_≤_, min};
+ghost use mathlib.Core.List.{[]};
+ghost use lib.ListN.{length, take};
 ghost use Rattle.listing.specs.Listing.{outAfter};
 ghost use Rattle.scp_track.specs.Arguments.{isDigit, argumentOf};
 ghost use Rattle.scp_track.specs.BlockListing.{roomForCells, blockListing, inputListing, ListedBlock};
@@ -165,7 +166,7 @@ fn read_once(room: &mut [u8]) -> Input
 // connection that was reset, the next one would tell of an end.
 fn read_block(block: &mut [u8], from: usize) -> Input
     requires { ⌜ from ≤ length (now block) ⌝ }
-    ensures { λ r. ⌜ r .count ≤ length (now (block .exit)) ⌝ }
+    ensures { λ r. ⌜ (r .count ≤ length (now (block .exit))) × (from ≤ r .count) × (take from (now (block .exit)) ≡ take from (now (block .entry))) ⌝ }
 {
     let mut count = from;
     while count < block.len() {
@@ -217,7 +218,7 @@ fn list_read(choice: Choice, block: &[u8], ended: bool, out: &mut [u8]) -> usize
 // its end, or has more bytes than the longest room: there is nothing to write then. A block of more revolutions than usual gets that at once.
 fn list_input(choice: Choice, out: &mut [u8]) -> usize
     ensures few { λ r. ⌜ r ≤ 65536 ⌝ }
-    ensures listing { λ r. ⌜ ListedBlock (choice .revolutions) (choice .revolution) (choice .track) (choice .side) (now (out .entry)) r (now (out .exit)) ⌝ }
+    ensures listing { λ r. ⌜ ListedBlock (choice .revolutions) (choice .revolution) (choice .track) (choice .side) [] (now (out .entry)) r (now (out .exit)) ⌝ }
 {
     if USUAL_REVOLUTIONS < choice.revolutions {
         let none = [0u8; 1];
@@ -228,7 +229,7 @@ fn list_input(choice: Choice, out: &mut [u8]) -> usize
 
 fn list_usual(choice: Choice, out: &mut [u8]) -> usize
     ensures few { λ r. ⌜ r ≤ 65536 ⌝ }
-    ensures listing { λ r. ⌜ ListedBlock (choice .revolutions) (choice .revolution) (choice .track) (choice .side) (now (out .entry)) r (now (out .exit)) ⌝ }
+    ensures listing { λ r. ⌜ ListedBlock (choice .revolutions) (choice .revolution) (choice .track) (choice .side) [] (now (out .entry)) r (now (out .exit)) ⌝ }
 {
     let mut block = [0u8; USUAL_ROOM];
     list_usual_in(choice, &mut block, out)
@@ -237,7 +238,7 @@ fn list_usual(choice: Choice, out: &mut [u8]) -> usize
 // An array so large is not lent as a slice where it is made: its length is not computed in a proof.
 fn list_usual_in(choice: Choice, block: &mut [u8; USUAL_ROOM], out: &mut [u8]) -> usize
     ensures few { λ r. ⌜ r ≤ 65536 ⌝ }
-    ensures listing { λ r. ⌜ ListedBlock (choice .revolutions) (choice .revolution) (choice .track) (choice .side) (now (out .entry)) r (now (out .exit)) ⌝ }
+    ensures listing { λ r. ⌜ ListedBlock (choice .revolutions) (choice .revolution) (choice .track) (choice .side) (now (block .exit)) (now (out .entry)) r (now (out .exit)) ⌝ }
 {
     read_first(choice, block, out)
 }
@@ -245,7 +246,7 @@ fn list_usual_in(choice: Choice, block: &mut [u8; USUAL_ROOM], out: &mut [u8]) -
 // Reads the block, as far as it fits the usual room; a longer one goes on in the longest.
 fn read_first(choice: Choice, block: &mut [u8], out: &mut [u8]) -> usize
     ensures few { λ r. ⌜ r ≤ 65536 ⌝ }
-    ensures listing { λ r. ⌜ ListedBlock (choice .revolutions) (choice .revolution) (choice .track) (choice .side) (now (out .entry)) r (now (out .exit)) ⌝ }
+    ensures listing { λ r. ⌜ ListedBlock (choice .revolutions) (choice .revolution) (choice .track) (choice .side) (now (block .exit)) (now (out .entry)) r (now (out .exit)) ⌝ }
 {
     let input = read_block(block, 0);
     let count = input.count;
@@ -258,7 +259,7 @@ fn read_first(choice: Choice, block: &mut [u8], out: &mut [u8]) -> usize
 // Lists a block of which these bytes, none or those that filled the usual room, are read.
 fn list_longer(choice: Choice, front: &[u8], out: &mut [u8]) -> usize
     ensures few { λ r. ⌜ r ≤ 65536 ⌝ }
-    ensures listing { λ r. ⌜ ListedBlock (choice .revolutions) (choice .revolution) (choice .track) (choice .side) (now (out .entry)) r (now (out .exit)) ⌝ }
+    ensures listing { λ r. ⌜ ListedBlock (choice .revolutions) (choice .revolution) (choice .track) (choice .side) (now (front .entry)) (now (out .entry)) r (now (out .exit)) ⌝ }
 {
     let mut block = [0u8; LONGEST_ROOM];
     list_longer_in(choice, front, &mut block, out)
@@ -271,14 +272,14 @@ fn list_longer_in(
     out: &mut [u8],
 ) -> usize
     ensures few { λ r. ⌜ r ≤ 65536 ⌝ }
-    ensures listing { λ r. ⌜ ListedBlock (choice .revolutions) (choice .revolution) (choice .track) (choice .side) (now (out .entry)) r (now (out .exit)) ⌝ }
+    ensures listing { λ r. ⌜ ListedBlock (choice .revolutions) (choice .revolution) (choice .track) (choice .side) (now (front .entry)) (now (out .entry)) r (now (out .exit)) ⌝ }
 {
     read_on(choice, front, block, out)
 }
 
 fn read_on(choice: Choice, front: &[u8], block: &mut [u8], out: &mut [u8]) -> usize
     ensures few { λ r. ⌜ r ≤ 65536 ⌝ }
-    ensures listing { λ r. ⌜ ListedBlock (choice .revolutions) (choice .revolution) (choice .track) (choice .side) (now (out .entry)) r (now (out .exit)) ⌝ }
+    ensures listing { λ r. ⌜ ListedBlock (choice .revolutions) (choice .revolution) (choice .track) (choice .side) (now (front .entry)) (now (out .entry)) r (now (out .exit)) ⌝ }
 {
     let from = copy_front(front, block);
     let input = read_block(block, from);
@@ -289,7 +290,7 @@ fn read_on(choice: Choice, front: &[u8], block: &mut [u8], out: &mut [u8]) -> us
 
 // Copies bytes to the front of the room, as many as it holds, and tells how many.
 fn copy_front(front: &[u8], block: &mut [u8]) -> usize
-    ensures { λ r. ⌜ r ≤ length (now (block .exit)) ⌝ }
+    ensures { λ r. ⌜ (r ≡ min (length (now (block .entry))) (length (now (front .entry)))) × (take r (now (block .exit)) ≡ take r (now (front .entry))) ⌝ }
 {
     let count = basis::smaller(block.len(), front.len());
     let mut i: usize = 0;

@@ -1,33 +1,21 @@
--- `scp_track::read_block` meets its contract. Assumes nothing but the contract of the system's `read`.
-use Prim.Native.Nat.{ℕ, _+_, _-_, _≤_}
-use mathlib.Core.Path.{_≡_, _∙_}
-use mathlib.Core.List.{List}
+-- `scp_track::read_block` meets its contract: the bytes before `from` stay. Assumes nothing but the contract of the system's `read`.
+use Prim.Native.Nat.{_-_, _≤_}
+use mathlib.Core.Path.{_≡_, refl, _∙_}
 use native.Mathlib.Omega.{arith}
 use borrow.Author.Needs.{needs}
-use borrow.Rule.Slice.PartMut.{midOf, putMid, same-len-mid}
-use lib.ListN.{length, drop, length-drop}
-use lib.Seq.{length-take-le}
+use lib.ListN.{length, take}
+use Rattle.scp_track.proofs.Fronts.{as-long, within, front-kept}
 use Rattle.scp_track.proofs.read_block.Statement.{statement}
 use Rattle.scp_track.proofs.read_block.Tie as tie
 
--- a read from byte `count` on, that brought `more` bytes: the block is as long as it was
-module _ (block part : List ℕ) (count : ℕ) (h : count ≤ length block) (kept : length part ≡ length (midOf count (length block - count) block)) where
-  as-long : length (putMid count (length block - count) block part) ≡ length block
-  as-long = same-len-mid count (length block - count) block part kept
-
-  within : {more : ℕ} → more ≤ length part → count + more ≤ length block
-  within m =
-      let d : length (drop count block) ≡ length block - count = length-drop count block in
-      omega (arith, kept, length-take-le (length block - count) (drop count block) (omega (arith, d)))
-
 abbrev Inv-loop : tie.InvT-loop
-Inv-loop block₀ from count₀ block count = (count ≤ length block) × (length block ≡ length block₀)
+Inv-loop block₀ from count₀ block count = (count ≤ length block) × (length block ≡ length block₀) × (from ≤ count) × (take from block ≡ take from block₀)
 
 abbrev μ-loop : tie.MeasureT-loop
 μ-loop block₀ from count₀ block count = length block₀ - count
 
 loop-holds : tie.Need-loop-holds Inv-loop μ-loop
-loop-holds c = search needs
+loop-holds c = (c .before .pre, refl, omega arith, refl)
 
 sub-read-once : tie.Need-sub-read-once Inv-loop μ-loop
 sub-read-once c = search needs
@@ -49,7 +37,11 @@ same-length c =
 returns : tie.Need-returns Inv-loop μ-loop
 returns c =
     let l = c .before .before .before .before .before .before .before .loop in
-    omega (arith, l .inv .0, as-long (l .block) (c .before .before .before .before .read-once .last .0) (l .count) (l .inv .0) (c .before .before .before .before .read-once .kept .0))
+    let a = c .before .before .before .before .before .before .before .before .before .args in (
+      omega (arith, l .inv .0, as-long (l .block) (c .before .before .before .before .read-once .last .0) (l .count) (l .inv .0) (c .before .before .before .before .read-once .kept .0)),
+      l .inv .2,
+      front-kept (l .block) (c .before .before .before .before .read-once .last .0) (l .count) (l .inv .0) (c .before .before .before .before .read-once .kept .0) (a .from) (l .inv .2) ∙ l .inv .3,
+    )
 
 add-count : tie.Need-add-count Inv-loop μ-loop
 add-count c =
@@ -64,14 +56,16 @@ loop-less c =
 loop-again : tie.Need-loop-again Inv-loop μ-loop
 loop-again c =
     let l = c .before .before .before .before .before .before .before .before .loop in
+    let a = c .before .before .before .before .before .before .before .before .before .before .args in
     let long = as-long (l .block) (c .before .before .before .before .before .read-once .last .0) (l .count) (l .inv .0) (c .before .before .before .before .before .read-once .kept .0) in
-    (omega (arith, long, within (l .block) (c .before .before .before .before .before .read-once .last .0) (l .count) (l .inv .0) (c .before .before .before .before .before .read-once .kept .0) (c .before .before .before .before .before .read-once .ensures)), long ∙ l .inv .1)
+    let w = within (l .block) (c .before .before .before .before .before .read-once .last .0) (l .count) (l .inv .0) (c .before .before .before .before .before .read-once .kept .0) (c .before .before .before .before .before .read-once .ensures) in
+    (omega (arith, long, w), long ∙ l .inv .1, omega (arith, l .inv .2), front-kept (l .block) (c .before .before .before .before .before .read-once .last .0) (l .count) (l .inv .0) (c .before .before .before .before .before .read-once .kept .0) (a .from) (l .inv .2) ∙ l .inv .3)
 
 same-length-2 : tie.Need-same-length-2 Inv-loop μ-loop
 same-length-2 c = c .before .loop .inv .1
 
 returns-2 : tie.Need-returns-2 Inv-loop μ-loop
-returns-2 c = c .before .loop .inv .0
+returns-2 c = (c .before .loop .inv .0, c .before .loop .inv .2, c .before .loop .inv .3)
 
 pub read-block-spec : {M : Type 1} → statement M
 read-block-spec =

@@ -1,6 +1,8 @@
 -- `scp_track::read_first` meets its contract. Assumes nothing but the contract of the system's `read`.
 use mathlib.Core.Path.{sym}
+use lib.ListN.{take}
 use lib.Seq.{length-take-le}
+use Rattle.scp_track.proofs.Fronts.{begins-itself}
 use borrow.Author.Needs.{needs}
 use Rattle.scp_track.proofs.read_first.Statement.{statement}
 use Rattle.scp_track.proofs.read_first.Tie as tie
@@ -12,7 +14,7 @@ slice-reshare-prefix-list-read : tie.Need-slice-reshare-prefix-list-read
 slice-reshare-prefix-list-read c = search needs
 
 slice-aggregate-list-read : tie.Need-slice-aggregate-list-read
-slice-aggregate-list-read c = sym (length-take-le _ _ (c .before .before .before .before .read-block .ensures))
+slice-aggregate-list-read c = sym (length-take-le _ _ (c .before .before .before .before .read-block .ensures .0))
 
 list-read-requires : tie.Need-list-read-requires
 list-read-requires c κs = search needs
@@ -24,7 +26,18 @@ same-length-2 : tie.Need-same-length-2
 same-length-2 c = search needs
 
 returns : tie.Need-returns
-returns c = search needs
+returns c =
+    let l = c .before .before .list-read .ensures in
+    let read = c .before .before .before .before .before .before .before .before .read-block in (
+      l .1 .0,
+      record {
+        block = take (read .result .count) (read .last .0);
+        begins = begins-itself (read .last .0) (read .result .count) (read .ensures .0);
+        ended = _;
+        answer-is = l .0;
+        out-is = l .1 .1;
+      },
+    )
 
 list-longer-requires : tie.Need-list-longer-requires
 list-longer-requires c κs = search needs
