@@ -4,6 +4,8 @@
 use Prim.Native.Nat.{ℕ}
 use mathlib.Core.List.{List}
 use Rattle.basis.specs.Lists.{writtenOver}
+use Rattle.refusals.specs.declared.Counted.{Counted}
+use Rattle.refusals.specs.declared.Counted.the-variants.{Count, Refused}
 use Rattle.refusals.specs.declared.Refusal.{Refusal}
 use Rattle.refusals.specs.declared.Refusal.the-variants.{TrackOrSide, CellCount, TooFewBytes, TooManySectors, ListTooShort, NoTimings, TooManyTimings, TimingOutOfRange, TooManyCells, NoRoom, NoSuchSector, NoDataRead, NoRoomForBytes, TooManyBytes, NotATrackFile, NotATrackBlock, NoSuchRevolution}
 
@@ -55,6 +57,11 @@ pub data Answer (A : Type 0) : Type 0 where
 -- the answer of a refusal
 abbrev pub refusedWith : {A : Type 0} → Refusal → Answer A
 refusedWith refusal = refused (numberOf refusal) (valueOf refusal)
+
+-- what a call answers that counts something: the number that it gives, or its refusal
+abbrev pub countedAnswer : Counted → Answer ℕ
+countedAnswer (Count count) = gives count
+countedAnswer (Refused refusal) = refusedWith refusal
 
 -- "each writes nothing": a lent buffer after a call. Where the call is accepted, what it made stands at the front and the rest is kept
 unfoldable pub bufferAfter : {A B : Type 0} → Answer A → List B → List B → List B
