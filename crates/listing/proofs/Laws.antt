@@ -27,7 +27,7 @@ use Rattle.sectors.specs.Calls.{trackJudged, countJudged}
 use Rattle.sectors.specs.Sectors.{sectorsOf}
 use Rattle.track_file.specs.TrackFile.{placed, placeCountRefused, cellCountRefused, fluxCountRefused, cellCount, fluxCount, timings, trackOf, sideOf, notATrackFile, givenAtOnce, fileAnswer, fileAnswerIn}
 use Rattle.track_file.proofs.Taking.{judged-in-room}
-use Rattle.listing.specs.Listing.{outAfter}
+use Rattle.lines.specs.Lines.{outAfter}
 
 -- a buffer that is long enough
 module _ (made out : List ℕ) (h : length made ≤ length out) where

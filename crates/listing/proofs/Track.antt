@@ -14,11 +14,13 @@ use Rattle.refusals.specs.RefusedCalls.Answer.{gives, refused}
 use Rattle.sectors.specs.Calls.{sectorsAnswer}
 use Rattle.sectors.specs.Sectors.{sectorsOf}
 use Rattle.sectors.proofs.Calls.{list-accepted}
-use Rattle.listing.specs.Listing.{headerOf, refusedLine, linesOf, printed, listingOf, outAfter}
-use Rattle.listing.specs.PrivateContracts.{Wrote, lineAt}
-use Rattle.listing.proofs.Lengths.{header-few, refused-few}
+use Rattle.lines.specs.Lines.{headerOf, refusedLine, outAfter}
+use Rattle.listing.specs.Listing.{linesOf, printed, listingOf}
+use Rattle.lines.specs.Writing.{Wrote}
+use Rattle.listing.specs.PrivateContracts.{lineAt}
+use Rattle.lines.proofs.Lengths.{header-few, refused-few}
 use Rattle.listing.proofs.Lines.{lines-are}
-use Rattle.listing.proofs.Writing.{_then_, wrote-few, wrote-front}
+use Rattle.lines.proofs.Writing.{_then_, wrote-few, wrote-front}
 
 module _ (bytes : List ℕ) (N T H : ℕ) where
   -- a track that is refused

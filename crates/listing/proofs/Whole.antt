@@ -4,9 +4,10 @@ use mathlib.Core.Path.{_≡_, refl}
 use mathlib.Core.List.{List}
 use native.Mathlib.Omega.{arith}
 use lib.ListN.{length}
-use Rattle.listing.specs.Listing.{listingOf, refusedLine, outAfter}
+use Rattle.listing.specs.Listing.{listingOf}
+use Rattle.lines.specs.Lines.{refusedLine, outAfter}
 use Rattle.listing.specs.ListingOfFile.{printedFile, fileListing, WholeListing}
-use Rattle.listing.proofs.Lengths.{refused-few}
+use Rattle.lines.proofs.Lengths.{refused-few}
 use Rattle.refusals.specs.RefusedCalls.{Answer, numberOf}
 use Rattle.refusals.specs.declared.Refusal.{Refusal}
 use Rattle.track_file.specs.Portions.{readAnswer, WholeFile}

@@ -3,7 +3,8 @@ use Prim.Native.Nat.{ℕ}
 use mathlib.Core.Path.{_≡_}
 use mathlib.Core.List.{List}
 use lib.ListN.{length}
-use Rattle.listing.specs.Listing.{listingOf, refusedLine, outAfter}
+use Rattle.listing.specs.Listing.{listingOf}
+use Rattle.lines.specs.Lines.{refusedLine, outAfter}
 use Rattle.refusals.specs.RefusedCalls.{Answer}
 use Rattle.refusals.specs.RefusedCalls.Answer.{gives, refused}
 use Rattle.track_file.specs.Portions.{readerThrough, cellsThrough, wholeOf}

@@ -13,8 +13,10 @@ ghost use Rattle.basis.specs.Lists.{joined};
 ghost use Rattle.findings.specs.Calls.{foundAnswer};
 ghost use Rattle.refusals.specs.RefusedCalls.Answer.{gives};
 ghost use Rattle.sectors.specs.Calls.{sectorsAnswer};
-ghost use Rattle.listing.specs.Listing.{digit, decimalOf, twoDigits, nameOf, headerOf, findingLine, refusedLine, listingOf, outAfter};
-ghost use Rattle.listing.specs.PrivateContracts.{Wrote, lineAt};
+ghost use Rattle.lines.specs.Lines.{digit, decimalOf, twoDigits, nameOf, headerOf, findingLine, refusedLine, outAfter};
+ghost use Rattle.listing.specs.Listing.{listingOf};
+ghost use Rattle.lines.specs.Writing.{Wrote};
+ghost use Rattle.listing.specs.PrivateContracts.{lineAt};
 
 // The whole listing of a track of n cells, packed in `bytes`; `track` and `side` are the drive's. A buffer of 65,536 bytes holds any.
 pub fn list_track(bytes: &[u8], n: usize, track: u32, side: u32, out: &mut [u8]) -> usize
@@ -29,56 +31,6 @@ pub fn list_track(bytes: &[u8], n: usize, track: u32, side: u32, out: &mut [u8])
         Listed::Count(sectors) => list_accepted(bytes, n, track, side, sectors, out),
     }
 }
-
-// The header line.
-pub fn header(
-    out: &mut [u8],
-    track: u32,
-    side: u32,
-    cells: u32,
-    sectors: u32,
-    findings: u32,
-) -> usize
-    ensures answer { λ r. ⌜ r ≡ length (headerOf track side cells sectors findings) ⌝ }
-    ensures out { λ _. ⌜ now (out .exit) ≡ outAfter (headerOf track side cells sectors findings) (now (out .entry)) ⌝ }
-{
-    let next = write_byte(out, 0, b'T');
-    let next = write_two_digits(out, next, track);
-    let next = write_field(out, next, b" H", side);
-    let next = write_field(out, next, b" cells ", cells);
-    let next = write_field(out, next, b" sectors ", sectors);
-    let next = write_field(out, next, b" findings ", findings);
-    write_byte(out, next, b'\n')
-}
-
-// The line of a finding, without anything before it. A number that is no kind has no name.
-pub fn finding_line(out: &mut [u8], kind: u32, level: u32, place: u32, detail: u32) -> usize
-    ensures answer { λ r. ⌜ r ≡ length (findingLine kind level place detail) ⌝ }
-    ensures out { λ _. ⌜ now (out .exit) ≡ outAfter (findingLine kind level place detail) (now (out .entry)) ⌝ }
-{
-    write_line(out, 0, kind, level, place, detail)
-}
-
-// The line of a refusal's number.
-pub fn refused_line(out: &mut [u8], number: u32) -> usize
-    ensures answer { λ r. ⌜ r ≡ length (refusedLine number) ⌝ }
-    ensures out { λ _. ⌜ now (out .exit) ≡ outAfter (refusedLine number) (now (out .entry)) ⌝ }
-{
-    let next = write_field(out, 0, b"refused ", number);
-    write_byte(out, next, b'\n')
-}
-
-// A track in two digits, without anything before or after them; of a number above 99, the last two.
-pub fn two_digits(out: &mut [u8], track: u32) -> usize
-    ensures answer { λ r. ⌜ r ≡ 2 ⌝ }
-    ensures out { λ _. ⌜ now (out .exit) ≡ outAfter (twoDigits track) (now (out .entry)) ⌝ }
-{
-    write_two_digits(out, 0, track)
-}
-
-// The names of the kinds, from kind 1 on, each with a space after it.
-const NAMES: [u8; 84] =
-    *b"LGT SHT NOS TNF EXT DSN ISN ITN IIF SSZ NSI NSD SBI SND SBD DOI DBI SWS SID MTV NFA ";
 
 // The most numbers: four for each of the 901 findings that 64 sectors can bring.
 const NUMBERS: usize = 3604;

@@ -7,7 +7,7 @@ ghost use mathlib.Core.Path.{_≡_};
 ghost use Prim.Native.Nat.{_≤_};
 ghost use lib.ListN.{length};
 ghost use Rattle.track_file.specs.Portions.{readAnswer, finishAnswer, leftAfter};
-ghost use Rattle.listing.specs.Listing.{outAfter};
+ghost use Rattle.lines.specs.Lines.{outAfter};
 ghost use Rattle.listing.specs.ListingOfFile.{printedFile, WholeListing};
 
 // The end of a track file: its listing, at the front of `out`. `cells` is the buffer that the file was read with.

@@ -6,10 +6,10 @@ use borrow.Author.Needs.{needs}
 use denote.Ref.{now}
 use lib.ListN.{length, replicate, length-replicate}
 use Rattle.findings.specs.Findings.{findingsOf}
-use Rattle.listing.specs.PrivateContracts.{Wrote}
-use Rattle.listing.specs.Listing.{headerOf}
+use Rattle.lines.specs.Writing.{Wrote}
+use Rattle.lines.specs.Lines.{headerOf}
 use Rattle.listing.proofs.Track.{few-sectors, few-cells, few-lines, count-given, lines-given, wrote-header, wrote-track}
-use Rattle.listing.proofs.Writing.{answer-few}
+use Rattle.lines.proofs.Writing.{answer-few}
 use Rattle.listing.proofs.list_accepted.Statement.{statement}
 use Rattle.listing.proofs.list_accepted.Tie as tie
 

@@ -5,7 +5,7 @@ use denote.Ref.{now}
 use Rattle.refusals.specs.RefusedCalls.{numberOf, valueOf}
 use Rattle.sectors.specs.Calls.{listedAnswer}
 use Rattle.listing.proofs.Track.{wrote-refusal}
-use Rattle.listing.proofs.Writing.{answer-is, answer-few, out-is}
+use Rattle.lines.proofs.Writing.{answer-is, answer-few, out-is}
 use Rattle.listing.proofs.list_track.Statement.{statement}
 use Rattle.listing.proofs.list_track.Tie as tie
 

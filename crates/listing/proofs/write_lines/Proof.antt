@@ -6,9 +6,10 @@ use denote.Ref.{now}
 use lib.ListN.{length}
 use Rattle.basis.proofs.Joined.{joined-none}
 use Rattle.basis.specs.Lists.{joined}
-use Rattle.listing.specs.PrivateContracts.{Wrote, lineAt}
+use Rattle.lines.specs.Writing.{Wrote}
+use Rattle.listing.specs.PrivateContracts.{lineAt}
 use Rattle.listing.proofs.Lines.{lines-turn}
-use Rattle.listing.proofs.Writing.{none}
+use Rattle.lines.proofs.Writing.{none}
 use Rattle.listing.proofs.write_lines.Statement.{statement}
 use Rattle.listing.proofs.write_lines.Tie as tie
 
