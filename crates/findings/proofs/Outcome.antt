@@ -10,7 +10,7 @@ use lib.ListN.{length, take, drop, length-take}
 use lib.Seq.{take-all}
 use Rattle.basis.specs.Lists.{joined}
 use Rattle.cells.specs.CellsAndBytes.{cell, bytesFor}
-use Rattle.findings.specs.Calls.{findingsAnswer, numbersOf}
+use Rattle.findings.specs.Calls.{findingsAnswer, sectorsGiven, numbersOf}
 use Rattle.findings.specs.Findings.{levels, found, ofKind, findingsOf}
 use Rattle.findings.specs.PrivateContracts.{countWritten, kinds, sectorsIn, Added}
 use Rattle.findings.specs.declared.Finding.{Finding}
@@ -22,7 +22,7 @@ use Rattle.refusals.specs.RefusedCalls.Answer.{gives, refused}
 use Rattle.sectors.specs.Calls.{trackJudged, countJudged, sectorsAnswer}
 use Rattle.sectors.specs.Sectors.{sectorsOf, kept}
 use Rattle.sectors.specs.declared.Sectors.{Sectors}
-use Rattle.sectors.proofs.Calls.{most-cells, Follows, follows-given, follows-track, follows-count}
+use Rattle.sectors.proofs.Calls.{most-cells, list-accepted, Follows, follows-given, follows-track, follows-count}
 
 module _ (bytes : List ℕ) (N T H : ℕ) where
   -- the findings are judged after the sectors
@@ -63,30 +63,36 @@ unfolding findingsOf levels
 findings-few bytes N T few = few-findings (cell bytes N) N T (sectorsOf bytes N) few
 
 -- what `plan` promises: beside a refusal nothing is to be written, else all findings
+-- how many of the numbers go to the list, and the number of sectors
+abbrev Counts : List ℕ → (N T H room count sectors : ℕ) → Type 0
+Counts bytes N T H room count sectors =
+    (count ≡ countWritten (findingsAnswer bytes N T H room))
+    × (sectors ≡ sectorsGiven (findingsAnswer bytes N T H room) (length (sectorsOf bytes N)))
+
 module _ (bytes : List ℕ) (N T H room : ℕ) where
   pub plan-refused : (number value : ℕ) → refused number value ≡ findingsAnswer bytes N T H room
       → (refused number value ≡ findingsAnswer bytes N T H room)
-      × ((0 ≡ countWritten (findingsAnswer bytes N T H room)) × ((_≡_ {A = List ℕ} [] (numbersOf [])) × ((0 ≤ 901) × (0 ≤ room))))
+      × (Counts bytes N T H room 0 0 × ((_≡_ {A = List ℕ} [] (numbersOf [])) × ((0 ≤ 901) × (0 ≤ room))))
   unfolding numbersOf
-  plan-refused number value e = (e, (ap countWritten e, (refl, (omega arith, omega arith))))
+  plan-refused number value e = (e, ((ap countWritten e, ap (λ (a : Answer ℕ). sectorsGiven a (length (sectorsOf bytes N))) e), (refl, (omega arith, omega arith))))
 
   module _ (m : ℕ) (e : sectorsAnswer bytes N T H ≡ gives m) (few : length (sectorsOf bytes N) ≤ 64) (numbers : List ℕ) (count : ℕ) (added : Added [] 0 (findingsOf bytes N T) numbers count) where
     pub plan-too-short : room < count
         → (refused 5 count ≡ findingsAnswer bytes N T H room)
-        × ((0 ≡ countWritten (findingsAnswer bytes N T H room)) × ((_≡_ {A = List ℕ} [] (numbersOf [])) × ((0 ≤ 901) × (0 ≤ room))))
+        × (Counts bytes N T H room 0 0 × ((_≡_ {A = List ℕ} [] (numbersOf [])) × ((0 ≤ 901) × (0 ≤ room))))
     plan-too-short h =
         let is : count ≡ length (findingsOf bytes N T) = omega (arith, added .count) in
         plan-refused 5 count (rw is (list-too-short bytes N T H m e room (omega arith)))
 
     pub plan-in-room : count ≤ room
         → (gives count ≡ findingsAnswer bytes N T H room)
-        × ((count ≡ countWritten (findingsAnswer bytes N T H room))
+        × (Counts bytes N T H room count m
         × ((take (4 * count) numbers ≡ numbersOf (take count (findingsOf bytes N T))) × ((count ≤ 901) × (count ≤ room))))
     plan-in-room h =
         let fs = findingsOf bytes N T in
         let is : count ≡ length fs = omega (arith, added .count) in
         let g : gives count ≡ findingsAnswer bytes N T H room = rw is (list-in-room bytes N T H m e room (omega arith)) in
-        (g, (ap countWritten g, (added .front ∙ ap numbersOf (sym (take-all count fs (omega arith))), (omega (arith, findings-few bytes N T few), h))))
+        (g, ((ap countWritten g, list-accepted bytes N T H m e .0 ∙ ap (λ (a : Answer ℕ). sectorsGiven a (length (sectorsOf bytes N))) g), (added .front ∙ ap numbersOf (sym (take-all count fs (omega arith))), (omega (arith, findings-few bytes N T few), h))))
 
 -- an answer gives k or refuses
 data Judged (k : ℕ) : Answer ℕ → Type 0 where

@@ -5,20 +5,12 @@ use mathlib.Core.Bool.{cond}
 use mathlib.Core.List.{List, [], _∷_, _++_}
 use lib.Dec.{ltb}
 use lib.ListN.{length}
-use Rattle.refusals.specs.RefusedCalls.{Answer, refusedWith, bufferAfter}
+use Rattle.refusals.specs.RefusedCalls.{Answer, bufferAfter}
 use Rattle.refusals.specs.RefusedCalls.Answer.{gives, refused}
 use Rattle.findings.specs.Findings.{findingsOf}
 use Rattle.findings.specs.declared.Finding.{Finding}
-use Rattle.findings.specs.declared.Found.{Found}
-use Rattle.findings.specs.declared.Found.the-variants.{Count}
-use Rattle.findings.specs.declared.Found.the-variants.{Refused as FoundRefused}
 use Rattle.sectors.specs.Calls.{trackJudged, countJudged}
 use Rattle.sectors.specs.Sectors.{sectorsOf}
-
--- an answer of the call, in 01's numbers
-abbrev pub foundAnswer : Found → Answer ℕ
-foundAnswer (Count count) = gives count
-foundAnswer (FoundRefused refusal) = refusedWith refusal
 
 -- refusals 1 to 5, for a list with room for `room` findings, and else their number
 unfoldable pub findingsAnswer : List ℕ → (N T H room : ℕ) → Answer ℕ
@@ -26,6 +18,11 @@ findingsAnswer bytes N T H room =
     trackJudged bytes N T H
     (countJudged (length (sectorsOf bytes N))
     (cond (ltb room (length (findingsOf bytes N T))) (refused 5 (length (findingsOf bytes N T))) (gives (length (findingsOf bytes N T)))))
+
+-- the number of sectors that a call on numbers gives also: those of the track, and 0 beside a refusal
+abbrev pub sectorsGiven : Answer ℕ → ℕ → ℕ
+sectorsGiven (gives count) sectors = sectors
+sectorsGiven (refused number value) sectors = 0
 
 -- the caller's list of finding records afterwards
 abbrev pub listAfter : List ℕ → (N T H : ℕ) → List Finding → List Finding

@@ -1,4 +1,5 @@
 // The sectors of a track: marks, records, the sector by index, and reading out.
+use refusals::Counted;
 use refusals::Refusal;
 ghost use mathlib.Core.Path.{_≡_};
 ghost use mathlib.Core.Bool.{true, cond, _&&_};
@@ -10,10 +11,10 @@ ghost use Rattle.basis.specs.Lists.{joined, writtenOver};
 ghost use Rattle.basis.specs.Search.{least};
 ghost use Rattle.cells.specs.CellsAndBytes.{cell};
 ghost use Rattle.crc.specs.CheckWord.{checkWordFrom};
-ghost use Rattle.refusals.specs.RefusedCalls.{refusedWith, bufferAfter};
+ghost use Rattle.refusals.specs.RefusedCalls.{refusedWith, countedAnswer, bufferAfter};
 ghost use Rattle.sectors.specs.Marks.{markAt, markByte, markOf, idMarkAt};
 ghost use Rattle.sectors.specs.Sectors.{bytesFrom, checkBytes, checkGood, leastData, lengthOf, idByte, sectorAt, noSector, sectorsAt, sectorsOf, kept, dataBytes};
-ghost use Rattle.sectors.specs.Calls.{listedAnswer, sectorsAnswer, sectorsBeside, indexAnswer, recordBeside, sectorOf, readOutAnswer, dataJudged, dataAnswer, dataAfter};
+ghost use Rattle.sectors.specs.Calls.{sectorsAnswer, sectorsBeside, indexAnswer, recordBeside, sectorOf, readOutAnswer, dataJudged, dataAnswer, dataAfter};
 
 // The last track and side of a drive.
 pub const LAST_TRACK: u32 = 83;
@@ -51,22 +52,16 @@ pub struct Sectors {
     pub count: usize,
 }
 
-// A number of sectors, or a refusal.
-pub enum Listed {
-    Count(usize),
-    Refused(Refusal),
-}
-
-// The sectors of a track, none beside a refusal.
+// The sectors of a track and their number; none beside a refusal.
 pub struct TrackSectors {
     pub sectors: Sectors,
-    pub answer: Listed,
+    pub answer: Counted,
 }
 
 // A sector by index and the number of sectors; the record is all zeros beside a refusal.
 pub struct Indexed {
     pub sector: Sector,
-    pub answer: Listed,
+    pub answer: Counted,
 }
 
 // What reading out gives: the number of data bytes and whether their check is good, or a refusal.
@@ -77,7 +72,7 @@ pub enum ReadOut {
 
 // The sectors of a track of n cells, packed in `bytes`; `track` and `side` are the drive's.
 pub fn sectors_of(bytes: &[u8], n: usize, track: u32, side: u32) -> TrackSectors
-    ensures answer { λ r. ⌜ listedAnswer (r .answer) ≡ sectorsAnswer (now (bytes .entry)) n track side ⌝ }
+    ensures answer { λ r. ⌜ countedAnswer (r .answer) ≡ sectorsAnswer (now (bytes .entry)) n track side ⌝ }
     ensures sectors { λ r. ⌜ r .sectors ≡ sectorsBeside (sectorsAnswer (now (bytes .entry)) n track side) (sectorsOf (now (bytes .entry)) n) ⌝ }
 {
     if (LAST_TRACK < track) | (LAST_SIDE < side) {
@@ -97,27 +92,27 @@ pub fn sectors_of(bytes: &[u8], n: usize, track: u32, side: u32) -> TrackSectors
     }
     TrackSectors {
         sectors,
-        answer: Listed::Count(count),
+        answer: Counted::Count(count),
     }
 }
 
 // Sector `index` of a track, from 0, with the number of its sectors.
 pub fn sector_by_index(bytes: &[u8], n: usize, track: u32, side: u32, index: usize) -> Indexed
-    ensures answer { λ r. ⌜ listedAnswer (r .answer) ≡ indexAnswer (now (bytes .entry)) n track side index ⌝ }
+    ensures answer { λ r. ⌜ countedAnswer (r .answer) ≡ indexAnswer (now (bytes .entry)) n track side index ⌝ }
     ensures sector { λ r. ⌜ r .sector ≡ recordBeside (indexAnswer (now (bytes .entry)) n track side index) (sectorOf (now (bytes .entry)) n index) ⌝ }
 {
     let found = sectors_of(bytes, n, track, side);
     let sectors = found.sectors;
     let answer = found.answer;
     match answer {
-        Listed::Refused(refusal) => no_record(refusal),
-        Listed::Count(count) => {
+        Counted::Refused(refusal) => no_record(refusal),
+        Counted::Count(count) => {
             if count <= index {
                 return no_record(Refusal::NoSuchSector(count));
             }
             Indexed {
                 sector: sectors.all[index],
-                answer: Listed::Count(count),
+                answer: Counted::Count(count),
             }
         }
     }
@@ -139,8 +134,8 @@ pub fn read_out(
     let sector = found.sector;
     let answer = found.answer;
     match answer {
-        Listed::Refused(refusal) => ReadOut::Refused(refusal),
-        Listed::Count(_) => read_sector(bytes, n, sector, buffer),
+        Counted::Refused(refusal) => ReadOut::Refused(refusal),
+        Counted::Count(_) => read_sector(bytes, n, sector, buffer),
     }
 }
 
@@ -172,22 +167,22 @@ const LAST_DATA_MARK: u8 = 0xFB;
 
 // No sectors, beside a refusal.
 fn no_list(refusal: Refusal) -> TrackSectors
-    ensures { λ r. ⌜ (listedAnswer (r .answer) ≡ refusedWith refusal) × (r .sectors ≡ kept []) ⌝ }
+    ensures { λ r. ⌜ (countedAnswer (r .answer) ≡ refusedWith refusal) × (r .sectors ≡ kept []) ⌝ }
 {
     let sectors = no_sectors();
     TrackSectors {
         sectors,
-        answer: Listed::Refused(refusal),
+        answer: Counted::Refused(refusal),
     }
 }
 
 // No sector, beside a refusal.
 fn no_record(refusal: Refusal) -> Indexed
-    ensures { λ r. ⌜ (listedAnswer (r .answer) ≡ refusedWith refusal) × (r .sector ≡ noSector) ⌝ }
+    ensures { λ r. ⌜ (countedAnswer (r .answer) ≡ refusedWith refusal) × (r .sector ≡ noSector) ⌝ }
 {
     Indexed {
         sector: no_sector(),
-        answer: Listed::Refused(refusal),
+        answer: Counted::Refused(refusal),
     }
 }
 
