@@ -1,9 +1,7 @@
--- What only the contracts of private functions need: bytes written one after the other. Assumes nothing.
-use Prim.Native.Nat.{ℕ, _+_, _*_, _≤_}
-use mathlib.Core.Path.{_≡_}
+-- What only the contract of a private function needs. Assumes nothing.
+use Prim.Native.Nat.{ℕ, _+_, _*_}
 use mathlib.Core.List.{List}
-use lib.ListN.{length, getD}
-use lib.Seq.{sets}
+use lib.ListN.{getD}
 use Rattle.lines.specs.Lines.{findingLine}
 
 -- the line of finding i of those that stand in a list of numbers
