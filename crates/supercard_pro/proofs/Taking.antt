@@ -6,15 +6,14 @@ use native.Mathlib.Omega.{arith}
 use lib.ListN.{length, drop}
 use lib.Seq.{sets, sets-eq}
 use Rattle.basis.specs.Lists.{writtenOver}
-use Rattle.refusals.specs.RefusedCalls.{refusedWith}
+use Rattle.refusals.specs.RefusedCalls.{refusedWith, countedAnswer}
 use Rattle.refusals.specs.RefusedCalls.Answer.{gives, refused}
+use Rattle.refusals.specs.declared.Counted.{Counted}
+use Rattle.refusals.specs.declared.Counted.the-variants.{Refused}
 use Rattle.refusals.specs.declared.Refusal.{Refusal}
 use Rattle.flux.specs.Separation.{firstOut}
-use Rattle.supercard_pro.specs.TrackBlock.{givenAnswer}
 use Rattle.supercard_pro.specs.Portions.{unfinishedAfter, timingsEnding, usableReader, portionTimings, portionAnswer}
 use Rattle.supercard_pro.specs.PrivateContracts.{LookedOver}
-use Rattle.supercard_pro.specs.declared.Given.{Given}
-use Rattle.supercard_pro.specs.declared.Given.the-variants.{Refused}
 use Rattle.supercard_pro.specs.declared.RevolutionReader.{RevolutionReader}
 use Rattle.supercard_pro.specs.declared.Unfinished.{Unfinished}
 use Rattle.supercard_pro.proofs.Judging.{usable-few, too-many, one-out, no-room, all-given}
@@ -84,8 +83,8 @@ module _ (reader : RevolutionReader) (portion list : List ℕ) {used : Revolutio
           (w ∙ ap (λ (l : List ℕ). sets list 0 l) same ∙ stored list (portionTimings reader portion) (omega (arith, count-is)))
 
 -- a refusal as the code hands it back
-pub told : {reader : RevolutionReader} {portion list : List ℕ} {given : Given} {refusal : Refusal} → given ≡ Refused refusal → {next : RevolutionReader} → next ≡ reader
-    → Promised reader portion list (refusedWith refusal) reader list → Promised reader portion list (givenAnswer given) next list
-told {reader} {portion} {list} {given} {refusal} g {next} n p =
-    subst (λ (x : Given). Promised reader portion list (givenAnswer x) next list) (sym g)
+pub told : {reader : RevolutionReader} {portion list : List ℕ} {counted : Counted} {refusal : Refusal} → counted ≡ Refused refusal → {next : RevolutionReader} → next ≡ reader
+    → Promised reader portion list (refusedWith refusal) reader list → Promised reader portion list (countedAnswer counted) next list
+told {reader} {portion} {list} {counted} {refusal} g {next} n p =
+    subst (λ (x : Counted). Promised reader portion list (countedAnswer x) next list) (sym g)
     (subst (λ (x : RevolutionReader). Promised reader portion list (refusedWith refusal) x list) (sym n) p)

@@ -14,10 +14,8 @@ use lib.ListN.{length, getD, take, drop}
 use Rattle.basis.specs.Bytes.{number}
 use Rattle.basis.specs.Search.{least}
 use Rattle.flux.specs.Separation.{timingsJudged}
-use Rattle.refusals.specs.RefusedCalls.{Answer, refusedWith, bufferAfter}
+use Rattle.refusals.specs.RefusedCalls.{Answer, bufferAfter}
 use Rattle.refusals.specs.RefusedCalls.Answer.{gives, refused}
-use Rattle.supercard_pro.specs.declared.Given.{Given}
-use Rattle.supercard_pro.specs.declared.Given.the-variants.{Timings, Refused}
 
 -- "twelve bytes for each revolution (index time, number of values, offset from the block's start, each 32 bits, low byte first)", of
 -- revolution k from byte 4 + 12k on. The index time is not used
@@ -94,11 +92,6 @@ roomJudged count room = cond (ltb room count) (refused 10 count) (gives count)
 abbrev pub blockAnswer : List ℕ → ℕ → ℕ → ℕ → Answer ℕ
 blockAnswer block revolutions k room =
     blockJudged block revolutions k (timingsJudged (revolutionTimings block k) (roomJudged (length (revolutionTimings block k)) room))
-
--- an answer of a call, in the papers' numbers
-abbrev pub givenAnswer : Given → Answer ℕ
-givenAnswer (Timings count) = gives count
-givenAnswer (Refused refusal) = refusedWith refusal
 
 -- "Give the timings of one chosen revolution, counted from 0, into a lent list": at its front, the rest kept
 abbrev pub blockTimings : List ℕ → ℕ → ℕ → List ℕ → List ℕ

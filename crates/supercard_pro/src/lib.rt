@@ -7,19 +7,15 @@ mod numbers;
 mod portions;
 mod separating;
 
+use refusals::Counted;
 use refusals::Refusal;
 pub use separating::separate_revolution;
 ghost use mathlib.Core.Path.{_≡_};
 ghost use Prim.Native.Nat.{_+_, _*_, _≤_, _<_};
 ghost use lib.ListN.{length, drop};
 ghost use Rattle.basis.specs.Bytes.{number};
-ghost use Rattle.supercard_pro.specs.TrackBlock.{valueCount, valueOffset, tableEnd, otherLetters, badRevolution, someBad, notATrackBlock, givenAnswer, blockAnswer, blockTimings};
-
-// What a call gives: the number of timings, or a refusal.
-pub enum Given {
-    Timings(usize),
-    Refused(Refusal),
-}
+ghost use Rattle.refusals.specs.RefusedCalls.{countedAnswer};
+ghost use Rattle.supercard_pro.specs.TrackBlock.{valueCount, valueOffset, tableEnd, otherLetters, badRevolution, someBad, notATrackBlock, blockAnswer, blockTimings};
 
 // The first byte of a value, where a portion ended between its two.
 pub enum Held {
@@ -39,9 +35,9 @@ pub struct RevolutionReader {
     pub timings: u32,
 }
 
-// A portion taken: what the call gives, and the next state, which is the same beside a refusal.
+// A portion taken: how many timings end in it, or a refusal, and the next state, which is the same beside a refusal.
 pub struct TakenPortion {
-    pub given: Given,
+    pub answer: Counted,
     pub next: RevolutionReader,
 }
 
@@ -52,24 +48,24 @@ pub fn revolution_timings(
     revolutions: u32,
     revolution: u32,
     timings: &mut [u32],
-) -> Given
-    ensures answer { λ r. ⌜ givenAnswer r ≡ blockAnswer (now (block .entry)) revolutions revolution (length (now (timings .entry))) ⌝ }
+) -> Counted
+    ensures answer { λ r. ⌜ countedAnswer r ≡ blockAnswer (now (block .entry)) revolutions revolution (length (now (timings .entry))) ⌝ }
     ensures list { λ _. ⌜ now (timings .exit) ≡ blockTimings (now (block .entry)) revolutions revolution (now (timings .entry)) ⌝ }
 {
     if not_a_block(block, revolutions) {
-        return Given::Refused(Refusal::NotATrackBlock);
+        return Counted::Refused(Refusal::NotATrackBlock);
     }
     if revolutions <= revolution {
-        return Given::Refused(Refusal::NoSuchRevolution);
+        return Counted::Refused(Refusal::NoSuchRevolution);
     }
     let count = value_count(block, revolution);
     if count == 0 {
-        return Given::Refused(Refusal::NoTimings);
+        return Counted::Refused(Refusal::NoTimings);
     }
     let from = value_offset(block, revolution);
     let to = from + 2 * count;
     let taken = RevolutionReader::new().take(&block[from..to], timings);
-    taken.given
+    taken.answer
 }
 
 // Whether a block is refused with 16.

@@ -2,12 +2,12 @@
 //
 // Nothing may be written before a portion is judged, so it is passed over twice: to count its timings and to find one out of range, and then
 // to store them.
-use crate::Given;
 use crate::Held;
 use crate::RevolutionReader;
 use crate::TakenPortion;
 use crate::Unfinished;
 use crate::two_bytes;
+use refusals::Counted;
 use refusals::Refusal;
 ghost use mathlib.Core.Path.{_≡_};
 ghost use mathlib.Core.Bool.{cond, true};
@@ -16,7 +16,8 @@ ghost use lib.Dec.{eqb};
 ghost use lib.ListN.{length, drop, set};
 ghost use lib.Seq.{sets};
 ghost use Rattle.flux.specs.Rule.{inRange};
-ghost use Rattle.supercard_pro.specs.TrackBlock.{givenAnswer};
+ghost use Rattle.refusals.specs.RefusedCalls.{countedAnswer};
+ghost use Rattle.refusals.specs.declared.Counted.{Counted};
 ghost use Rattle.supercard_pro.specs.Portions.{unfinishedAfter, timingsEnding, freshReader, usableReader, portionAnswer, portionReader, portionList, AllTimings};
 ghost use Rattle.supercard_pro.specs.PrivateContracts.{between, PassedValue, PassedOver, LookedOver, noZeros};
 
@@ -36,10 +37,10 @@ impl RevolutionReader {
 
     // A portion more of the values: the timings that end in it, to the front of a list.
     pub fn take(self, portion: &[u8], timings: &mut [u32]) -> TakenPortion
-        ensures answer { λ r. ⌜ givenAnswer (r .given) ≡ portionAnswer self (now (portion .entry)) (length (now (timings .entry))) ⌝ }
+        ensures answer { λ r. ⌜ countedAnswer (r .answer) ≡ portionAnswer self (now (portion .entry)) (length (now (timings .entry))) ⌝ }
         ensures state { λ r. ⌜ r .next ≡ portionReader self (now (portion .entry)) (length (now (timings .entry))) ⌝ }
         ensures list { λ _. ⌜ now (timings .exit) ≡ portionList self (now (portion .entry)) (now (timings .entry)) ⌝ }
-        ensures all { λ r. ⌜ AllTimings self (now (portion .entry)) (givenAnswer (r .given)) (now (timings .exit)) ⌝ }
+        ensures all { λ r. ⌜ AllTimings self (now (portion .entry)) (countedAnswer (r .answer)) (now (timings .exit)) ⌝ }
     {
         let reader = usable(self);
         let unfinished = reader.unfinished;
@@ -59,7 +60,7 @@ impl RevolutionReader {
         pass(unfinished, portion, timings);
         let left = seen.unfinished;
         TakenPortion {
-            given: Given::Timings(count),
+            answer: Counted::Count(count),
             next: RevolutionReader {
                 unfinished: left,
                 timings: (before + count) as u32,
@@ -107,11 +108,11 @@ pub fn usable(reader: RevolutionReader) -> RevolutionReader
 
 // A portion refused: the state is the one that came.
 fn refused(reader: RevolutionReader, refusal: Refusal) -> TakenPortion
-    ensures given { λ r. ⌜ r .given ≡ Given.Refused refusal ⌝ }
+    ensures answer { λ r. ⌜ r .answer ≡ Counted.Refused refusal ⌝ }
     ensures next { λ r. ⌜ r .next ≡ reader ⌝ }
 {
     TakenPortion {
-        given: Given::Refused(refusal),
+        answer: Counted::Refused(refusal),
         next: reader,
     }
 }

@@ -1,7 +1,7 @@
 // From a track block to cells, by way of a revolution's timings.
-use crate::Given;
 use crate::revolution_timings;
 use flux::Separated;
+use refusals::Counted;
 ghost use mathlib.Core.Path.{_≡_};
 ghost use lib.ListN.{length};
 ghost use Rattle.flux.specs.Separation.{separatedAnswer};
@@ -19,10 +19,10 @@ pub fn separate_revolution(
     ensures demand3 { λ r. ⌜ BlockDemand3 (now (block .entry)) revolutions revolution (separatedAnswer r) (now (cells .entry)) (now (cells .exit)) ⌝ }
 {
     let mut timings = room_for_timings();
-    let given = revolution_timings(block, revolutions, revolution, &mut timings);
-    match given {
-        Given::Timings(count) => flux::separate(&timings[..count], cells),
-        Given::Refused(refusal) => Separated::Refused(refusal),
+    let counted = revolution_timings(block, revolutions, revolution, &mut timings);
+    match counted {
+        Counted::Count(count) => flux::separate(&timings[..count], cells),
+        Counted::Refused(refusal) => Separated::Refused(refusal),
     }
 }
 
