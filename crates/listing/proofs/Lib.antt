@@ -5,5 +5,4 @@ pub mod Lengths
 pub mod Lines
 pub mod Names
 pub mod Track
-pub mod Whole
 pub mod Writing

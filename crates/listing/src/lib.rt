@@ -1,10 +1,7 @@
 // The listing of a track, as bytes: a header and a line for each finding, or "refused" and a number. Each public function writes to the
 // front of the lent buffer. What there is no room for is not written; the answer is the number of bytes of the whole.
-mod whole_file;
-
 use findings::Found;
 use sectors::Listed;
-pub use whole_file::list_file;
 ghost use mathlib.Core.Path.{_≡_};
 ghost use mathlib.Core.List.{_∷_, [], _++_};
 ghost use Prim.Native.Nat.{ℕ, _+_, _*_, _<_, _≤_};

@@ -6,7 +6,7 @@ use refusals::Refusal;
 ghost use mathlib.Core.Path.{_≡_};
 ghost use Prim.Native.Nat.{_≤_};
 ghost use lib.ListN.{length, set, drop};
-ghost use Rattle.track_file.specs.Portions.{startOf, startCells, readerAfter, cellsAfter, isStopped, AtOnce, readAnswer, finishAnswer, leftAfter, WholeFile, numberAfter, countAfter, timingCells, takenAfter, takenCells, afterPlaceCount, afterCellCount, afterPackedByte, afterFluxCount, afterTiming, readerAfterByte, cellsAfterByte};
+ghost use Rattle.track_file.specs.Portions.{startOf, startCells, readerAfter, cellsAfter, isStopped, AtOnce, readAnswer, finishAnswer, WholeFile, numberAfter, countAfter, timingCells, takenAfter, takenCells, afterPlaceCount, afterCellCount, afterPackedByte, afterFluxCount, afterTiming, readerAfterByte, cellsAfterByte};
 
 // The bytes that a cell buffer must have: room for 131,072 cells.
 pub const ROOM: usize = 16_384;
@@ -116,15 +116,12 @@ pub fn stopped(reader: Reader) -> bool
     }
 }
 
-// The end of the file: what it gives. Beside a refusal the buffer is cleared, so that nothing of a refused file is left in it.
-pub fn finish(reader: Reader, cells: &mut [u8]) -> Read
+// The end of the file: what it gives. It writes nothing: the cells stand in the buffer that the portions were fed with.
+pub fn finish(reader: Reader) -> Read
     ensures answer { λ r. ⌜ readAnswer r ≡ finishAnswer reader ⌝ }
-    ensures buffer { λ _. ⌜ now (cells .exit) ≡ leftAfter (finishAnswer reader) (now (cells .entry)) ⌝ }
-    ensures file { λ r. ⌜ WholeFile reader (now (cells .entry)) (readAnswer r) (now (cells .exit)) ⌝ }
+    ensures file { λ r. ⌜ WholeFile reader (readAnswer r) ⌝ }
 {
-    let read = given(reader);
-    clear_refused(read, cells);
-    read
+    given(reader)
 }
 
 // The most cells and the most timings that a file's counts may say.
@@ -169,25 +166,6 @@ fn given(reader: Reader) -> Read
         },
         Reader::NotATrackFile => Read::Refused(Refusal::NotATrackFile),
         Reader::Stopped(refusal) => Read::Refused(refusal),
-    }
-}
-
-// Clears the buffer beside a refusal. One with too little room was never written and is kept.
-fn clear_refused(read: Read, cells: &mut [u8])
-    ensures { λ _. ⌜ now (cells .exit) ≡ leftAfter (readAnswer read) (now (cells .entry)) ⌝ }
-{
-    match read {
-        Read::Cells {
-            track: _,
-            side: _,
-            count: _,
-        } => {}
-        Read::Refused(_) => {
-            let room = cells.len();
-            if ROOM <= room {
-                cells::clear(cells, room);
-            }
-        }
     }
 }
 

@@ -1,9 +1,9 @@
--- `listing::whole_file::list_read` meets its contract. Assumes nothing.
+-- `file_listing::list_read` meets its contract. Assumes nothing.
 use borrow.Author.Needs.{needs}
 use denote.Ref.{now}
-use Rattle.listing.proofs.Whole.{told-cells, told-refusal}
-use Rattle.listing.proofs.whole_file.list_read.Statement.{statement}
-use Rattle.listing.proofs.whole_file.list_read.Tie as tie
+use Rattle.file_listing.proofs.Whole.{told-cells, told-refusal}
+use Rattle.file_listing.proofs.list_read.Statement.{statement}
+use Rattle.file_listing.proofs.list_read.Tie as tie
 
 enum-known-read : tie.Need-enum-known-read
 enum-known-read c = search needs
