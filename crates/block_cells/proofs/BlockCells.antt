@@ -10,8 +10,9 @@ use lib.ListN.{length, take, drop}
 use lib.Seq.{take-at}
 use Rattle.basis.specs.Lists.{writtenOver}
 use Rattle.cells.specs.CellsAndBytes.{packed}
-use Rattle.flux.specs.Separation.{cellsOf, firstOut, timingsJudged, cellsJudged, separation, separatedCells}
-use Rattle.flux.proofs.Promise.{promised}
+use Rattle.separation.specs.Separation.{cellsOf, cellsJudged, separation, separatedCells}
+use Rattle.flux_timings.specs.Timings.{firstOut, timingsJudged}
+use Rattle.separation.proofs.Promise.{promised}
 use Rattle.refusals.specs.RefusedCalls.{Answer, bufferAfter}
 use Rattle.refusals.specs.RefusedCalls.Answer.{gives, refused}
 use Rattle.supercard_pro.specs.TrackBlock.{revolutionTimings, notATrackBlock, blockJudged, blockAnswer, blockTimings}

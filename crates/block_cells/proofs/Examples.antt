@@ -8,8 +8,8 @@ use lib.ListN.{length}
 use lib.Signed.{leZ-yes}
 use Rattle.basis.specs.Search.{least}
 use Rattle.cells.specs.CellsAndBytes.{packed}
-use Rattle.flux.specs.Separation.{cellsFor}
-use Rattle.flux.specs.Demand3.{Reversal, Fair, last, more, shortestCell, longestCell, mostJitter, Tolerable, cellsWritten, cellsInAll, refusalTable}
+use Rattle.separation.specs.Separation.{cellsFor}
+use Rattle.separation.specs.Demand3.{Reversal, Fair, last, more, shortestCell, longestCell, mostJitter, Tolerable, cellsWritten, cellsInAll, refusalTable}
 use Rattle.refusals.specs.RefusedCalls.{Answer, bufferAfter}
 use Rattle.revolution_values.specs.Values.{valuesOf, timingsFrom}
 use Rattle.supercard_pro.specs.TrackBlock.{revolutionTimings}

@@ -7,8 +7,8 @@ use mathlib.Core.List.{List}
 use lib.Dec.{ltb}
 use lib.ListN.{length}
 use Rattle.cells.specs.CellsAndBytes.{packed}
-use Rattle.flux.specs.Separation.{cellsOf, separation}
-use Rattle.flux.specs.Demand3.{Demand3}
+use Rattle.separation.specs.Separation.{cellsOf, separation}
+use Rattle.separation.specs.Demand3.{Demand3}
 use Rattle.refusals.specs.RefusedCalls.{Answer, bufferAfter}
 use Rattle.supercard_pro.specs.TrackBlock.{revolutionTimings, notATrackBlock, blockJudged}
 

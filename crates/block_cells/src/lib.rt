@@ -1,10 +1,10 @@
 // From a track block to cells, by way of a revolution's timings.
-use flux::Separated;
+use refusals::Counted;
 use refusals::Counted;
 use supercard_pro::revolution_timings;
 ghost use mathlib.Core.Path.{_≡_};
 ghost use lib.ListN.{length};
-ghost use Rattle.flux.specs.Separation.{separatedAnswer};
+ghost use Rattle.refusals.specs.RefusedCalls.{countedAnswer};
 ghost use Rattle.block_cells.specs.BlockToCells.{blockSeparation, blockCells, BlockDemand3};
 
 // The cells of one revolution of a block, counted from 0, at the front of a buffer: its timings, and then the separator's call on them.
@@ -13,16 +13,16 @@ pub fn separate_revolution(
     revolutions: u32,
     revolution: u32,
     cells: &mut [u8],
-) -> Separated
-    ensures answer { λ r. ⌜ separatedAnswer r ≡ blockSeparation (now (block .entry)) revolutions revolution (length (now (cells .entry))) ⌝ }
+) -> Counted
+    ensures answer { λ r. ⌜ countedAnswer r ≡ blockSeparation (now (block .entry)) revolutions revolution (length (now (cells .entry))) ⌝ }
     ensures buffer { λ _. ⌜ now (cells .exit) ≡ blockCells (now (block .entry)) revolutions revolution (now (cells .entry)) ⌝ }
-    ensures demand3 { λ r. ⌜ BlockDemand3 (now (block .entry)) revolutions revolution (separatedAnswer r) (now (cells .entry)) (now (cells .exit)) ⌝ }
+    ensures demand3 { λ r. ⌜ BlockDemand3 (now (block .entry)) revolutions revolution (countedAnswer r) (now (cells .entry)) (now (cells .exit)) ⌝ }
 {
     let mut timings = room_for_timings();
     let counted = revolution_timings(block, revolutions, revolution, &mut timings);
     match counted {
-        Counted::Count(count) => flux::separate(&timings[..count], cells),
-        Counted::Refused(refusal) => Separated::Refused(refusal),
+        Counted::Count(count) => separation::separate(&timings[..count], cells),
+        Counted::Refused(refusal) => Counted::Refused(refusal),
     }
 }
 

@@ -8,7 +8,7 @@ use native.Mathlib.Omega.{arith}
 use lib.ListN.{length, take, drop, length-append}
 use lib.Seq.{take-at}
 use Rattle.basis.specs.Lists.{writtenOver}
-use Rattle.flux.specs.Separation.{firstOut}
+use Rattle.flux_timings.specs.Timings.{firstOut}
 use Rattle.refusals.specs.RefusedCalls.{Answer, bufferAfter}
 use Rattle.refusals.specs.RefusedCalls.Answer.{gives, refused}
 use Rattle.revolution_values.specs.Values.{timingsIn, unfinishedAfter, timingsEnding, between}

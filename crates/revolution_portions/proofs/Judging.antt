@@ -8,8 +8,8 @@ use borrow.Author.Tests.{lt-ltb, le-ltb, le-leb, lt-leb, ltb-false, leb-true}
 use lib.Dec.{leb, ltb}
 use lib.ListN.{length}
 use Rattle.basis.proofs.Bools.{and-false}
-use Rattle.flux.specs.Separation.{firstOut}
-use Rattle.flux.proofs.FirstOut.{out-within}
+use Rattle.flux_timings.specs.Timings.{firstOut}
+use Rattle.flux_timings.proofs.FirstOut.{out-within}
 use Rattle.refusals.specs.RefusedCalls.Answer.{gives, refused}
 use Rattle.revolution_portions.specs.Portions.{freshReader, isLeftByCalls, usableReader, portionJudged}
 use Rattle.revolution_portions.specs.declared.RevolutionReader.{RevolutionReader}

@@ -17,8 +17,8 @@ use native.Mathlib.Omega.{arith}
 use borrow.Author.Tests.{leb-true}
 use lib.Dec.{leb}
 use lib.ListN.{length, length-append}
-use Rattle.flux.specs.Rule.{inRange}
-use Rattle.flux.specs.Separation.{firstOut}
+use Rattle.flux_timings.specs.Timings.{inRange}
+use Rattle.flux_timings.specs.Timings.{firstOut}
 use Rattle.refusals.specs.RefusedCalls.{Answer}
 use Rattle.refusals.specs.RefusedCalls.Answer.{gives}
 use Rattle.revolution_values.specs.Values.{timingsIn, unfinishedAfterValue, timingsOfValue, unfinishedAfter, timingsEnding, between}

@@ -11,7 +11,7 @@ use Rattle.refusals.specs.RefusedCalls.Answer.{gives, refused}
 use Rattle.refusals.specs.declared.Counted.{Counted}
 use Rattle.refusals.specs.declared.Counted.the-variants.{Refused}
 use Rattle.refusals.specs.declared.Refusal.{Refusal}
-use Rattle.flux.specs.Separation.{firstOut}
+use Rattle.flux_timings.specs.Timings.{firstOut}
 use Rattle.revolution_values.specs.Values.{unfinishedAfter, timingsEnding, capped}
 use Rattle.revolution_portions.specs.Portions.{usableReader, portionTimings, portionAnswer}
 use Rattle.revolution_portions.specs.PrivateContracts.{LookedOver}

@@ -10,8 +10,8 @@ use native.Mathlib.Omega.{arith}
 use borrow.Author.Tests.{eq-eqb, ne-eqb, le-leb, lt-leb}
 use lib.Dec.{eqb}
 use lib.ListN.{length, length-append}
-use Rattle.flux.specs.Rule.{inRange}
-use Rattle.flux.specs.Separation.{firstOut}
+use Rattle.flux_timings.specs.Timings.{inRange}
+use Rattle.flux_timings.specs.Timings.{firstOut}
 use Rattle.revolution_values.specs.Values.{valuesOf, timingsFrom, timingsIn, unfinishedAfterValue, unfinishedAfterByte, timingsOfValue, timingsOfByte, unfinishedAfter, timingsEnding, between}
 use Rattle.revolution_values.specs.declared.Held.{Held}
 use Rattle.revolution_values.specs.declared.Held.the-variants.{Nothing, High}

@@ -3,7 +3,7 @@ use Prim.Native.Nat.{ℕ}
 use mathlib.Core.Path.{_≡_}
 use mathlib.Core.List.{List}
 use lib.ListN.{length}
-use Rattle.flux.specs.Separation.{firstOut}
+use Rattle.flux_timings.specs.Timings.{firstOut}
 use Rattle.revolution_values.specs.Values.{unfinishedAfter, timingsEnding}
 use Rattle.revolution_values.specs.declared.Unfinished.{Unfinished}
 

@@ -49,7 +49,7 @@ impl RevolutionReader {
         if revolution_values::MOST_ZEROS < unfinished.zeros {
             return RevolutionReader::new();
         }
-        if flux::MOST_TIMINGS < self.timings as usize {
+        if flux_timings::MOST_TIMINGS < self.timings as usize {
             return RevolutionReader::new();
         }
         self
@@ -68,7 +68,7 @@ impl RevolutionReader {
         let seen = look(unfinished, portion);
         let count = seen.count;
         let out = seen.out;
-        if flux::MOST_TIMINGS < before + count {
+        if flux_timings::MOST_TIMINGS < before + count {
             return refused(self, Refusal::TooManyTimings(before + count));
         }
         if out < count {

@@ -11,8 +11,8 @@ use lib.Dec.{eqb}
 use lib.ListN.{length, set, getD, drop, take, length-set, length-drop}
 use lib.Seq.{sets, set-out, take-all}
 use Rattle.basis.proofs.Bools.{and-left, and-right}
-use Rattle.flux.specs.Rule.{inRange}
-use Rattle.flux.specs.Separation.{firstOut}
+use Rattle.flux_timings.specs.Timings.{inRange}
+use Rattle.flux_timings.specs.Timings.{firstOut}
 use Rattle.revolution_values.specs.Values.{unfinishedAfterValue, timingsOfValue, unfinishedAfter, timingsEnding, between}
 use Rattle.revolution_values.specs.PrivateContracts.{firstOutAfter, PassedOver, noZeros}
 use Rattle.revolution_values.specs.declared.Unfinished.{Unfinished}

@@ -10,9 +10,9 @@ use borrow.Author.Tests.{eq-eqb, ne-eqb, eqb-true, eqb-false}
 use lib.Dec.{eqb}
 use lib.ListN.{length, set, getD, drop, length-append, length-drop, drop-of-length-le}
 use lib.Seq.{sets, length-sets, drop-cons}
-use Rattle.flux.specs.Rule.{inRange}
-use Rattle.flux.specs.Separation.{firstOut}
-use Rattle.flux.proofs.FirstOut.{out-within}
+use Rattle.flux_timings.specs.Timings.{inRange}
+use Rattle.flux_timings.specs.Timings.{firstOut}
+use Rattle.flux_timings.proofs.FirstOut.{out-within}
 use Rattle.revolution_values.specs.Values.{unfinishedAfterValue, timingsOfValue, unfinishedAfter, timingsEnding, between, capped}
 use Rattle.revolution_values.specs.PrivateContracts.{firstOutAfter, PassedValue, PassedOver}
 use Rattle.revolution_values.specs.declared.Held.{Held}

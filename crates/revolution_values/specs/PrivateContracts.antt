@@ -6,7 +6,7 @@ use mathlib.Core.List.{List, [], _∷_}
 use lib.Dec.{eqb}
 use lib.ListN.{length}
 use lib.Seq.{sets}
-use Rattle.flux.specs.Separation.{firstOut}
+use Rattle.flux_timings.specs.Timings.{firstOut}
 use Rattle.revolution_values.specs.Values.{unfinishedAfterValue, timingsOfValue, unfinishedAfter, timingsEnding, between}
 use Rattle.revolution_values.specs.declared.Unfinished.{Unfinished}
 

@@ -7,8 +7,8 @@ ghost use Prim.Native.Nat.{_+_, _*_, _≤_, _<_, min};
 ghost use lib.Dec.{eqb};
 ghost use lib.ListN.{length, drop, set};
 ghost use lib.Seq.{sets};
-ghost use Rattle.flux.specs.Rule.{inRange};
-ghost use Rattle.flux.specs.Separation.{firstOut};
+ghost use Rattle.flux_timings.specs.Timings.{inRange};
+ghost use Rattle.flux_timings.specs.Timings.{firstOut};
 ghost use Rattle.revolution_values.specs.Values.{unfinishedAfter, timingsEnding, between, capped};
 ghost use Rattle.revolution_values.specs.PrivateContracts.{PassedValue, PassedOver, noZeros};
 
@@ -258,7 +258,7 @@ fn out_after(out: usize, count: usize, timing: u32) -> usize
     if out != count {
         return out;
     }
-    if flux::timing_in_range(timing) {
+    if flux_timings::timing_in_range(timing) {
         count + 1
     } else {
         count

@@ -7,12 +7,13 @@ use native.Mathlib.Omega.{arith}
 use lib.ListN.{length, replicate, length-replicate}
 use lib.Seq.{take-nil}
 use Rattle.cells.specs.CellsAndBytes.{packed}
-use Rattle.flux.specs.Separation.{cellsOf, separation, separatedCells, separatedAnswer}
+use Rattle.separation.specs.Separation.{cellsOf, separation, separatedCells, separatedAnswer}
 use Rattle.flux.specs.declared.Separated.{Separated}
 use Rattle.flux.specs.declared.Separated.the-variants.{Cells, Refused}
-use Rattle.listing.specs.Listing.{listingOf, refusedLine, outAfter}
+use Rattle.listing.specs.Listing.{listingOf}
+use Rattle.lines.specs.Lines.{refusedLine, outAfter}
 use Rattle.listing.specs.ListingOfFile.{printedFile, fileListing}
-use Rattle.listing.proofs.Lengths.{refused-few}
+use Rattle.lines.proofs.Lengths.{refused-few}
 use Rattle.refusals.specs.RefusedCalls.{Answer, refusedWith, bufferAfter, numberOf}
 use Rattle.refusals.specs.RefusedCalls.Answer.{gives, refused}
 use Rattle.refusals.specs.declared.Refusal.{Refusal}

@@ -5,7 +5,7 @@ use mathlib.Core.Path.{_≡_}
 use mathlib.Core.Bool.{Bool, cond}
 use mathlib.Core.List.{List, []}
 use lib.ListN.{length, take, replicate}
-use Rattle.listing.specs.Listing.{refusedLine, outAfter}
+use Rattle.lines.specs.Lines.{refusedLine, outAfter}
 use Rattle.listing.specs.ListingOfFile.{fileListing}
 use Rattle.refusals.specs.RefusedCalls.{Answer}
 use Rattle.refusals.specs.RefusedCalls.Answer.{gives, refused}

@@ -6,7 +6,7 @@
 // REVOLUTIONS is the number of revolutions in the image's header, REVOLUTION the one to list, counted from 0, TRACK and SIDE the drive's.
 // Each is a number from 0 to 255. With other arguments the program writes how it is called to standard error, and nothing else. Where the
 // input cannot be read to its end, or is longer than 4,194,304 bytes, it says so there, and lists nothing.
-use flux::Separated;
+use refusals::Counted;
 use libc::STDERR_FILENO;
 use libc::STDIN_FILENO;
 use libc::STDOUT_FILENO;
@@ -14,7 +14,7 @@ ghost use mathlib.Core.Path.{_≡_};
 ghost use Prim.Native.Nat.{_≤_, min};
 ghost use mathlib.Core.List.{[]};
 ghost use lib.ListN.{length, take};
-ghost use Rattle.listing.specs.Listing.{outAfter};
+ghost use Rattle.lines.specs.Lines.{outAfter};
 ghost use Rattle.scp_track.specs.Arguments.{isDigit, argumentOf};
 ghost use Rattle.scp_track.specs.BlockListing.{roomForCells, blockListing, inputListing, ListedBlock};
 
@@ -62,10 +62,10 @@ fn list_block(
         &mut cells,
     );
     match separated {
-        Separated::Cells(count) => {
+        Counted::Count(count) => {
             listing::list_track(&cells, count, track as u32, side as u32, out)
         }
-        Separated::Refused(refusal) => listing::refused_line(out, refusal.number()),
+        Counted::Refused(refusal) => lines::refused_line(out, refusal.number()),
     }
 }
 

@@ -12,8 +12,8 @@ use lib.Seq.{length-take-le}
 use Rattle.basis.specs.Search.{least}
 use Rattle.basis.proofs.Bools.{or-left, or-right}
 use Rattle.basis.proofs.Search.{least-before}
-use Rattle.flux.specs.Separation.{firstOut, timingsJudged}
-use Rattle.flux.proofs.Judging.{no-timings}
+use Rattle.flux_timings.specs.Timings.{firstOut, timingsJudged}
+use Rattle.flux_timings.proofs.Judging.{no-timings}
 use Rattle.refusals.specs.RefusedCalls.{Answer, bufferAfter}
 use Rattle.refusals.specs.RefusedCalls.Answer.{gives, refused}
 use Rattle.supercard_pro.specs.TrackBlock.{valueCount, valueOffset, tableEnd, valueBytes, revolutionTimings, endsInZero, otherLetters, tableShort, badRevolution, someBad, notATrackBlock, blockJudged, blockAnswer, blockTimings}

@@ -4,8 +4,8 @@ use mathlib.Core.Path.{_≡_, refl}
 use mathlib.Core.Bool.{false}
 use mathlib.Core.List.{List, [], _∷_, _++_}
 use Rattle.basis.specs.Search.{least}
-use Rattle.flux.specs.Rule.{inRange}
-use Rattle.flux.specs.Separation.{firstOut, timingsJudged}
+use Rattle.flux_timings.specs.Timings.{inRange}
+use Rattle.flux_timings.specs.Timings.{firstOut, timingsJudged}
 use Rattle.refusals.specs.RefusedCalls.Answer.{gives, refused}
 use Rattle.revolution_values.specs.Values.{valuesOf, timingsFrom}
 use Rattle.supercard_pro.specs.TrackBlock.{revolutionTimings, endsInZero, badRevolution, notATrackBlock, blockJudged, blockAnswer}

@@ -17,8 +17,8 @@ use borrow.Author.Tests.{lt-ltb, le-ltb}
 use lib.Dec.{ltb}
 use lib.ListN.{length, length-append}
 use Rattle.basis.specs.Lists.{writtenOver}
-use Rattle.flux.specs.Separation.{firstOut}
-use Rattle.flux.proofs.Judging.{no-timings, timings-accepted}
+use Rattle.flux_timings.specs.Timings.{firstOut}
+use Rattle.flux_timings.proofs.Judging.{no-timings, timings-accepted}
 use Rattle.refusals.specs.RefusedCalls.{Answer, bufferAfter}
 use Rattle.refusals.specs.RefusedCalls.Answer.{gives, refused}
 use Rattle.supercard_pro.specs.TrackBlock.{valueBytes, revolutionTimings, notATrackBlock, blockJudged, blockAnswer, blockTimings}

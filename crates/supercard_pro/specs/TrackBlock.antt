@@ -13,7 +13,7 @@ use lib.Dec.{eqb, ltb}
 use lib.ListN.{length, getD, take, drop}
 use Rattle.basis.specs.Bytes.{number}
 use Rattle.basis.specs.Search.{least}
-use Rattle.flux.specs.Separation.{timingsJudged}
+use Rattle.flux_timings.specs.Timings.{timingsJudged}
 use Rattle.refusals.specs.RefusedCalls.{Answer, bufferAfter}
 use Rattle.refusals.specs.RefusedCalls.Answer.{refused}
 use Rattle.revolution_portions.specs.Portions.{roomJudged}

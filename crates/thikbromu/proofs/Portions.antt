@@ -4,7 +4,7 @@ use mathlib.Core.Path.{_≡_, _∙_, ap, subst}
 use mathlib.Core.Bool.{Bool, cond}
 use mathlib.Core.List.{List}
 use lib.ListN.{length}
-use Rattle.listing.specs.Listing.{outAfter}
+use Rattle.lines.specs.Lines.{outAfter}
 use Rattle.listing.specs.ListingOfFile.{printedFile, WholeListing}
 use Rattle.reader_numbers.specs.Numbers.{readerOf, stateAfter}
 use Rattle.refusals.specs.RefusedCalls.{Answer}

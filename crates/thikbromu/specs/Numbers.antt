@@ -4,7 +4,7 @@ use mathlib.Core.Bool.{cond}
 use mathlib.Core.List.{List, [], _∷_}
 use lib.ListN.{length, take}
 use Rattle.basis.specs.Lists.{writtenOver}
-use Rattle.flux.specs.Histogram.{counting, countsAfter}
+use Rattle.histogram.specs.Histogram.{counting, countsAfter}
 use Rattle.refusals.specs.RefusedCalls.{Answer}
 use Rattle.refusals.specs.RefusedCalls.Answer.{gives, refused}
 use Rattle.sectors.specs.Calls.{DataRead, indexAnswer, recordBeside, sectorOf}

@@ -21,9 +21,9 @@ pub use files::thikbromu_listing;
 use findings::Finding;
 use findings::Found;
 use flux::Counted;
-use flux::Separated;
-use flux::Separator;
-use flux::Taken;
+use refusals::Counted;
+use separator::Separator;
+use separator::Taken;
 use mfm::Written;
 use sectors::Listed;
 use sectors::ReadOut;
@@ -36,10 +36,10 @@ ghost use Rattle.basis.specs.Lists.{writtenOver};
 ghost use Rattle.cells.specs.CellsAndBytes.{cell, wordAt, leastPlace, cleared, withOne};
 ghost use Rattle.crc.specs.CheckWord.{checkWordFrom, checkWord};
 ghost use Rattle.mfm.specs.Calls.{answerOf, codingAnswer, decodingAnswer, encodedAfter, decodedAfter};
-ghost use Rattle.flux.specs.Rule.{takenAnswer, stepAnswer, stepResidual};
-ghost use Rattle.flux.specs.Separation.{separatedAnswer, separation, separatedCells};
-ghost use Rattle.flux.specs.Demand3.{Demand3};
-ghost use Rattle.flux.specs.Histogram.{countedAnswer, counting};
+ghost use Rattle.separator.specs.Rule.{takenAnswer, stepAnswer, stepResidual};
+ghost use Rattle.separation.specs.Separation.{separatedAnswer, separation, separatedCells};
+ghost use Rattle.separation.specs.Demand3.{Demand3};
+ghost use Rattle.histogram.specs.Histogram.{countedAnswer, counting};
 ghost use Rattle.sectors.specs.Calls.{listedAnswer, indexAnswer, readOutAnswer, dataAnswer, dataAfter};
 ghost use Rattle.findings.specs.Calls.{foundAnswer, findingsAnswer, listAfter, numbersAfter};
 ghost use Rattle.thikbromu.specs.Numbers.{numberIn, valueIn, countsLent, sectorNumbers, recordLent, numberRead, valueRead, checkRead};
@@ -178,7 +178,7 @@ pub extern "C" fn thikbromu_step_lent(residual: i32, timing: u32, value: &mut us
     ensures number { λ r. ⌜ r ≡ numberIn (stepAnswer residual timing) ⌝ }
     ensures value { λ _. ⌜ now (value .exit) ≡ valueIn (stepAnswer residual timing) ⌝ }
 {
-    let stepped = flux::step_lent(residual, timing);
+    let stepped = separator::step_lent(residual, timing);
     let taken = stepped.taken;
     told_taken(taken, value)
 }
@@ -188,7 +188,7 @@ pub extern "C" fn thikbromu_step_lent(residual: i32, timing: u32, value: &mut us
 pub extern "C" fn thikbromu_residual_after_lent(residual: i32, timing: u32) -> i32
     ensures { λ r. ⌜ r ≡ stepResidual residual timing ⌝ }
 {
-    let after = flux::step_lent(residual, timing);
+    let after = separator::step_lent(residual, timing);
     let next = after.next;
     next.residual
 }
@@ -216,18 +216,18 @@ pub extern "C" fn thikbromu_separate(timings: &[u32], cells: &mut [u8], value: &
     ensures buffer { λ _. ⌜ now (cells .exit) ≡ separatedCells (now (timings .entry)) (now (cells .entry)) ⌝ }
     ensures demand3 { λ _. ⌜ Demand3 (now (timings .entry)) (separation (now (timings .entry)) (length (now (cells .entry)))) (now (cells .entry)) (now (cells .exit)) ⌝ }
 {
-    told_separated(flux::separate(timings, cells), value)
+    told_separated(separation::separate(timings, cells), value)
 }
 
 fn told_separated(separated: Separated, value: &mut usize) -> u32
     ensures { λ r. ⌜ (r ≡ numberIn (separatedAnswer separated)) × (now (value .exit) ≡ valueIn (separatedAnswer separated)) ⌝ }
 {
     match separated {
-        Separated::Cells(count) => {
+        Counted::Count(count) => {
             *value = count;
             0
         }
-        Separated::Refused(refusal) => {
+        Counted::Refused(refusal) => {
             *value = refusal.value();
             refusal.number()
         }
@@ -242,7 +242,7 @@ pub extern "C" fn thikbromu_histogram(timings: &[u32], counts: &mut [u32], value
     ensures value { λ _. ⌜ now (value .exit) ≡ valueIn (counting (now (timings .entry))) ⌝ }
     ensures counts { λ _. ⌜ now (counts .exit) ≡ countsLent (now (timings .entry)) (now (counts .entry)) ⌝ }
 {
-    let histogram = flux::histogram_of(timings);
+    let histogram = histogram::histogram_of(timings);
     let made = histogram.counts;
     basis::copy_numbers(&made, counts);
     let answer = histogram.answer;

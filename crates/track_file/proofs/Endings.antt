@@ -7,20 +7,19 @@ use native.Mathlib.Omega.{arith}
 use borrow.Author.Tests.{lt-ltb, le-ltb}
 use lib.ListN.{length, replicate, length-replicate, drop-of-length-le}
 use Rattle.cells.specs.CellsAndBytes.{cleared}
-use Rattle.flux.specs.declared.Separator.{Separator}
+use Rattle.separator.specs.declared.Separator.{Separator}
 use Rattle.refusals.specs.RefusedCalls.{refusedWith}
 use Rattle.refusals.specs.RefusedCalls.Answer.{refused}
 use Rattle.refusals.specs.declared.Refusal.{Refusal}
 use Rattle.refusals.specs.declared.Refusal.the-variants.{NoRoom}
-use Rattle.track_file.specs.Portions.{startOf, startCells, readerAfterByte, cellsAfterByte, readerAfter, cellsAfter, readAnswer, timingsAnswer, finishAnswer, leftAfter}
+use Rattle.track_file.specs.Portions.{startOf, startCells, readerAfterByte, cellsAfterByte, readerAfter, cellsAfter, readAnswer, timingsAnswer, finishAnswer}
 use Rattle.track_file.specs.declared.Place.{Place}
 use Rattle.track_file.specs.declared.Number.the-variants.{Empty}
 use Rattle.track_file.specs.declared.TakenTimings.{TakenTimings}
 use Rattle.track_file.specs.declared.TakenTimings.the-variants.{InRange, OutOfRange}
 use Rattle.track_file.specs.declared.Reader.{Reader}
 use Rattle.track_file.specs.declared.Reader.the-variants.{PlaceCount, AllCells, AllTimings, Stopped}
-use Rattle.track_file.specs.declared.Read.{Read}
-use Rattle.track_file.specs.declared.Read.the-variants.{Cells, Refused}
+use Rattle.track_file.specs.declared.Read.the-variants.{Cells}
 
 -- a buffer cleared whole
 pub cleared-whole : (buffer : List ℕ) → cleared (length buffer) buffer ≡ replicate (length buffer) 0
@@ -85,12 +84,3 @@ module _ (reader : Reader) where
   pub given-stopped : {refusal : Refusal} → reader ≡ Stopped refusal → refusedWith refusal ≡ finishAnswer reader
   unfolding finishAnswer
   given-stopped e = rw e
-
-module _ (read : Read) (buffer : List ℕ) where
-  pub accepted-kept : {track side count : ℕ} → read ≡ Cells track side count → buffer ≡ leftAfter (readAnswer read) buffer
-  unfolding leftAfter
-  accepted-kept e = rw e
-
-  pub refused-left : {refusal : Refusal} {after : List ℕ} → read ≡ Refused refusal → after ≡ startCells buffer → after ≡ leftAfter (readAnswer read) buffer
-  unfolding leftAfter
-  refused-left e f = rw e f

@@ -15,7 +15,7 @@ use Rattle.basis.specs.Lists.{writtenOver}
 use Rattle.cells.specs.CellsAndBytes.{bytesFor, packed}
 use Rattle.refusals.specs.RefusedCalls.Answer.{gives}
 use Rattle.refusals.specs.declared.Refusal.the-variants.{CellCount as CellsRefused, TooManyTimings, NotATrackFile as NoTrackFile}
-use Rattle.flux.specs.Separation.{cellsOf}
+use Rattle.separation.specs.Separation.{cellsOf}
 use Rattle.basis.specs.Bytes.{fourBytes, number}
 use Rattle.track_file.specs.TrackFile.{numbers, Content, placed, fileCells}
 use Rattle.track_file.specs.Portions.{numberAfter, takenAfter, takenCells, afterPlaceCount, afterCellCount, afterFluxCount, inPlaceCount, inCellCount, inFluxCount, inTiming, inTimingCells, readerAfterByte, cellsAfterByte, readerAfter, cellsAfter, finishAnswer}

@@ -13,7 +13,7 @@ use Rattle.cells.specs.CellsAndBytes.{bytesFor}
 use Rattle.refusals.specs.RefusedCalls.{Answer}
 use Rattle.refusals.specs.RefusedCalls.Answer.{gives, refused}
 use Rattle.refusals.specs.declared.Refusal.the-variants.{NotATrackFile as NoTrackFile}
-use Rattle.flux.specs.Separation.{separation}
+use Rattle.separation.specs.Separation.{separation}
 use Rattle.basis.specs.Bytes.{fourBytes, number}
 use Rattle.track_file.specs.TrackFile.{Content, placed, trackOf, sideOf, placeCount, cellSection, cellCount, fluxSection, fluxCount, timings, bothOrNeither, givenAtOnce, notATrackFile, fileAnswer}
 use Rattle.track_file.specs.Portions.{numberAfter, afterPlaceCount, inPlaceCount, readerAfterByte, readerAfter, finishAnswer}

@@ -7,16 +7,16 @@ use mathlib.Core.List.{List, [], _∷_, _++_}
 use native.Mathlib.Omega.{arith}
 use borrow.Author.Tests.{le-ltb, eq-eqb, ne-eqb}
 use lib.Dec.{eqb, ltb}
-use lib.ListN.{length, drop, replicate, length-replicate}
+use lib.ListN.{length, drop}
 use Rattle.cells.specs.CellsAndBytes.{packed}
 use Rattle.basis.proofs.Bools.{and-false}
 use Rattle.refusals.specs.RefusedCalls.{Answer, bufferAfter}
 use Rattle.refusals.specs.RefusedCalls.Answer.{gives, refused}
-use Rattle.flux.specs.Separation.{cellsOf, separation, separatedCells}
-use Rattle.flux.specs.Demand3.{Demand3}
-use Rattle.flux.proofs.Promise.{promised}
+use Rattle.separation.specs.Separation.{cellsOf, separation, separatedCells}
+use Rattle.separation.specs.Demand3.{Demand3}
+use Rattle.separation.proofs.Promise.{promised}
 use Rattle.track_file.specs.FluxFile.{timingBytes, fluxFile}
-use Rattle.track_file.specs.TrackFile.{numbers, Content, placed, trackOf, sideOf, placeCount, cellSection, cellCount, fluxSection, fluxCount, timings, fileLength, hasCount, bothOrNeither, givenAtOnce, notATrackFile, fileAnswer, fileCells, fileAnswerIn, fileBuffer}
+use Rattle.track_file.specs.TrackFile.{numbers, Content, placed, trackOf, sideOf, placeCount, cellSection, cellCount, fluxSection, fluxCount, timings, fileLength, hasCount, bothOrNeither, givenAtOnce, notATrackFile, fileAnswer, fileCells, fileAnswerIn}
 use Rattle.track_file.proofs.Taking.{separation-is}
 use Rattle.track_file.proofs.Staged.{length-numbers}
 
@@ -28,15 +28,11 @@ pub record FluxFile (file : List ℕ) : Type 0 where
   pub few : fluxCount file ≤ 65536
   pub whole : length file ≡ fileLength file
 
--- the buffer that the separator is lent: zeros, as many as the file's buffer has
-abbrev pub blank : List ℕ → List ℕ
-blank buffer = replicate (length buffer) 0
-
--- what the separator promises of the timings ts, with the place around it
+-- what the separator promises of the timings ts on a lent buffer, with the place around it
 pub record AsSeparated (track side : ℕ) (ts buffer file : List ℕ) : Type 0 where
-  pub answer : fileAnswerIn (length buffer) file ≡ placed track side (separation ts (length (blank buffer)))
-  pub cells : fileBuffer buffer file ≡ separatedCells ts (blank buffer)
-  pub demand3 : Demand3 ts (separation ts (length (blank buffer))) (blank buffer) (fileBuffer buffer file)
+  pub answer : fileAnswerIn (length buffer) file ≡ placed track side (separation ts (length buffer))
+  pub cells : bufferAfter (fileAnswerIn (length buffer) file) (fileCells file) buffer ≡ separatedCells ts buffer
+  pub demand3 : Demand3 ts (separation ts (length buffer)) buffer (bufferAfter (fileAnswerIn (length buffer) file) (fileCells file) buffer)
 
 -- no refusal goes before the separator's, whatever counts are there
 none-before : (a b c : Bool) (p n v len total : ℕ) (accepted : Bool → Answer Content) → p ≡ 2 → n ≡ 0 → (v ≡ 0 → ⊥) → v ≤ 65536 → len ≡ total
@@ -77,15 +73,14 @@ module _ (file : List ℕ) (flux : FluxFile file) where
   same-buffer track side (refused number value) front buffer = refl
 
   pub as-separated : (buffer : List ℕ) → 16384 ≤ length buffer → AsSeparated (trackOf file) (sideOf file) ts buffer file
-  unfolding fileAnswerIn fileBuffer
+  unfolding fileAnswerIn
   as-separated buffer big =
-      let room : 16384 ≤ length (blank buffer) = subst (λ (n : ℕ). 16384 ≤ n) (sym (length-replicate (length buffer) 0)) big in
-      let same = sym (separation-is ts some-timings few-timings 16384 (omega arith)) ∙ separation-is ts some-timings few-timings (length (blank buffer)) room in
+      let judged = separation ts (length buffer) in
+      let same = sym (separation-is ts some-timings few-timings 16384 (omega arith)) ∙ separation-is ts some-timings few-timings (length buffer) big in
       let answer = answer-is ∙ ap (placed (trackOf file) (sideOf file)) same in
-      let is = promised ts (blank buffer) {after = bufferAfter (fileAnswer file) (fileCells file) (blank buffer)} {answer = separation ts (length (blank buffer))} refl
-      (ap (λ (x : Answer Content). bufferAfter x (fileCells file) (blank buffer)) answer
-      ∙ same-buffer (trackOf file) (sideOf file) (separation ts (length (blank buffer))) (fileCells file) (blank buffer)
-      ∙ ap (λ (x : List ℕ). bufferAfter (separation ts (length (blank buffer))) x (blank buffer)) cells-are) in
+      let is = promised ts buffer {after = bufferAfter (fileAnswer file) (fileCells file) buffer} {answer = judged} refl
+      (ap (λ (x : Answer Content). bufferAfter x (fileCells file) buffer) answer ∙ same-buffer (trackOf file) (sideOf file) judged (fileCells file) buffer
+      ∙ ap (λ (x : List ℕ). bufferAfter judged x buffer) cells-are) in
       record {
         answer = rw (le-ltb (length buffer) 16384 big) answer;
         cells = rw (le-ltb (length buffer) 16384 big) (is .1 .0);

@@ -7,7 +7,6 @@ pub mod Taking
 pub mod TimingCells
 pub mod Staged
 pub mod Judged
-pub mod Lengths
 pub mod Filling
 pub mod Whole
 pub mod Stopping

@@ -6,10 +6,10 @@ use mathlib.Core.List.{List}
 use borrow.Author.Tests.{lt-ltb, le-ltb, eq-eqb, ne-eqb}
 use lib.IntN.{ℤ}
 use Rattle.cells.specs.CellsAndBytes.{withOne}
-use Rattle.flux.specs.Rule.{stepAnswer, stepResidual, takenAnswer}
-use Rattle.flux.specs.declared.Separator.{Separator}
-use Rattle.flux.specs.declared.Taken.{Taken}
-use Rattle.flux.specs.declared.Taken.the-variants.{Cells, Refused}
+use Rattle.separator.specs.Rule.{stepAnswer, stepResidual, takenAnswer}
+use Rattle.separator.specs.declared.Separator.{Separator}
+use Rattle.separator.specs.declared.Taken.{Taken}
+use Rattle.separator.specs.declared.Taken.the-variants.{Cells, Refused}
 use Rattle.refusals.specs.declared.Refusal.{Refusal}
 use Rattle.basis.specs.Bytes.{fourBytes}
 use Rattle.track_file.specs.Portions.{numberAfter, countAfter, timingCells, takenStep, takenAfter, stepCells, takenCells}

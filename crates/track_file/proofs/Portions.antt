@@ -8,7 +8,7 @@ use native.Mathlib.Omega.{arith}
 use lib.ListN.{length, getD, drop, drop-of-length-le}
 use lib.Seq.{drop-cons}
 use Rattle.basis.specs.Bytes.{fourBytes}
-use Rattle.track_file.specs.Portions.{numberAfter, takenAfter, takenCells, inTiming, inTimingCells, readerAfterByte, cellsAfterByte, readerAfter, cellsAfter, readerAfterAll, cellsAfterAll, wholeOf}
+use Rattle.track_file.specs.Portions.{startOf, startCells, numberAfter, takenAfter, takenCells, inTiming, inTimingCells, readerAfterByte, cellsAfterByte, readerAfter, cellsAfter, readerAfterAll, cellsAfterAll, readerThrough, cellsThrough, wholeOf}
 use Rattle.track_file.specs.declared.Place.{Place}
 use Rattle.track_file.specs.declared.Number.{Number}
 use Rattle.track_file.specs.declared.Number.the-variants.{Empty}
@@ -57,6 +57,14 @@ module _ (portion : List ℕ) where
   unfolding wholeOf
   whole-then [] = append-nil portion
   whole-then (first ∷ portions) = ap (λ (x : List ℕ). first ++ x) (whole-then portions) ∙ sym (append-assoc first (wholeOf portions) portion)
+
+-- a file in one portion
+pub in-one-portion : (buffer file : List ℕ) {start reader : Reader} {cleared cells : List ℕ} → (start ≡ startOf (length buffer)) × (cleared ≡ startCells buffer)
+    → (reader ≡ readerAfter start file) × (cells ≡ cellsAfter start file cleared)
+    → (reader ≡ readerThrough buffer (file ∷ [])) × ((cells ≡ cellsThrough buffer (file ∷ [])) × (wholeOf (file ∷ []) ≡ file))
+unfolding readerAfterAll cellsAfterAll wholeOf
+in-one-portion buffer file started fed =
+    (rw (← started .0) (fed .0), (rw (← started .0, ← started .1) (fed .1), append-nil file))
 
 -- the bytes of a portion from `from` to i are fed
 pub record Fed (portion cells₀ : List ℕ) (reader₀ : Reader) (from : ℕ) (cells : List ℕ) (reader : Reader) (i : ℕ) : Type 0 where

@@ -4,7 +4,7 @@ use mathlib.Core.Path.{_≡_, ap}
 use borrow.Author.Tests.{lt-ltb, le-ltb, eq-eqb, ne-eqb}
 use lib.IntN.{ℤ, pos}
 use Rattle.cells.specs.CellsAndBytes.{bytesFor}
-use Rattle.flux.specs.declared.Separator.{Separator}
+use Rattle.separator.specs.declared.Separator.{Separator}
 use Rattle.refusals.specs.declared.Refusal.the-variants.{CellCount as CellsRefused, TooManyTimings, NotATrackFile as NoTrackFile}
 use Rattle.track_file.specs.Portions.{afterPlaceCount, afterCellCount, afterPackedByte, afterFluxCount, afterTiming}
 use Rattle.track_file.specs.declared.Place.{Place}

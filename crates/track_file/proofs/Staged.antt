@@ -14,7 +14,7 @@ use Rattle.refusals.specs.RefusedCalls.{Answer, refusedWith}
 use Rattle.refusals.specs.RefusedCalls.Answer.{gives, refused}
 use Rattle.refusals.specs.declared.Refusal.{Refusal}
 use Rattle.refusals.specs.declared.Refusal.the-variants.{CellCount as CellsRefused, TooManyTimings}
-use Rattle.flux.specs.Separation.{separation}
+use Rattle.separation.specs.Separation.{separation}
 use Rattle.basis.specs.Bytes.{fourBytes, number}
 use Rattle.track_file.specs.TrackFile.{numbers, Content, placed}
 use Rattle.track_file.specs.Portions.{numberAfter, takenAfter, afterCellCount, afterFluxCount, afterTiming, inCellCount, inFluxCount, inTiming, readerAfterByte, readerAfter, finishAnswer}

@@ -9,7 +9,7 @@ use lib.Dec.{eqb, ltb}
 use lib.IntN.{ℤ, pos}
 use lib.ListN.{length, set, replicate}
 use Rattle.cells.specs.CellsAndBytes.{bytesFor, withOne}
-use Rattle.flux.specs.Rule.{stepAnswer, stepResidual}
+use Rattle.separator.specs.Rule.{stepAnswer, stepResidual}
 use Rattle.refusals.specs.RefusedCalls.{Answer, refusedWith}
 use Rattle.refusals.specs.RefusedCalls.Answer.{gives, refused}
 use Rattle.refusals.specs.declared.Refusal.the-variants.{CellCount as CellsRefused, TooManyTimings, NoRoom, NotATrackFile as NoTrackFile}
@@ -210,16 +210,12 @@ finishAnswer (AllTimings place taken) = placed (place .track) (place .side) (tim
 finishAnswer NotATrackFile = refused 15 0
 finishAnswer (Stopped refusal) = refusedWith refusal
 
--- and what it leaves in the buffer: beside a refusal zeros, but one with too little room is kept
-unfoldable pub leftAfter : Answer Content → List ℕ → List ℕ
-leftAfter (gives content) buffer = buffer
-leftAfter (refused number value) buffer = startCells buffer
-
 -- for every file and every way to cut it into portions: where `start` was called on a buffer and then `feed` on each portion in turn,
--- the answer and the cell buffer of `finish` are those of the whole file
-pub record WholeFile (reader : Reader) (before : List ℕ) (answer : Answer Content) (after : List ℕ) : Type 0 where
-  pub whole : (buffer : List ℕ) (portions : List (List ℕ)) → reader ≡ readerThrough buffer portions → before ≡ cellsThrough buffer portions
-      → (answer ≡ fileAnswerIn (length buffer) (wholeOf portions)) × (after ≡ fileBuffer buffer (wholeOf portions))
+-- the answer of `finish` is that of the whole file. Where it is accepted, what they left in the buffer are the file's cells and zeros
+pub record WholeFile (reader : Reader) (answer : Answer Content) : Type 0 where
+  pub whole : (buffer : List ℕ) (portions : List (List ℕ)) → reader ≡ readerThrough buffer portions
+      → (answer ≡ fileAnswerIn (length buffer) (wholeOf portions))
+      × ((content : Content) → answer ≡ gives content → cellsThrough buffer portions ≡ fileBuffer (length buffer) (wholeOf portions))
 
 -- what `stopped` answers, where `start` was called on a buffer and then `feed` on each portion in turn: whether the bytes so far are refused
 -- at once, or the buffer is. Where it answers yes, the file gives the same whatever comes after
@@ -227,5 +223,4 @@ pub record AtOnce (reader : Reader) (stopped : Bool) : Type 0 where
   pub exactly : (buffer : List ℕ) (portions : List (List ℕ)) → reader ≡ readerThrough buffer portions
       → stopped ≡ (ltb (length buffer) 16384 || refusedAtOnce (wholeOf portions))
   pub settled : stopped ≡ true → (buffer : List ℕ) (portions : List (List ℕ)) → reader ≡ readerThrough buffer portions → (rest : List ℕ)
-      → (fileAnswerIn (length buffer) (wholeOf portions ++ rest) ≡ fileAnswerIn (length buffer) (wholeOf portions))
-      × (fileBuffer buffer (wholeOf portions ++ rest) ≡ fileBuffer buffer (wholeOf portions))
+      → fileAnswerIn (length buffer) (wholeOf portions ++ rest) ≡ fileAnswerIn (length buffer) (wholeOf portions)

@@ -1,12 +1,12 @@
 // The track file, taken in portions that are cut anywhere between two bytes: `start`, then `feed` for each portion, then `finish`. The
 // cells go to a buffer that the caller lends to each call. Timings are stepped as they are read, so that none are kept.
-use flux::Separator;
-use flux::Taken;
+use separator::Separator;
+use separator::Taken;
 use refusals::Refusal;
 ghost use mathlib.Core.Path.{_≡_};
 ghost use Prim.Native.Nat.{_≤_};
 ghost use lib.ListN.{length, set, drop};
-ghost use Rattle.track_file.specs.Portions.{startOf, startCells, readerAfter, cellsAfter, isStopped, AtOnce, readAnswer, finishAnswer, leftAfter, WholeFile, numberAfter, countAfter, timingCells, takenAfter, takenCells, afterPlaceCount, afterCellCount, afterPackedByte, afterFluxCount, afterTiming, readerAfterByte, cellsAfterByte};
+ghost use Rattle.track_file.specs.Portions.{startOf, startCells, readerAfter, cellsAfter, isStopped, AtOnce, readAnswer, finishAnswer, WholeFile, numberAfter, countAfter, timingCells, takenAfter, takenCells, afterPlaceCount, afterCellCount, afterPackedByte, afterFluxCount, afterTiming, readerAfterByte, cellsAfterByte};
 
 // The bytes that a cell buffer must have: room for 131,072 cells.
 pub const ROOM: usize = 16_384;
@@ -116,15 +116,12 @@ pub fn stopped(reader: Reader) -> bool
     }
 }
 
-// The end of the file: what it gives. Beside a refusal the buffer is cleared, so that nothing of a refused file is left in it.
-pub fn finish(reader: Reader, cells: &mut [u8]) -> Read
+// The end of the file: what it gives. It writes nothing: the cells stand in the buffer that the portions were fed with.
+pub fn finish(reader: Reader) -> Read
     ensures answer { λ r. ⌜ readAnswer r ≡ finishAnswer reader ⌝ }
-    ensures buffer { λ _. ⌜ now (cells .exit) ≡ leftAfter (finishAnswer reader) (now (cells .entry)) ⌝ }
-    ensures file { λ r. ⌜ WholeFile reader (now (cells .entry)) (readAnswer r) (now (cells .exit)) ⌝ }
+    ensures file { λ r. ⌜ WholeFile reader (readAnswer r) ⌝ }
 {
-    let read = given(reader);
-    clear_refused(read, cells);
-    read
+    given(reader)
 }
 
 // The most cells and the most timings that a file's counts may say.
@@ -155,7 +152,7 @@ fn given(reader: Reader) -> Read
                 cells,
                 separator: _,
             } => {
-                if flux::MOST_CELLS < cells {
+                if separation::MOST_CELLS < cells {
                     Read::Refused(Refusal::TooManyCells(cells))
                 } else {
                     Read::Cells {
@@ -169,25 +166,6 @@ fn given(reader: Reader) -> Read
         },
         Reader::NotATrackFile => Read::Refused(Refusal::NotATrackFile),
         Reader::Stopped(refusal) => Read::Refused(refusal),
-    }
-}
-
-// Clears the buffer beside a refusal. One with too little room was never written and is kept.
-fn clear_refused(read: Read, cells: &mut [u8])
-    ensures { λ _. ⌜ now (cells .exit) ≡ leftAfter (readAnswer read) (now (cells .entry)) ⌝ }
-{
-    match read {
-        Read::Cells {
-            track: _,
-            side: _,
-            count: _,
-        } => {}
-        Read::Refused(_) => {
-            let room = cells.len();
-            if ROOM <= room {
-                cells::clear(cells, room);
-            }
-        }
     }
 }
 
@@ -400,7 +378,7 @@ fn put_cells(cells: &mut [u8], at: usize, count: u32)
         return;
     }
     let last = add_count(at, count - 1);
-    if last < flux::MOST_CELLS {
+    if last < separation::MOST_CELLS {
         cells::put_one(cells, last);
     }
 }

@@ -2,7 +2,7 @@
 use mathlib.Core.Path.{ap, _∙_}
 use mir.Facts.{toZ-ofZ}
 use lib.IntN.{ℤ}
-use Rattle.flux.specs.Rule.{stepResidual}
+use Rattle.separator.specs.Rule.{stepResidual}
 use borrow.Author.Needs.{needs}
 use Rattle.thikbromu.proofs.thikbromu_residual_after.Statement.{statement}
 use Rattle.thikbromu.proofs.thikbromu_residual_after.Tie as tie

@@ -2,7 +2,7 @@
 use mathlib.Core.Path.{ap, _∙_}
 use mir.Facts.{toZ-ofZ}
 use lib.IntN.{ℤ}
-use Rattle.flux.specs.Rule.{stepAnswer}
+use Rattle.separator.specs.Rule.{stepAnswer}
 use Rattle.thikbromu.specs.Numbers.{numberIn, valueIn}
 use borrow.Author.Needs.{needs}
 use Rattle.thikbromu.proofs.thikbromu_step_lent.Statement.{statement}
