@@ -1,6 +1,5 @@
 // From a track block to cells, by way of a revolution's timings.
 use refusals::Counted;
-use refusals::Counted;
 use supercard_pro::revolution_timings;
 ghost use mathlib.Core.Path.{_≡_};
 ghost use lib.ListN.{length};

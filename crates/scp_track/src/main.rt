@@ -6,10 +6,10 @@
 // REVOLUTIONS is the number of revolutions in the image's header, REVOLUTION the one to list, counted from 0, TRACK and SIDE the drive's.
 // Each is a number from 0 to 255. With other arguments the program writes how it is called to standard error, and nothing else. Where the
 // input cannot be read to its end, or is longer than 4,194,304 bytes, it says so there, and lists nothing.
-use refusals::Counted;
 use libc::STDERR_FILENO;
 use libc::STDIN_FILENO;
 use libc::STDOUT_FILENO;
+use refusals::Counted;
 ghost use mathlib.Core.Path.{_≡_};
 ghost use Prim.Native.Nat.{_≤_, min};
 ghost use mathlib.Core.List.{[]};

@@ -8,7 +8,7 @@ use Rattle.supercard_pro.specs.Portions.{portionAnswer, portionReader, portionL
 use Rattle.supercard_pro.specs.Numbers.{readerOfNumber, numberKept, AllByNumber}
 use Rattle.supercard_pro.proofs.ByNumbers.{all-by-number}
 use Rattle.supercard_pro.specs.declared.RevolutionReader.{RevolutionReader}
-use Rattle.thikbromu.specs.Numbers.{numberIn, valueIn}
+use Rattle.telling.specs.Numbers.{numberIn, valueIn}
 
 -- what `take` promises of a reader
 abbrev Taken : RevolutionReader → List ℕ → List ℕ → Answer ℕ → RevolutionReader → List ℕ → Type 0

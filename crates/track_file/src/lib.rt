@@ -1,8 +1,8 @@
 // The track file, taken in portions that are cut anywhere between two bytes: `start`, then `feed` for each portion, then `finish`. The
 // cells go to a buffer that the caller lends to each call. Timings are stepped as they are read, so that none are kept.
+use refusals::Refusal;
 use separator::Separator;
 use separator::Taken;
-use refusals::Refusal;
 ghost use mathlib.Core.Path.{_≡_};
 ghost use Prim.Native.Nat.{_≤_};
 ghost use lib.ListN.{length, set, drop};

@@ -48,7 +48,7 @@ use Rattle.findings.proofs.findings as findings
 use Rattle.findings.proofs.findings.Symbol as findings-def
 use Rattle.findings.proofs.findings.Symbol.{name as #findings}
 use Rattle.findings.proofs.findings.Met as findings-thm
-use Rattle.thikbromu.specs.Numbers.{numberIn, valueIn}
+use Rattle.telling.specs.Numbers.{numberIn, valueIn}
 use Rattle.thikbromu.proofs.told_found as told
 use Rattle.thikbromu.proofs.told_found.Symbol as told-def
 use Rattle.thikbromu.proofs.told_found.Symbol.{name as #told}
@@ -236,4 +236,4 @@ thikbromu-finding-records-spec 𝓤 H 𝓜 𝓖 𝓡 =
     (tables 𝓤 H 𝓜 𝓡 code.env .C) (tables 𝓤 H 𝓜 𝓡 code.env .Λ) #records code.function (code.unfolded 𝓤 H 𝓜 𝓡)
     (records-meets 𝓤 H (𝓖 .A) (givenOf 𝓤 H 𝓜 𝓖) (𝓜 .mem) (𝓡 .run) (tablesOf 𝓤 H 𝓜 (tables 𝓤 H 𝓜 𝓡 code.env))
     (cited 𝓤 H (Findings 𝓤 H (𝓖 .A) (𝓜 .mem) (𝓡 .run)) 𝓜 𝓡 code.env #findings findings-def.routine code.calls-findings·findings (findings-thm.met 𝓤 H 𝓜 𝓖 𝓡))
-    (cited 𝓤 H (Told 𝓤 H (𝓖 .A) (𝓜 .mem) (𝓡 .run)) 𝓜 𝓡 code.env #told told-def.routine code.calls-thikbromu·told-found (told-thm.met 𝓤 H 𝓜 𝓖 𝓡)))
+    (cited 𝓤 H (Told 𝓤 H (𝓖 .A) (𝓜 .mem) (𝓡 .run)) 𝓜 𝓡 code.env #told told-def.routine code.calls-thikbromu·told (told-thm.met 𝓤 H 𝓜 𝓖 𝓡)))

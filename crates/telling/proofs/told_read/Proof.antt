@@ -1,8 +1,8 @@
--- `thikbromu::told_read` meets its contract. Assumes nothing.
+-- `telling::told_read` meets its contract. Assumes nothing.
 use mathlib.Core.Path.{refl}
 use borrow.Author.Needs.{needs}
-use Rattle.thikbromu.proofs.told_read.Statement.{statement}
-use Rattle.thikbromu.proofs.told_read.Tie as tie
+use Rattle.telling.proofs.told_read.Statement.{statement}
+use Rattle.telling.proofs.told_read.Tie as tie
 
 enum-known-read : tie.Need-enum-known-read
 enum-known-read c = search needs

@@ -1,9 +1,9 @@
--- `thikbromu::sector_numbers` meets its contract. Assumes nothing.
+-- `telling::sector_numbers` meets its contract. Assumes nothing.
 use Rattle.mfm.proofs.Cells.{cast-is}
-use Rattle.thikbromu.specs.Numbers.{sectorNumbers}
+use Rattle.telling.specs.Numbers.{sectorNumbers}
 use borrow.Author.Needs.{needs}
-use Rattle.thikbromu.proofs.sector_numbers.Statement.{statement}
-use Rattle.thikbromu.proofs.sector_numbers.Tie as tie
+use Rattle.telling.proofs.sector_numbers.Statement.{statement}
+use Rattle.telling.proofs.sector_numbers.Tie as tie
 
 cast-t2 : tie.Need-cast-t2
 cast-t2 c = search needs

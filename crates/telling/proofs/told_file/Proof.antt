@@ -1,8 +1,8 @@
--- `thikbromu::files::told_file` meets its contract. Assumes nothing.
+-- `telling::told_file` meets its contract. Assumes nothing.
 use mathlib.Core.Path.{refl}
 use borrow.Author.Needs.{needs}
-use Rattle.thikbromu.proofs.files.told_file.Statement.{statement}
-use Rattle.thikbromu.proofs.files.told_file.Tie as tie
+use Rattle.telling.proofs.told_file.Statement.{statement}
+use Rattle.telling.proofs.told_file.Tie as tie
 
 enum-known-read : tie.Need-enum-known-read
 enum-known-read c = search needs
