@@ -134,7 +134,8 @@ pub extern "C" fn thikbromu_step(residual: &mut i32, timing: u32, value: &mut us
 {
     let stepped = separator::step_lent(*residual, timing);
     let next = stepped.next;
-    *residual = next.residual;
+    let advanced = next.residual;
+    *residual = advanced;
     let taken = stepped.taken;
     told_taken(taken, value)
 }

@@ -18,7 +18,7 @@ returns : tie.Need-returns
 returns c =
     let s = c .before .before .before .before .findings-as-numbers .ensures in
     let t = c .told .ensures in
-    (t .0 ∙ ap numberIn (s .0), (t .1 ∙ ap valueIn (s .0), s .1))
+    (t .0 ∙ ap numberIn (s .0), (t .1 ∙ ap valueIn (s .0), s .1 .1))
 
 pub thikbromu-findings-spec : {M : Type 1} → statement M
 thikbromu-findings-spec =
