@@ -17,7 +17,7 @@ use Rattle.findings.specs.PrivateContracts.{BoundedSector, BoundedTrack,
 use Rattle.findings.specs.declared.cell_rules.Gaps.{Gaps}
 use Rattle.findings.proofs.Runs.{zeros-few}
 use Rattle.findings.proofs.Syncs.{syncs-few}
-use Rattle.sectors.specs.Sectors.{reach, markLength, idLength, dataEnd, leastData, dataFound, idByte, dataLength, sectorAt, noSector, sectorsOf, kept}
+use Rattle.sectors.specs.Sectors.{reach, markLength, idLength, endOfData, leastData, dataFound, idByte, dataLength, sectorAt, noSector, sectorsOf, kept}
 use Rattle.sectors.specs.declared.Sector.{Sector}
 use Rattle.sectors.specs.declared.Sectors.{Sectors}
 use Rattle.sectors.proofs.Kept.{kept-at}
@@ -83,6 +83,6 @@ unfolding syncsInside
 inside-few f s near =
     omega (arith, syncs-few f (s .place + markLength) (s .place + idLength), go (ltb 0 (s .«data_length»)))
   where
-    go : (b : Bool) → cond b (syncsBetween f (s .«data_place» + markLength) (dataEnd (s .«data_place») (s .«data_length»))) 0 ≤ 16416
-    go true = omega (arith, syncs-few f (s .«data_place» + markLength) (dataEnd (s .«data_place») (s .«data_length»)), near .data-length)
+    go : (b : Bool) → cond b (syncsBetween f (s .«data_place» + markLength) (endOfData s)) 0 ≤ 16416
+    go true = omega (arith, syncs-few f (s .«data_place» + markLength) (endOfData s), near .data-length)
     go false = omega arith

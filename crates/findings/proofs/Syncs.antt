@@ -11,7 +11,7 @@ use Rattle.basis.proofs.Search.{least-low, least-high, least-same, count-few, c
 use Rattle.cells.specs.CellsAndBytes.{cell, wordAt, stands, leastPlace}
 use Rattle.findings.specs.Cells.{syncsBetween, syncsInside}
 use Rattle.sectors.specs.Marks.{syncAt}
-use Rattle.sectors.specs.Sectors.{markLength, idLength, dataEnd}
+use Rattle.sectors.specs.Sectors.{markLength, idLength, endOfData}
 use Rattle.sectors.specs.declared.Sector.{Sector}
 
 -- the search for the word of a sync finds the next sync
@@ -54,7 +54,7 @@ module _ (f : ℕ → ℕ) (s : Sector) (id : ℕ) (e : id ≡ syncsBetween f (s
   unfolding syncsInside
   inside-id h = rw (le-ltb 0 (s .«data_length») (omega arith)) (omega arith)
 
-  pub inside-both : (more : ℕ) → 0 < s .«data_length» → more ≡ syncsBetween f (s .«data_place» + markLength) (dataEnd (s .«data_place») (s .«data_length»))
+  pub inside-both : (more : ℕ) → 0 < s .«data_length» → more ≡ syncsBetween f (s .«data_place» + markLength) (endOfData s)
       → id + more ≡ syncsInside f s
   unfolding syncsInside
   inside-both more h g = rw (lt-ltb 0 (s .«data_length») h, e, g)

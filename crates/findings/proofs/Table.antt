@@ -14,7 +14,8 @@ use Rattle.basis.specs.Search.{count, least}
 use Rattle.findings.specs.Cells.{violation, longestRun, longestStart, syncsInside}
 use Rattle.findings.specs.Findings.{nth, atSector, duplicateAt, found}
 use Rattle.findings.specs.PrivateContracts.{kinds}
-use Rattle.findings.specs.Rules.{Hit, when, someSector, sameNumber, startsInData, hasDataMark, dataIsRead, endOfData}
+use Rattle.findings.specs.Rules.{Hit, when, someSector, sameNumber, startsInData, hasDataMark, dataIsRead}
+use Rattle.sectors.specs.Sectors.{endOfData}
 use Rattle.sectors.specs.declared.Sector.{Sector}
 
 -- a kind on the whole track: its test, place and detail

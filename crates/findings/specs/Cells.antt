@@ -4,7 +4,7 @@ use mathlib.Core.Bool.{Bool, cond, _&&_, _||_}
 use lib.Dec.{eqb, ltb}
 use Rattle.basis.specs.Search.{least, count, most}
 use Rattle.sectors.specs.Marks.{syncAt}
-use Rattle.sectors.specs.Sectors.{markLength, idLength, dataEnd}
+use Rattle.sectors.specs.Sectors.{markLength, idLength, endOfData}
 use Rattle.sectors.specs.declared.Sector.{Sector}
 
 -- a one at p
@@ -43,4 +43,4 @@ syncsBetween f a b = count (syncAt f) (b - 15 - a) a
 unfoldable pub syncsInside : (ℕ → ℕ) → Sector → ℕ
 syncsInside f s =
     syncsBetween f (s .place + markLength) (s .place + idLength)
-    + cond (ltb 0 (s .«data_length»)) (syncsBetween f (s .«data_place» + markLength) (dataEnd (s .«data_place») (s .«data_length»))) 0
+    + cond (ltb 0 (s .«data_length»)) (syncsBetween f (s .«data_place» + markLength) (endOfData s)) 0

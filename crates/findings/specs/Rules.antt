@@ -6,7 +6,7 @@ use mathlib.Core.List.{List, [], _∷_}
 use lib.Dec.{eqb, ltb, leb}
 use Rattle.basis.specs.Search.{count, least}
 use Rattle.findings.specs.Cells.{violation, longestRun, longestStart, syncsInside}
-use Rattle.sectors.specs.Sectors.{dataEnd}
+use Rattle.sectors.specs.Sectors.{endOfData}
 use Rattle.sectors.specs.declared.Sector.{Sector}
 
 -- a place and a detail that a rule finds
@@ -29,10 +29,6 @@ hasDataMark s = not (eqb (s .«data_mark») 0)
 
 abbrev pub dataIsRead : Sector → Bool
 dataIsRead s = ltb 0 (s .«data_length»)
-
--- the end of its data
-abbrev pub endOfData : Sector → ℕ
-endOfData s = dataEnd (s .«data_place») (s .«data_length»)
 
 -- 1 LGT: N above 103,000; 0; N
 abbrev pub lgt : ℕ → List Hit

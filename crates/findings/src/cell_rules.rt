@@ -1,5 +1,10 @@
 // The rules on the cells of a track: what MTV and NFA find, and the sync words that SID counts.
+use sectors::BYTE_LENGTH;
+use sectors::ID_LENGTH;
+use sectors::MARK_LENGTH;
+use sectors::SYNC;
 use sectors::Sector;
+use sectors::data_end;
 ghost use mathlib.Core.Path.{_≡_};
 ghost use mathlib.Core.Bool.{cond};
 ghost use Prim.Native.Nat.{_≤_};
@@ -56,33 +61,18 @@ pub fn syncs_inside(bytes: &[u8], n: usize, s: Sector) -> usize
     ensures { λ r. ⌜ r ≡ syncsInside (cell (now (bytes .entry)) n) s ⌝ }
 {
     let p = s.place as usize;
-    let length = s.data_length as usize;
     let id = syncs_between(bytes, n, p + MARK_LENGTH, p + ID_LENGTH);
-    if length == 0 {
+    if s.data_length == 0 {
         return id;
     }
     let data = s.data_place as usize + MARK_LENGTH;
-    id + syncs_between(bytes, n, data, data + BYTE_LENGTH * length + CHECK_LENGTH)
+    id + syncs_between(bytes, n, data, data_end(s))
 }
 
 // A next one 2, 3 or 4 cells on leaves 1 to 3 zeros between the two.
 const FEWEST_ZEROS: usize = 1;
 
 const MOST_ZEROS: usize = 3;
-
-// The sync A1, and its cells.
-const SYNC: u64 = 0x4489;
-
-const SYNC_LENGTH: usize = 16;
-
-// The cells of a byte, of two check bytes, of a mark with its byte, and of an ID with its mark and check bytes.
-const BYTE_LENGTH: usize = 16;
-
-const CHECK_LENGTH: usize = 32;
-
-const MARK_LENGTH: usize = 64;
-
-const ID_LENGTH: usize = 160;
 
 // One of two numbers, without a branch in the loop that asks.
 fn chosen(first: bool, a: usize, b: usize) -> usize
@@ -116,15 +106,15 @@ fn zeros_at_start(bytes: &[u8], n: usize) -> usize
 fn syncs_between(bytes: &[u8], n: usize, from: usize, to: usize) -> usize
     ensures { λ r. ⌜ r ≡ syncsBetween (cell (now (bytes .entry)) n) from to ⌝ }
 {
-    if to < SYNC_LENGTH {
+    if to < BYTE_LENGTH {
         return 0;
     }
     // after the last place at which it can start
-    let end = to - (SYNC_LENGTH - 1);
+    let end = to - (BYTE_LENGTH - 1);
     let mut syncs: usize = 0;
     let mut p = from;
     while p < end {
-        let at = cells::find_word(bytes, n, SYNC, SYNC_LENGTH, p, end);
+        let at = cells::find_word(bytes, n, SYNC, BYTE_LENGTH, p, end);
         syncs += one_if(at < end);
         p = at + 1;
     }

@@ -3,11 +3,12 @@
 use crate::cell_rules::Gaps;
 use sectors::Sector;
 use sectors::Sectors;
+use sectors::data_end;
 ghost use mathlib.Core.Path.{_≡_};
 ghost use mathlib.Core.List.{[]};
 ghost use Prim.Native.Nat.{_-_, _<_, _≤_};
 ghost use lib.ListN.{getD};
-ghost use Rattle.findings.specs.Rules.{endOfData, isInData, startsInData, someSector};
+ghost use Rattle.findings.specs.Rules.{isInData, startsInData, someSector};
 ghost use Rattle.findings.specs.PrivateContracts.{hitsOf, trackRules, idRules, dataRules, gapRules, BoundedSector, AtMost64, sectorsIn};
 
 // What a rule saw: whether it finds something, and if so at which place and with which detail.
@@ -58,11 +59,6 @@ const DELETED_DATA_MARK: u8 = 0xF8;
 
 // From how many zeros on a run is reported.
 const LONG_RUN: usize = 1000;
-
-// The cells of a mark with its byte, and of the check bytes after the data.
-const MARK: usize = 64;
-
-const CHECK: usize = 32;
 
 // Kinds 1 to 5, on the numbers of the track.
 pub fn track_rule(k: usize, n: u32, sectors: u32, track: u32) -> Seen
@@ -243,13 +239,6 @@ fn is_in_data(x: usize, e: Sector) -> bool
     ensures { λ r. ⌜ r ≡ isInData x e ⌝ }
 {
     ((e.data_place as usize) <= x) & (x < data_end(e))
-}
-
-// Where the data of a sector ends.
-fn data_end(s: Sector) -> usize
-    ensures { λ r. ⌜ r ≡ endOfData s ⌝ }
-{
-    s.data_place as usize + MARK + 16 * (s.data_length as usize) + CHECK
 }
 
 fn nothing() -> Seen

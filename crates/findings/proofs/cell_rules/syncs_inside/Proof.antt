@@ -3,16 +3,13 @@ use Prim.Native.Nat.{_+_, _<_}
 use native.Mathlib.Omega.{arith}
 use Rattle.cells.specs.CellsAndBytes.{cell}
 use Rattle.findings.proofs.Syncs.{syncs-few, inside-id, inside-both}
-use Rattle.sectors.specs.Sectors.{markLength, idLength, dataEnd}
+use Rattle.sectors.specs.Sectors.{markLength, idLength, endOfData}
 use borrow.Author.Needs.{needs}
 use Rattle.findings.proofs.cell_rules.syncs_inside.Statement.{statement}
 use Rattle.findings.proofs.cell_rules.syncs_inside.Tie as tie
 
 cast-p : tie.Need-cast-p
 cast-p c = search needs
-
-cast-length : tie.Need-cast-length
-cast-length c = search needs
 
 add-syncs-between : tie.Need-add-syncs-between
 add-syncs-between c = search needs
@@ -26,7 +23,7 @@ syncs-between-requires c κs = search needs
 returns : tie.Need-returns
 returns c =
     let s = c .before .before .before .before .before .args .s in
-    inside-id _ s _ (c .before .syncs-between .ensures) (c .if1 .taken)
+    inside-id _ s _ (c .before .before .syncs-between .ensures) (c .if1 .taken)
 
 cast-data : tie.Need-cast-data
 cast-data c = search needs
@@ -34,52 +31,44 @@ cast-data c = search needs
 add-data : tie.Need-add-data
 add-data c = search needs
 
-mul-syncs-between : tie.Need-mul-syncs-between
-mul-syncs-between c = search needs
-
-add-syncs-between-3 : tie.Need-add-syncs-between-3
-add-syncs-between-3 c = search needs
-
-add-syncs-between-4 : tie.Need-add-syncs-between-4
-add-syncs-between-4 c = search needs
+data-end-requires : tie.Need-data-end-requires
+data-end-requires c κs = search needs
 
 syncs-between-requires-2 : tie.Need-syncs-between-requires-2
 syncs-between-requires-2 c κs = search needs
 
 add-result : tie.Need-add-result
 add-result c =
-    let a = c .before .before .before .before .before .before .before .args in
+    let a = c .before .before .before .before .before .before .before .before .args in
     let f = cell (a .bytes .now) (a .n) in
     let s = a .s in
     omega (
       arith,
-      c .before .before .before .syncs-between .ensures,
+      c .before .before .before .before .before .syncs-between .ensures,
       c .syncs-between2 .ensures,
+      c .before .data-end .ensures,
       syncs-few f (s .place + markLength) (s .place + idLength),
-      syncs-few f (s .«data_place» + markLength) (dataEnd (s .«data_place») (s .«data_length»)),
+      syncs-few f (s .«data_place» + markLength) (c .before .data-end .result),
     )
 
 returns-2 : tie.Need-returns-2
 returns-2 c =
-    let s = c .before .before .before .before .before .before .before .args .s in
+    let s = c .before .before .before .before .before .before .before .before .args .s in
     let h : 0 < s .«data_length» = omega arith in
-    inside-both _ s _ (c .before .before .before .syncs-between .ensures) _ h (c .syncs-between2 .ensures)
+    inside-both _ s _ (c .before .before .before .before .before .syncs-between .ensures) _ h (rw (← c .before .data-end .ensures) (c .syncs-between2 .ensures))
 
 pub syncs-inside-spec : {M : Type 1} → statement M
 syncs-inside-spec =
     tie.close
     (tie.spec
     cast-p
-    cast-length
     add-syncs-between
     add-syncs-between-2
     syncs-between-requires
     returns
     cast-data
     add-data
-    mul-syncs-between
-    add-syncs-between-3
-    add-syncs-between-4
+    data-end-requires
     syncs-between-requires-2
     add-result
     returns-2)
