@@ -17,7 +17,7 @@ use Rattle.separation.specs.Demand3.{Demand3}
 use Rattle.separation.proofs.Promise.{promised}
 use Rattle.track_file.specs.FluxFile.{timingBytes, fluxFile}
 use Rattle.track_file.specs.TrackFile.{numbers, Content, placed, trackOf, sideOf, placeCount, cellSection, cellCount, fluxSection, fluxCount, timings, fileLength, hasCount, bothOrNeither, givenAtOnce, notATrackFile, fileAnswer, fileCells, fileAnswerIn}
-use Rattle.track_file.proofs.Taking.{separation-is}
+use Rattle.taken_timings.proofs.Taking.{separation-is}
 use Rattle.track_file.proofs.Staged.{length-numbers}
 
 -- a whole file with a flux section

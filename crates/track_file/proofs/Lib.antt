@@ -1,10 +1,5 @@
-pub mod Numbers
-pub mod Sections
-pub mod Bytes
 pub mod Endings
 pub mod Portions
-pub mod Taking
-pub mod TimingCells
 pub mod Staged
 pub mod Judged
 pub mod Filling
