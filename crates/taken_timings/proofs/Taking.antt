@@ -11,13 +11,15 @@ use lib.ListN.{length, length-append}
 use Rattle.cells.specs.CellsAndBytes.{bytesFor}
 use Rattle.refusals.specs.RefusedCalls.{Answer}
 use Rattle.refusals.specs.RefusedCalls.Answer.{gives, refused}
-use Rattle.flux.specs.Rule.{inRange, cellsAt, residualAfter, halfWindow}
-use Rattle.flux.specs.Separation.{cellsFor, windowsFrom, cellsIn, cellsOf, firstOut, timingsJudged, cellsJudged, separation}
-use Rattle.flux.proofs.Lifted.{Kept, kept-none, kept-next}
-use Rattle.flux.proofs.Timing.{range-of}
-use Rattle.flux.proofs.MachineStep.{cells-small}
-use Rattle.flux.proofs.Stepping.{step-refused, step-answers, step-leaves}
-use Rattle.flux.proofs.Walk.{length-for, cellsFrom}
+use Rattle.flux_timings.specs.Timings.{inRange}
+use Rattle.separator.specs.Rule.{cellsAt, residualAfter, halfWindow}
+use Rattle.separation.specs.Separation.{cellsFor, windowsFrom, cellsIn, cellsOf, cellsJudged, separation}
+use Rattle.flux_timings.specs.Timings.{firstOut, timingsJudged}
+use Rattle.separator.proofs.Lifted.{Kept, kept-none, kept-next}
+use Rattle.flux_timings.proofs.Timing.{range-of}
+use Rattle.separator.proofs.MachineStep.{cells-small}
+use Rattle.separator.proofs.Stepping.{step-refused, step-answers, step-leaves}
+use Rattle.separation.proofs.Walk.{length-for, cellsFrom}
 use Rattle.taken_timings.specs.Timings.{timingCells, takenStep, takenAfter, stepCells, takenCells, timingsAnswer}
 use Rattle.taken_timings.specs.declared.TakenTimings.{TakenTimings}
 use Rattle.taken_timings.specs.declared.TakenTimings.the-variants.{InRange, OutOfRange}

@@ -13,17 +13,19 @@ use Rattle.cells.proofs.Packing.{Cells}
 use Rattle.cells.proofs.Zeros.{cells-append}
 use Rattle.refusals.specs.RefusedCalls.{Answer}
 use Rattle.refusals.specs.RefusedCalls.Answer.{gives, refused}
-use Rattle.flux.specs.Rule.{inRange, cellsAt, residualAfter, halfWindow}
-use Rattle.flux.specs.Separation.{cellsFor, windowsFrom, cellsIn, cellsOf, firstOut, separation}
-use Rattle.flux.proofs.Lifted.{Kept, kept-none, kept-next}
-use Rattle.flux.proofs.Walk.{length-for, cells-for, cellsFrom}
-use Rattle.flux.proofs.Writing.{frontOf, front-with-timing, front-cleared, front-whole}
+use Rattle.flux_timings.specs.Timings.{inRange}
+use Rattle.separator.specs.Rule.{cellsAt, residualAfter, halfWindow}
+use Rattle.separation.specs.Separation.{cellsFor, windowsFrom, cellsIn, cellsOf, separation}
+use Rattle.flux_timings.specs.Timings.{firstOut}
+use Rattle.separator.proofs.Lifted.{Kept, kept-none, kept-next}
+use Rattle.separation.proofs.Walk.{length-for, cells-for, cellsFrom}
+use Rattle.separation.proofs.Writing.{frontOf, front-with-timing, front-cleared, front-whole}
 use Rattle.taken_timings.specs.Timings.{timingCells, takenAfter, takenCells}
 use Rattle.taken_timings.specs.declared.TakenTimings.{TakenTimings}
 use Rattle.taken_timings.proofs.Steps.{count-more}
 use native.Mathlib.Nat.{min-eq-left}
 use Rattle.basis.specs.Lists.{writtenOver}
-use Rattle.flux.proofs.FirstOut.{out-within}
+use Rattle.flux_timings.proofs.FirstOut.{out-within}
 use Rattle.taken_timings.proofs.Taking.{cellsOver, tookWith, n-small, one-taken, one-cells, first-later, first-here, length-more, separation-is}
 
 -- an answer is not both a refusal and accepted

@@ -6,7 +6,7 @@ use mathlib.Core.List.{List}
 use lib.Dec.{eqb, ltb}
 use lib.IntN.{ℤ, pos}
 use Rattle.cells.specs.CellsAndBytes.{withOne}
-use Rattle.flux.specs.Rule.{stepAnswer, stepResidual}
+use Rattle.separator.specs.Rule.{stepAnswer, stepResidual}
 use Rattle.refusals.specs.RefusedCalls.{Answer}
 use Rattle.refusals.specs.RefusedCalls.Answer.{gives, refused}
 use Rattle.taken_timings.specs.declared.TakenTimings.{TakenTimings}

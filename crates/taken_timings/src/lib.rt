@@ -1,6 +1,6 @@
 // Timings taken one by one: each is stepped, and its cells are put into a lent buffer after those so far. So none are kept.
-use flux::Separator;
-use flux::Taken;
+use separator::Separator;
+use separator::Taken;
 use refusals::Counted;
 use refusals::Refusal;
 ghost use mathlib.Core.Path.{_≡_};
@@ -69,7 +69,7 @@ pub fn count_taken(taken: TakenTimings) -> Counted
             cells,
             separator: _,
         } => {
-            if flux::MOST_CELLS < cells {
+            if separation::MOST_CELLS < cells {
                 Counted::Refused(Refusal::TooManyCells(cells))
             } else {
                 Counted::Count(cells)
@@ -88,7 +88,7 @@ fn put_cells(cells: &mut [u8], at: usize, count: u32)
         return;
     }
     let last = add_count(at, count - 1);
-    if last < flux::MOST_CELLS {
+    if last < separation::MOST_CELLS {
         cells::put_one(cells, last);
     }
 }

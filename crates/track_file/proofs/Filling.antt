@@ -16,7 +16,7 @@ use Rattle.cells.specs.CellsAndBytes.{bytesFor, packed}
 use Rattle.refusals.specs.RefusedCalls.{Answer}
 use Rattle.refusals.specs.RefusedCalls.Answer.{gives, refused}
 use Rattle.refusals.specs.declared.Refusal.the-variants.{CellCount as CellsRefused, TooManyTimings, NotATrackFile as NoTrackFile}
-use Rattle.flux.specs.Separation.{cellsOf, separation}
+use Rattle.separation.specs.Separation.{cellsOf, separation}
 use Rattle.basis.specs.Bytes.{fourBytes, number}
 use Rattle.track_file.specs.TrackFile.{numbers, Content, placed, fileCells}
 use Rattle.taken_timings.specs.Timings.{takenAfter, takenCells}
