@@ -1,8 +1,8 @@
 // Timings taken one by one: each is stepped, and its cells are put into a lent buffer after those so far. So none are kept.
-use separator::Separator;
-use separator::Taken;
 use refusals::Counted;
 use refusals::Refusal;
+use separator::Separator;
+use separator::Taken;
 ghost use mathlib.Core.Path.{_≡_};
 ghost use Rattle.refusals.specs.RefusedCalls.{countedAnswer};
 ghost use Rattle.taken_timings.specs.Timings.{noneTaken, countAfter, timingCells, takenAfter, takenCells, timingsAnswer};
