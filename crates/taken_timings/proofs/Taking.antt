@@ -125,9 +125,12 @@ judged-in-room n room h = go (ltb 131072 n) refl
 
 -- all timings, from the first
 module _ (ts : List ℕ) (some : length ts ≡ 0 → ⊥) (few : length ts ≤ 65536) where
-  pub separation-is : (room : ℕ) → 16384 ≤ room → cond (ltb (firstOut ts) (length ts)) (refused 8 (firstOut ts)) (inAll (length (cellsOf ts))) ≡ separation ts room
+  pub separation-judged : (room : ℕ) → separation ts room ≡ cond (ltb (firstOut ts) (length ts)) (refused 8 (firstOut ts)) (cellsJudged (length (cellsOf ts)) room)
   unfolding timingsJudged
-  separation-is room h = rw (ne-eqb (length ts) 0 some, le-ltb 65536 (length ts) few, ← judged-in-room (length (cellsOf ts)) room h)
+  separation-judged room = rw (ne-eqb (length ts) 0 some, le-ltb 65536 (length ts) few)
+
+  pub separation-is : (room : ℕ) → 16384 ≤ room → cond (ltb (firstOut ts) (length ts)) (refused 8 (firstOut ts)) (inAll (length (cellsOf ts))) ≡ separation ts room
+  separation-is room h = rw (separation-judged room, ← judged-in-room (length (cellsOf ts)) room h)
 
   pub taken-answer : timingsAnswer (takenOver (tookWith 0 0 (pos 0)) ts) ≡ separation ts 16384
   taken-answer =

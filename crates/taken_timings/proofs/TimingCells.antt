@@ -80,25 +80,26 @@ zeros-cleared : (k room : ℕ) → k ≤ room → zeros room ≡ cleared k (zero
 unfolding cleared
 zeros-cleared k room h = rw (length-replicate {A = ℕ} room 0, min-eq-left h, length-replicate {A = ℕ} k 0) (zeros-split k room h)
 
--- timings that the separator accepts
-pub record Accepted (ts : List ℕ) : Type 0 where
+-- timings that the separator accepts, with the number of their cells
+pub record Accepted (ts : List ℕ) (count : ℕ) : Type 0 where
+  pub counted : count ≡ length (cellsOf ts)
   pub all : firstOut ts ≡ length ts
   pub few : length (cellsOf ts) ≤ 131072
 
-pub accepted : (ts : List ℕ) → (length ts ≡ 0 → ⊥) → length ts ≤ 65536 → {count : ℕ} → separation ts 16384 ≡ gives count → Accepted ts
+pub accepted : (ts : List ℕ) → (length ts ≡ 0 → ⊥) → length ts ≤ 65536 → {count : ℕ} → separation ts 16384 ≡ gives count → Accepted ts count
 accepted ts some small {count} e =
     go (ltb (firstOut ts) (length ts)) (ltb 131072 (length (cellsOf ts))) refl refl (separation-is ts some small 16384 (omega arith) ∙ e)
   where
     go : (x y : Bool) → ltb (firstOut ts) (length ts) ≡ x → ltb 131072 (length (cellsOf ts)) ≡ y
-        → cond x (refused 8 (firstOut ts)) (cond y (refused 9 (length (cellsOf ts))) (gives (length (cellsOf ts)))) ≡ gives count → Accepted ts
+        → cond x (refused 8 (firstOut ts)) (cond y (refused 9 (length (cellsOf ts))) (gives (length (cellsOf ts)))) ≡ gives count → Accepted ts count
     go true y a b e = never e
     go false true a b e = never e
     go false false a b e =
         let h = ltb-false (firstOut ts) (length ts) a in
-        record { all = omega (arith, out-within ts); few = ltb-false 131072 (length (cellsOf ts)) b }
+        record { counted = cc; all = omega (arith, out-within ts); few = ltb-false 131072 (length (cellsOf ts)) b }
 
 -- the cells of accepted timings, from zeros
-pub timings-filled : (room : ℕ) → 16384 ≤ room → (ts : List ℕ) → length ts ≤ 65536 → Accepted ts
+pub timings-filled : (room : ℕ) → 16384 ≤ room → (ts : List ℕ) → length ts ≤ 65536 → {count : ℕ} → Accepted ts count
     → cellsOver (tookWith 0 0 (pos 0)) ts (zeros room) ≡ writtenOver (packed (cellsOf ts)) (zeros room)
 timings-filled room big ts small ok =
     let needed = bytesFor (length (cellsOf ts)) in

@@ -58,7 +58,7 @@ timings-cells place (suc k) taken (a ∷ b ∷ c ∷ d ∷ ys) buffer e =
     ∙ timings-cells place k (takenAfter taken t) ys (takenCells taken t buffer) (omega arith)
 
 -- an answer that is accepted at a place is accepted
-placed-gives : (track side : ℕ) (answer : Answer ℕ) {content : Content} → placed track side answer ≡ gives content → answer ≡ gives (content .cells)
+pub placed-gives : (track side : ℕ) (answer : Answer ℕ) {content : Content} → placed track side answer ≡ gives content → answer ≡ gives (content .cells)
 placed-gives track side answer e = go answer e
   where
     counted : Answer Content → Answer ℕ
