@@ -1,3 +1,4 @@
 pub mod Listed
 pub mod Words
-pub mod Fronts
+pub mod Choices
+pub mod Reading
