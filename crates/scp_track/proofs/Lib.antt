@@ -1,4 +1,2 @@
-pub mod Listed
-pub mod Words
-pub mod Choices
+pub mod Inputs
 pub mod Reading

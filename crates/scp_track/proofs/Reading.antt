@@ -13,12 +13,12 @@ use lib.Seq.{length-take-le, take-all, take-append-le, take-append-add, take-at}
 use lib.Signed.{ltZ}
 use Rattle.basis.specs.Lists.{writtenOver}
 use Rattle.io.specs.Counts.{clamped}
-use Rattle.scp_track.specs.BlockListing.{inputListing, ListedBlock}
+use Rattle.scp_track.specs.InputListing.{inputListing, ListedBlock}
 use Rattle.scp_track.specs.PrivateContracts.{TakenRead, TakenFurther, ReadOn}
 use Rattle.scp_track.specs.Reading.{bytesRead, isEnd, Brought, InputRead}
 use Rattle.scp_track.specs.Reading.Brought.{none, more}
 use Rattle.scp_track.specs.Reading.InputRead.{stops, goes-on}
-use Rattle.scp_track.proofs.Listed.{InputWritten}
+use Rattle.scp_track.proofs.Inputs.{InputWritten}
 
 -- the three answers of a read, by the tests on its number
 pub failed : (got : ℤ) → ltZ got (pos 0) ≡ true → false ≡ isEnd got

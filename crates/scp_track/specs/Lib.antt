@@ -1,4 +1,4 @@
 pub mod Arguments
 pub mod Reading
-pub mod BlockListing
+pub mod InputListing
 pub mod PrivateContracts

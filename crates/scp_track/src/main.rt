@@ -6,7 +6,7 @@
 // REVOLUTIONS is the number of revolutions in the image's header, REVOLUTION the one to list, counted from 0, TRACK and SIDE the drive's.
 // Each is a number from 0 to 255. With other arguments the program writes how it is called to standard error, and nothing else. Where the
 // input cannot be read to its end, or is longer than 4,194,304 bytes, it says so there, and lists nothing.
-use flux::Separated;
+use block_choice::Choice;
 use libc::STDERR_FILENO;
 use libc::STDIN_FILENO;
 use libc::STDOUT_FILENO;
@@ -15,9 +15,9 @@ ghost use mathlib.Core.List.{[]};
 ghost use Prim.Native.Nat.{_≤_};
 ghost use lib.ListN.{length, take};
 ghost use Rattle.listing.specs.Listing.{outAfter};
-ghost use Rattle.scp_track.specs.Arguments.{isDigit, argumentOf, chosen, choiceOf, ChoiceRead};
+ghost use Rattle.scp_track.specs.Arguments.{ChoiceRead};
 ghost use Rattle.scp_track.specs.Reading.{bytesRead, isEnd};
-ghost use Rattle.scp_track.specs.BlockListing.{roomForCells, blockListing, inputListing, ListedBlock};
+ghost use Rattle.scp_track.specs.InputListing.{inputListing, ListedBlock};
 ghost use Rattle.scp_track.specs.PrivateContracts.{TakenRead, TakenFurther, ReadOn};
 
 // Room for a usual block: up to five revolutions, each with some 50,000 values. The longest, as 31 revolutions with 65,536 values each, gets a
@@ -28,143 +28,6 @@ const USUAL_ROOM: usize = 524_288;
 
 const LONGEST_ROOM: usize = 4_194_304;
 
-// One argument: a number from 0 to 255, or anything else.
-enum Argument {
-    Byte(u8),
-    Other,
-}
-
-// What is to be listed, where the arguments are such numbers.
-struct Choice {
-    pub right: bool,
-    pub revolutions: u8,
-    pub revolution: u8,
-    pub track: u8,
-    pub side: u8,
-}
-
-// The listing of a revolution of a block, at the front of `out`; the answer is the number of its bytes.
-fn list_block(
-    block: &[u8],
-    revolutions: u8,
-    revolution: u8,
-    track: u8,
-    side: u8,
-    out: &mut [u8],
-) -> usize
-    ensures answer { λ r. ⌜ r ≡ length (blockListing (now (block .entry)) revolutions revolution track side) ⌝ }
-    ensures few { λ r. ⌜ r ≤ 65536 ⌝ }
-    ensures out { λ _. ⌜ now (out .exit) ≡ outAfter (blockListing (now (block .entry)) revolutions revolution track side) (now (out .entry)) ⌝ }
-{
-    let mut cells = room_for_cells();
-    let separated = block_cells::separate_revolution(
-        block,
-        revolutions as u32,
-        revolution as u32,
-        &mut cells,
-    );
-    match separated {
-        Separated::Cells(count) => {
-            listing::list_track(&cells, count, track as u32, side as u32, out)
-        }
-        Separated::Refused(refusal) => listing::refused_line(out, refusal.number()),
-    }
-}
-
-// Room for 131,072 cells.
-fn room_for_cells() -> [u8; 16384]
-    ensures { λ r. ⌜ r ≡ roomForCells ⌝ }
-{
-    [0; 16384]
-}
-
-// The number that a word of digits is.
-fn argument_of(word: &[u8]) -> Argument
-    ensures { λ r. ⌜ r ≡ argumentOf (now (word .entry)) ⌝ }
-{
-    if word.len() == 0 {
-        return Argument::Other;
-    }
-    let mut number: u32 = 0;
-    let mut i: usize = 0;
-    while i < word.len() {
-        let byte = word[i];
-        if !is_digit(byte) {
-            return Argument::Other;
-        }
-        number = 10 * number + ((byte - 48) as u32);
-        if 255 < number {
-            return Argument::Other;
-        }
-        i += 1;
-    }
-    Argument::Byte(number as u8)
-}
-
-fn is_digit(byte: u8) -> bool
-    ensures { λ r. ⌜ r ≡ isDigit byte ⌝ }
-{
-    (b'0' <= byte) & (byte <= b'9')
-}
-
-// The choice that four arguments make, if each is a number.
-fn choice_from(
-    revolutions: Argument,
-    revolution: Argument,
-    track: Argument,
-    side: Argument,
-) -> Choice
-    ensures { λ r. ⌜ r ≡ chosen revolutions revolution track side ⌝ }
-{
-    let none = Choice {
-        right: false,
-        revolutions: 0,
-        revolution: 0,
-        track: 0,
-        side: 0,
-    };
-    let Argument::Byte(revolutions) = revolutions else {
-        return none;
-    };
-    let Argument::Byte(revolution) = revolution else {
-        return none;
-    };
-    let Argument::Byte(track) = track else {
-        return none;
-    };
-    let Argument::Byte(side) = side else {
-        return none;
-    };
-    Choice {
-        right: true,
-        revolutions,
-        revolution,
-        track,
-        side,
-    }
-}
-
-// The choice that four words make, where the program was started with so many, its own name among them.
-fn choice_of(words: usize, first: &[u8], second: &[u8], third: &[u8], fourth: &[u8]) -> Choice
-    ensures { λ r. ⌜ r ≡ choiceOf words (now (first .entry)) (now (second .entry)) (now (third .entry)) (now (fourth .entry)) ⌝ }
-{
-    if words != 5 {
-        return Choice {
-            right: false,
-            revolutions: 0,
-            revolution: 0,
-            track: 0,
-            side: 0,
-        };
-    }
-    choice_from(
-        argument_of(first),
-        argument_of(second),
-        argument_of(third),
-        argument_of(fourth),
-    )
-}
-
 // The program's arguments, each by way of a room of its own.
 fn read_choice(first: &mut [u8], second: &mut [u8], third: &mut [u8], fourth: &mut [u8]) -> Choice
     ensures { λ r. ⌜ ChoiceRead r (now (first .exit)) (now (second .exit)) (now (third .exit)) (now (fourth .exit)) ⌝ }
@@ -173,7 +36,7 @@ fn read_choice(first: &mut [u8], second: &mut [u8], third: &mut [u8], fourth: &m
     let b = os::arg(2, second);
     let c = os::arg(3, third);
     let d = os::arg(4, fourth);
-    choice_of(
+    block_choice::choice_of(
         os::arg_count(),
         &first[..a],
         &second[..b],
@@ -255,12 +118,12 @@ fn list_read(choice: Choice, block: &[u8], ended: bool, out: &mut [u8]) -> usize
     ensures out { λ _. ⌜ now (out .exit) ≡ outAfter (inputListing ended (now (block .entry)) (choice .revolutions) (choice .revolution) (choice .track) (choice .side)) (now (out .entry)) ⌝ }
 {
     if ended {
-        return list_block(
+        return block_listing::list_block(
             block,
-            choice.revolutions,
-            choice.revolution,
-            choice.track,
-            choice.side,
+            choice.revolutions as u32,
+            choice.revolution as u32,
+            choice.track as u32,
+            choice.side as u32,
             out,
         );
     }

@@ -1,11 +1,15 @@
--- `scp_track::choice_of` meets its contract. Assumes nothing.
-use Rattle.scp_track.proofs.Choices.{other-words, five-words}
+-- `block_choice::choice_of` meets its contract. Assumes nothing.
+use mathlib.Core.Path.{_∙_}
+use Rattle.block_choice.proofs.Choices.{other-words, five-words}
 use borrow.Author.Needs.{needs}
-use Rattle.scp_track.proofs.choice_of.Statement.{statement}
-use Rattle.scp_track.proofs.choice_of.Tie as tie
+use Rattle.block_choice.proofs.choice_of.Statement.{statement}
+use Rattle.block_choice.proofs.choice_of.Tie as tie
+
+no-choice-requires : tie.Need-no-choice-requires
+no-choice-requires c κs = search needs
 
 returns : tie.Need-returns
-returns c = other-words _ _ _ _ _ (c .if1 .taken)
+returns c = c .no-choice .ensures ∙ other-words _ _ _ _ _ (c .before .if1 .taken)
 
 argument-of-requires : tie.Need-argument-of-requires
 argument-of-requires c κs = search needs
@@ -30,6 +34,7 @@ pub choice-of-spec : {M : Type 1} → statement M
 choice-of-spec =
     tie.close
     (tie.spec
+    no-choice-requires
     returns
     argument-of-requires
     argument-of-requires-2

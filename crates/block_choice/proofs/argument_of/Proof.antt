@@ -1,13 +1,13 @@
--- `scp_track::argument_of` meets its contract. Assumes nothing.
+-- `block_choice::argument_of` meets its contract. Assumes nothing.
 use Prim.Native.Nat.{_-_}
 use mathlib.Core.Path.{refl, sym, _∙_}
 use native.Mathlib.Omega.{arith}
 use borrow.Author.Needs.{needs}
 use borrow.Author.Tests.{not-true, not-false}
 use lib.ListN.{length, getD}
-use Rattle.scp_track.proofs.Words.{digit-range, no-word, AtDigit, first-digit, no-digit, too-large, next-digit, last-digit}
-use Rattle.scp_track.proofs.argument_of.Statement.{statement}
-use Rattle.scp_track.proofs.argument_of.Tie as tie
+use Rattle.block_choice.proofs.Words.{digit-range, no-word, AtDigit, first-digit, no-digit, too-large, next-digit, last-digit}
+use Rattle.block_choice.proofs.argument_of.Statement.{statement}
+use Rattle.block_choice.proofs.argument_of.Tie as tie
 
 abbrev Inv-loop : tie.InvT-loop
 Inv-loop word number₀ i₀ number i = AtDigit word number i

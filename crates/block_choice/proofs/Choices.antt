@@ -4,10 +4,10 @@ use mathlib.Core.Path.{_≡_, _∙_}
 use mathlib.Core.Bool.{true}
 use mathlib.Core.List.{List}
 use borrow.Author.Tests.{eq-eqb, ne-eqb}
-use Rattle.scp_track.specs.Arguments.{argumentOf, noChoice, chosen, choiceOf}
-use Rattle.scp_track.specs.declared.Argument.{Argument}
-use Rattle.scp_track.specs.declared.Argument.the-variants.{Byte, Other}
-use Rattle.scp_track.specs.declared.Choice.{Choice}
+use Rattle.block_choice.specs.Arguments.{argumentOf, noChoice, chosen, choiceOf}
+use Rattle.block_choice.specs.declared.Argument.{Argument}
+use Rattle.block_choice.specs.declared.Argument.the-variants.{Byte, Other}
+use Rattle.block_choice.specs.declared.Choice.{Choice}
 
 -- where one is no number, with the numbers before it
 pub not-first : {a : Argument} (b c d : Argument) → a ≡ Other → noChoice ≡ chosen a b c d

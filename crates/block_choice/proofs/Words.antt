@@ -9,8 +9,8 @@ use borrow.Author.Tests.{leb-true, lt-ltb, le-ltb}
 use lib.Dec.{leb, ltb}
 use lib.ListN.{length, getD, drop, drop-of-length-le}
 use lib.Seq.{drop-cons}
-use Rattle.scp_track.specs.Arguments.{isDigit, withDigit, argumentFrom, argumentOf}
-use Rattle.scp_track.specs.declared.Argument.the-variants.{Byte, Other}
+use Rattle.block_choice.specs.Arguments.{isDigit, withDigit, argumentFrom, argumentOf}
+use Rattle.block_choice.specs.declared.Argument.the-variants.{Byte, Other}
 
 pub digit-range : (byte : ℕ) → isDigit byte ≡ true → (48 ≤ byte) × (byte ≤ 57)
 digit-range byte = go (leb 48 byte) refl (leb byte 57) refl

@@ -1,8 +1,8 @@
--- `scp_track::list_block` meets its contract. Assumes nothing.
-use Rattle.scp_track.proofs.Listed.{cells-written, refusal-written}
+-- `block_listing::list_block` meets its contract. Assumes nothing.
+use Rattle.block_listing.proofs.Listed.{cells-written, refusal-written}
 use borrow.Author.Needs.{needs}
-use Rattle.scp_track.proofs.list_block.Statement.{statement}
-use Rattle.scp_track.proofs.list_block.Tie as tie
+use Rattle.block_listing.proofs.list_block.Statement.{statement}
+use Rattle.block_listing.proofs.list_block.Tie as tie
 
 room-for-cells-requires : tie.Need-room-for-cells-requires
 room-for-cells-requires c κs = search needs

@@ -1,11 +1,9 @@
 -- What the code writes of a block is its listing. Assumes nothing.
 use Prim.Native.Nat.{ℕ, _≤_, _<_}
-use mathlib.Core.Path.{_≡_, refl, sym, _∙_, ap}
-use mathlib.Core.Bool.{Bool, true, false}
+use mathlib.Core.Path.{_≡_, sym, _∙_, ap}
 use mathlib.Core.List.{List}
 use native.Mathlib.Omega.{arith}
 use lib.ListN.{length}
-use lib.Seq.{take-nil}
 use Rattle.flux.specs.Separation.{separatedAnswer}
 use Rattle.flux.specs.declared.Separated.{Separated}
 use Rattle.flux.specs.declared.Separated.the-variants.{Cells, Refused}
@@ -15,7 +13,7 @@ use Rattle.refusals.specs.RefusedCalls.{Answer, refusedWith, numberOf}
 use Rattle.refusals.specs.RefusedCalls.Answer.{gives}
 use Rattle.refusals.specs.declared.Refusal.{Refusal}
 use Rattle.block_cells.specs.BlockToCells.{blockSeparation, blockCells}
-use Rattle.scp_track.specs.BlockListing.{roomForCells, printedCells, blockListing, inputListing}
+use Rattle.block_listing.specs.BlockListing.{roomForCells, printedCells, blockListing}
 
 module _ (block : List ℕ) (revolutions k T H : ℕ) where
   -- what the code writes: the cells' listing, or the line of a refusal
@@ -48,17 +46,3 @@ module _ (block : List ℕ) (revolutions k T H : ℕ) where
         let l : blockListing block revolutions k T H ≡ refusedLine number
         = listing-is (refusedWith refusal) cells (ap separatedAnswer (sym e) ∙ is) left ∙ ap refusedLine (sym n) in
         rw l (w .0, (omega (arith, w .0, refused-few number fits), w .1))
-
--- an input that ended, and one that did not
-module _ (block : List ℕ) (revolutions k T H : ℕ) (before : List ℕ) where
-  abbrev pub InputWritten : Bool → ℕ → List ℕ → Type 0
-  InputWritten ended r after =
-      (r ≡ length (inputListing ended block revolutions k T H)) × ((r ≤ 65536) × (after ≡ outAfter (inputListing ended block revolutions k T H) before))
-
-  pub input-ended : {ended : Bool} → ended ≡ true → {r : ℕ} {after : List ℕ} → Written block revolutions k T H before r after → InputWritten ended r after
-  unfolding inputListing
-  input-ended e w = rw e w
-
-  pub input-not-ended : {ended : Bool} → ended ≡ false → InputWritten ended 0 before
-  unfolding inputListing
-  input-not-ended e = rw (e, take-nil {A = ℕ} (length before)) (refl, (omega arith, refl))
