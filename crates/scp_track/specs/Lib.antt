@@ -1,2 +1,4 @@
-pub mod BlockListing
 pub mod Arguments
+pub mod Reading
+pub mod InputListing
+pub mod PrivateContracts

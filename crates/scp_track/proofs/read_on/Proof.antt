@@ -1,26 +1,23 @@
 -- `scp_track::read_on` meets its contract. Assumes nothing but the contract of the system's `read`.
-use mathlib.Core.Path.{sym, _∙_}
-use lib.ListN.{take}
+use mathlib.Core.Path.{sym}
+use native.Mathlib.Omega.{arith}
 use lib.Seq.{length-take-le}
-use Rattle.scp_track.proofs.Fronts.{begins-with}
+use Rattle.scp_track.proofs.Reading.{listed-where-stopped, listed-where-full, brought-on, whole-room}
 use borrow.Author.Needs.{needs}
 use Rattle.scp_track.proofs.read_on.Statement.{statement}
 use Rattle.scp_track.proofs.read_on.Tie as tie
 
-copy-front-requires : tie.Need-copy-front-requires
-copy-front-requires c κs = search needs
+copy-bytes-requires : tie.Need-copy-bytes-requires
+copy-bytes-requires c κs = search needs
 
 read-block-requires : tie.Need-read-block-requires
 read-block-requires c κs = search needs
-
-ended-after-requires : tie.Need-ended-after-requires
-ended-after-requires c κs = search needs
 
 slice-reshare-prefix-list-read : tie.Need-slice-reshare-prefix-list-read
 slice-reshare-prefix-list-read c = search needs
 
 slice-aggregate-list-read : tie.Need-slice-aggregate-list-read
-slice-aggregate-list-read c = sym (length-take-le _ _ (c .before .before .before .before .read-block .ensures .0))
+slice-aggregate-list-read c = sym (length-take-le _ _ (c .before .before .before .before .read-block .ensures .within))
 
 list-read-requires : tie.Need-list-read-requires
 list-read-requires c κs = search needs
@@ -33,30 +30,45 @@ same-length-2 c = search needs
 
 returns : tie.Need-returns
 returns c =
-    let l = c .before .before .list-read .ensures in
-    let read = c .before .before .before .before .before .before .before .before .read-block in
-    let copied = c .before .before .before .before .before .before .before .before .before .before .before .before .copy-front in
-    let front = c .before .before .before .before .before .before .before .before .before .before .before .before .before .before .before .before .before .args .front .now in (
-      l .1 .0,
-      record {
-        block = take (read .result .count) (read .last .0);
-        begins = begins-with front (read .last .0) (copied .result) (read .result .count) (copied .ensures .0) (read .kept .0 ∙ copied .kept .1 .0) (read .ensures .2 ∙ copied .ensures .1) (read .ensures .0) (read .ensures .1);
-        ended = _;
-        answer-is = l .0;
-        out-is = l .1 .1;
-      },
-    )
+    let read = c .before .before .before .before .before .before .before .before .read-block .ensures in
+    let start = c .before .before .before .before .before .before .before .before .before .before .before .before .before .before .before .before .before in
+    let brought = brought-on (start .args .front .now) (start .args .block .now) (start .pre .0) (c .before .before .before .before .before .before .before .before .before .before .before .before .copy-bytes .ensures) (read .brought) in
+    listed-where-stopped brought (read .stopped (c .before .before .before .before .before .if1 .taken)) (c .before .before .list-read .ensures)
+
+read-further-requires : tie.Need-read-further-requires
+read-further-requires c κs = search needs
+
+list-read-requires-2 : tie.Need-list-read-requires-2
+list-read-requires-2 c κs = search needs
+
+same-length-3 : tie.Need-same-length-3
+same-length-3 c = search needs
+
+same-length-4 : tie.Need-same-length-4
+same-length-4 c = search needs
+
+returns-2 : tie.Need-returns-2
+returns-2 c =
+    let read = c .before .before .before .before .before .before .before .before .before .read-block in
+    let copied = c .before .before .before .before .before .before .before .before .before .before .before .before .before .copy-bytes in
+    let start = c .before .before .before .before .before .before .before .before .before .before .before .before .before .before .before .before .before .before in
+    let brought = brought-on (start .args .front .now) (start .args .block .now) (start .pre .0) (copied .ensures) (read .ensures .brought) in
+    listed-where-full (whole-room brought (c .before .before .before .before .before .before .if1 .left)) (omega (arith, start .pre .1, read .kept .0, copied .kept .1 .0)) (c .before .before .before .before .before .read-further .ensures) (c .before .before .list-read2 .ensures)
 
 pub read-on-spec : {M : Type 1} → statement M
 read-on-spec =
     tie.close
     (tie.spec
-    copy-front-requires
+    copy-bytes-requires
     read-block-requires
-    ended-after-requires
     slice-reshare-prefix-list-read
     slice-aggregate-list-read
     list-read-requires
     same-length
     same-length-2
-    returns)
+    returns
+    read-further-requires
+    list-read-requires-2
+    same-length-3
+    same-length-4
+    returns-2)
