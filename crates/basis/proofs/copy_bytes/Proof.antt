@@ -1,16 +1,16 @@
 -- `basis::copy_bytes` meets its contract. Assumes nothing.
 use Prim.Native.Nat.{_-_}
 use native.Mathlib.Omega.{arith}
-use Rattle.basis.proofs.Copies.{Copied, none-copied, one-copied, all-copied}
+use Rattle.basis.proofs.Copying.{Copied, none-copied, one-copied, all-copied}
 use borrow.Author.Needs.{needs}
 use Rattle.basis.proofs.copy_bytes.Statement.{statement}
 use Rattle.basis.proofs.copy_bytes.Tie as tie
 
 abbrev Inv-loop : tie.InvT-loop
-Inv-loop bytes list₀ end i₀ list i = Copied bytes list₀ end i list
+Inv-loop numbers list₀ end i₀ list i = Copied numbers list₀ end list i
 
 abbrev μ-loop : tie.MeasureT-loop
-μ-loop bytes list₀ end i₀ list i = end - i
+μ-loop numbers list₀ end i₀ list i = end - i
 
 smaller-requires : tie.Need-smaller-requires Inv-loop μ-loop
 smaller-requires c κs = search needs
@@ -37,7 +37,7 @@ same-length : tie.Need-same-length Inv-loop μ-loop
 same-length c = c .before .loop .inv .long
 
 returns : tie.Need-returns Inv-loop μ-loop
-returns c = all-copied (c .before .loop .inv) (c .loop-test .left) (c .before .before .smaller .ensures .0)
+returns c = all-copied (c .before .loop .inv) (omega arith) (c .before .before .smaller .ensures .0)
 
 pub copy-bytes-spec : {M : Type 1} → statement M
 copy-bytes-spec =
