@@ -1,6 +1,7 @@
--- What reads of standard input bring. The contract of the system's `read` says how many bytes it may put at the start of a room, and not which. So a read
--- is here a number that was answered and a room that was left, and the promises say that there are reads of which all this holds; that they
--- are those of standard input is seen in the code of `read_once`, and a program that makes them up meets the promises too. Assumes nothing.
+-- What reads of standard input bring. The contract of the system's `read` says how many bytes it may put at the start of a room, and not
+-- which. So a read is here a number that was answered and a room that was left, and the promises say that there are reads of which all this
+-- holds; that they are those of standard input is seen in the code of `read_once`, and a program that makes them up meets the promises too.
+-- Assumes nothing.
 use Prim.Native.Nat.{ℕ, zero, suc, _<_, _≤_}
 use mathlib.Core.Path.{_≡_}
 use mathlib.Core.Bool.{Bool, true, false}
