@@ -1,135 +1,20 @@
--- One read, reads as far as a room reaches, and the whole input. Assumes nothing.
-use Prim.Native.Nat.{ℕ, zero, suc, _+_, _-_, _≤_, _<_}
+-- What is listed of an input, by how its reading came to an end. Assumes nothing.
+use Prim.Native.Nat.{ℕ, zero, suc, _≤_}
 use mathlib.Core.Path.{_≡_, refl, sym, _∙_, ap, subst}
-use mathlib.Core.Bool.{Bool, true, false}
+use mathlib.Core.Bool.{Bool, false}
 use mathlib.Core.List.{List, [], _∷_, _++_}
-use native.Mathlib.Nat.{min-le-right}
 use native.Mathlib.Omega.{arith}
-use borrow.Author.Tests.{ltb-true, ltb-false}
-use borrow.Rule.Slice.PartMut.{midOf, postOf, putMid, same-len-mid}
 use lib.IntN.{ℤ, pos, negsuc}
-use lib.ListN.{length, take, drop, length-append, length-take, length-drop}
-use lib.Seq.{length-take-le, take-all, take-append-le, take-append-add, take-at}
-use lib.Signed.{ltZ}
+use lib.ListN.{length, take, drop, length-append}
+use lib.Seq.{take-all, take-at}
 use Rattle.basis.specs.Lists.{writtenOver}
-use Rattle.io.specs.Counts.{clamped}
 use Rattle.scp_track.specs.InputListing.{inputListing, ListedBlock}
-use Rattle.scp_track.specs.PrivateContracts.{TakenRead, TakenFurther, ReadOn}
-use Rattle.scp_track.specs.Reading.{bytesRead, isEnd, Brought, InputRead}
-use Rattle.scp_track.specs.Reading.Brought.{none, more}
-use Rattle.scp_track.specs.Reading.InputRead.{stops, goes-on}
+use Rattle.standard_input.proofs.Reading.{is-empty}
+use Rattle.standard_input.specs.Reading.{bytesRead, isEnd, Brought, SomeRead}
+use Rattle.standard_input.specs.Reading.Brought.{none, more}
+use Rattle.scp_track.specs.InputRead.{InputRead}
+use Rattle.scp_track.specs.InputRead.InputRead.{stops, goes-on}
 use Rattle.scp_track.proofs.Inputs.{InputWritten}
-
--- the three answers of a read, by the tests on its number
-pub failed : (got : ℤ) → ltZ got (pos 0) ≡ true → false ≡ isEnd got
-unfolding isEnd
-failed (pos n) e =
-    let z = ltb-true n 0 e in
-    let z′ : ⊥ = omega arith in absurd z′
-failed (negsuc k) e = refl
-
-pub brings : (got : ℤ) → ltZ (pos 0) got ≡ true → false ≡ isEnd got
-unfolding isEnd
-brings (pos zero) e = cc
-brings (pos (suc n)) e = refl
-brings (negsuc k) e = refl
-
-pub at-end : (got : ℤ) → ltZ got (pos 0) ≡ false → ltZ (pos 0) got ≡ false → true ≡ isEnd got
-unfolding isEnd
-at-end (pos zero) e f = refl
-at-end (pos (suc n)) e f =
-    let z = ltb-false 0 (suc n) f in
-    let z′ : ⊥ = omega arith in absurd z′
-at-end (negsuc k) e f = cc
-
--- the bytes of a read are as many as its number counts, and stand at the front of its room
-counted : (got : ℤ) (room : List ℕ) → clamped got (length room) ≡ length (bytesRead got room)
-counted (pos n) room = sym (length-take n room)
-counted (negsuc k) room = refl
-
-few-bytes : (got : ℤ) (room : List ℕ) → length (bytesRead got room) ≤ length room
-few-bytes (pos n) room = rw (length-take n room) (min-le-right n (length room))
-few-bytes (negsuc k) room = omega arith
-
-at-front : (got : ℤ) (room : List ℕ) → bytesRead got room ≡ take (length (bytesRead got room)) room
-at-front (pos n) room = sym (shorter n room)
-  where
-    shorter : (n : ℕ) (l : List ℕ) → take (length (take n l)) l ≡ take n l
-    shorter zero l = refl
-    shorter (suc n) [] = refl
-    shorter (suc n) (x ∷ l) = ap (λ (r : List ℕ). x ∷ r) (shorter n l)
-at-front (negsuc k) room = refl
-
-is-empty : (l : List ℕ) → 0 ≡ length l → l ≡ []
-is-empty [] e = refl
-is-empty (x ∷ l) e = let z : ⊥ = omega arith in absurd z
-
--- a read is taken. The code reads the number that it answered back from its bits: `seen`
-pub taken : (got : ℤ) (room : List ℕ) {seen : ℤ} → seen ≡ got → {count : ℕ} → count ≡ clamped seen (length room) → {ended : Bool} → ended ≡ isEnd seen
-    → (count ≡ length (bytesRead got room)) × (ended ≡ isEnd got)
-taken got room same c e = (c ∙ ap (λ (z : ℤ). clamped z (length room)) same ∙ counted got room, e ∙ ap isEnd same)
-
--- reads into a block, as the loop makes them: before one, its first `count` bytes are read
-pub record AtByte (front block₀ block : List ℕ) (count : ℕ) : Type 0 where
-  pub within : count ≤ length block
-  pub long : length block ≡ length block₀
-  pub brought : Brought front (take count block)
-
--- a read from byte `count` on, to the rest of the block
-module _ {front block₀ block : List ℕ} {count : ℕ} (at : AtByte front block₀ block count) (part : List ℕ) (kept : length part ≡ length (midOf count (length block - count) block)) where
-  abbrev after : List ℕ
-  after = putMid count (length block - count) block part
-
-  pub as-long : length after ≡ length block₀
-  as-long = same-len-mid count (length block - count) block part kept ∙ at .long
-
-  part-long : length part ≡ length block - count
-  part-long =
-      let d : length (drop count block) ≡ length block - count = length-drop count block in
-      kept ∙ length-take-le (length block - count) (drop count block) (omega arith)
-
-  module _ {more-count : ℕ} {ended : Bool} (read : TakenRead part more-count ended) where
-    pub in-block : count + more-count ≤ length block
-    in-block = let w = at .within in omega (arith, read .count-is, few-bytes (read .got) part, part-long)
-
-    -- so many bytes more are read
-    more-read : take (count + more-count) after ≡ take count block ++ bytesRead (read .got) part
-    more-read =
-        let l : length (take count block) ≡ count = length-take-le count block (at .within) in
-        let n : more-count ≤ length part = rw (read .count-is) (few-bytes (read .got) part) in
-        ap (λ (n : ℕ). take (n + more-count) after) (sym l)
-        ∙ take-append-add (take count block) (part ++ postOf count (length block - count) block) more-count
-        ∙ ap (λ (r : List ℕ). take count block ++ r)
-        (take-append-le more-count part (postOf count (length block - count) block) n
-        ∙ ap (λ (n : ℕ). take n part) (read .count-is)
-        ∙ sym (at-front (read .got) part))
-
-    pub next-byte : 0 < more-count → AtByte front block₀ after (count + more-count)
-    next-byte h =
-        record {
-          within = omega (arith, in-block, as-long, at .long);
-          long = as-long;
-          brought = rw more-read (more (read .got) part (at .brought) (omega (arith, read .count-is)));
-        }
-
-    -- a read that brought nothing: the block is read
-    pub no-more : more-count ≡ 0 → ReadOn front after count ended
-    no-more z =
-        record {
-          within = omega (arith, in-block, as-long, at .long);
-          brought = rw nothing-new (at .brought);
-          stopped = λ h. record { room = part; taken = record { got = read .got; count-is = sym z ∙ read .count-is; ended-is = read .ended-is } };
-        }
-      where
-        nothing-new : take count after ≡ take count block
-        nothing-new = take-at (take count block) (part ++ postOf count (length block - count) block) count (length-take-le count block (at .within))
-
--- before the first read, and where the room is full
-pub at-first : (block : List ℕ) (from : ℕ) → from ≤ length block → AtByte (take from block) block block from
-at-first block from h = record { within = h; long = refl; brought = none }
-
-pub full : {front block₀ block : List ℕ} {count : ℕ} → AtByte front block₀ block count → length block ≤ count → {ended : Bool} → ReadOn front block count ended
-full at h = record { within = at .within; brought = at .brought; stopped = λ l. let z : ⊥ = omega arith in absurd z }
 
 -- reads one after another
 pub then-brought : {front middle bytes : List ℕ} → Brought front middle → Brought middle bytes → Brought front bytes
@@ -144,7 +29,7 @@ then-read first (goes-on brought long) = goes-on (then-brought first brought) lo
 -- what is to be written: the input is read, and the code was handed these bytes and this yes or no
 module _ {longest : ℕ} {front : List ℕ} {revolutions k T H : ℕ} {before : List ℕ} {answer : ℕ} {out : List ℕ} where
   -- a read brought nothing
-  pub listed-where-stopped : {block : List ℕ} {ended : Bool} → Brought front block → TakenFurther 0 ended
+  pub listed-where-stopped : {block : List ℕ} {ended : Bool} → Brought front block → SomeRead 0 ended
       → InputWritten block revolutions k T H before ended answer out → (answer ≤ 65536) × ListedBlock longest front revolutions k T H before answer out
   listed-where-stopped {block} {ended} brought last w =
       let t = last .taken in
@@ -160,7 +45,7 @@ module _ {longest : ℕ} {front : List ℕ} {revolutions k T H : ℕ} {before : 
       )
 
   -- the longest room is full, and a further read was made
-  pub listed-where-full : {block : List ℕ} {count : ℕ} {ended : Bool} → Brought front block → longest ≤ length block → TakenFurther count ended
+  pub listed-where-full : {block : List ℕ} {count : ℕ} {ended : Bool} → Brought front block → longest ≤ length block → SomeRead count ended
       → InputWritten block revolutions k T H before ended answer out → (answer ≤ 65536) × ListedBlock longest front revolutions k T H before answer out
   unfolding inputListing isEnd
   listed-where-full {block} {count} {ended} brought long last w = go (last .taken .got) (bytesRead (last .taken .got) (last .room)) refl (last .taken .ended-is)

@@ -1,4 +1,3 @@
 pub mod Arguments
-pub mod Reading
+pub mod InputRead
 pub mod InputListing
-pub mod PrivateContracts

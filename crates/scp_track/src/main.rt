@@ -8,18 +8,15 @@
 // input cannot be read to its end, or is longer than 4,194,304 bytes, it says so there, and lists nothing.
 use block_choice::Choice;
 use libc::STDERR_FILENO;
-use libc::STDIN_FILENO;
 use libc::STDOUT_FILENO;
 use refusals::Counted;
 ghost use mathlib.Core.Path.{_≡_};
 ghost use mathlib.Core.List.{[]};
 ghost use Prim.Native.Nat.{_≤_};
-ghost use lib.ListN.{length, take};
-ghost use Rattle.lines.specs.Lines.{outAfter};
+ghost use lib.ListN.{length};
+ghost use Rattle.listing.specs.Listing.{outAfter};
 ghost use Rattle.scp_track.specs.Arguments.{ChoiceRead};
-ghost use Rattle.scp_track.specs.Reading.{bytesRead, isEnd};
 ghost use Rattle.scp_track.specs.InputListing.{inputListing, ListedBlock};
-ghost use Rattle.scp_track.specs.PrivateContracts.{TakenRead, TakenFurther, ReadOn};
 
 // Room for a usual block: up to five revolutions, each with some 50,000 values. The longest, as 31 revolutions with 65,536 values each, gets a
 // room of its own only where it is needed: a program pays for each page of its room, and most blocks are short.
@@ -44,72 +41,6 @@ fn read_choice(first: &mut [u8], second: &mut [u8], third: &mut [u8], fourth: &m
         &third[..c],
         &fourth[..d],
     )
-}
-
-// What was read: so many bytes, after which the input ended or not. One that failed or goes on has not ended.
-struct Input {
-    pub count: usize,
-    pub ended: bool,
-}
-
-// One read, of as much as there is and the room holds.
-fn read_once(room: &mut [u8]) -> Input
-    ensures { λ r. ⌜ TakenRead (now (room .exit)) (r .count) (r .ended) ⌝ }
-{
-    let got = libc::read(STDIN_FILENO, room);
-    take_read(got, room)
-}
-
-// What a read brought that answered `got` and left this room.
-fn take_read(got: isize, room: &[u8]) -> Input
-    ensures count { λ r. ⌜ r .count ≡ length (bytesRead got (now (room .entry))) ⌝ }
-    ensures ended { λ r. ⌜ r .ended ≡ isEnd got ⌝ }
-{
-    Input {
-        count: io::count(got, room),
-        ended: at_end(got),
-    }
-}
-
-// Whether a read that answered this is at the end of the input. One that failed is not.
-fn at_end(got: isize) -> bool
-    ensures { λ r. ⌜ r ≡ isEnd got ⌝ }
-{
-    if got < 0 {
-        return false;
-    }
-    if 0 < got { false } else { true }
-}
-
-// One read behind a full room: it brings a byte, or the input ended with the room.
-fn read_further() -> Input
-    ensures { λ r. ⌜ TakenFurther (r .count) (r .ended) ⌝ }
-{
-    let mut beyond = [0u8; 1];
-    read_once(&mut beyond)
-}
-
-// Reads on after the first `from` bytes of the block, to the end of the input or of the room. A read that fails is not tried again: after a
-// connection that was reset, the next one would tell of an end.
-fn read_block(block: &mut [u8], from: usize) -> Input
-    requires { ⌜ from ≤ length (now block) ⌝ }
-    ensures { λ r. ⌜ ReadOn (take from (now (block .entry))) (now (block .exit)) (r .count) (r .ended) ⌝ }
-{
-    let mut count = from;
-    while count < block.len() {
-        let more = read_once(&mut block[count..]);
-        if more.count == 0 {
-            return Input {
-                count,
-                ended: more.ended,
-            };
-        }
-        count += more.count;
-    }
-    Input {
-        count,
-        ended: false,
-    }
 }
 
 // What is to be written of an input of which these bytes were read, and which ended there or not.
@@ -166,7 +97,7 @@ fn read_first(choice: Choice, block: &mut [u8], out: &mut [u8]) -> usize
     ensures few { λ r. ⌜ r ≤ 65536 ⌝ }
     ensures listing { λ r. ⌜ ListedBlock 4194304 [] (choice .revolutions) (choice .revolution) (choice .track) (choice .side) (now (out .entry)) r (now (out .exit)) ⌝ }
 {
-    let input = read_block(block, 0);
+    let input = standard_input::read_on(block, 0);
     let count = input.count;
     if count < block.len() {
         return list_read(choice, &block[..count], input.ended, out);
@@ -194,22 +125,22 @@ fn list_longer_in(
     ensures few { λ r. ⌜ r ≤ 65536 ⌝ }
     ensures listing { λ r. ⌜ ListedBlock 4194304 (now (front .entry)) (choice .revolutions) (choice .revolution) (choice .track) (choice .side) (now (out .entry)) r (now (out .exit)) ⌝ }
 {
-    read_on(choice, front, block, out)
+    read_longer(choice, front, block, out)
 }
 
 // Reads on in the longest room. Where it is full, a further read tells whether the input ended there.
-fn read_on(choice: Choice, front: &[u8], block: &mut [u8], out: &mut [u8]) -> usize
+fn read_longer(choice: Choice, front: &[u8], block: &mut [u8], out: &mut [u8]) -> usize
     requires { ⌜ (length (now front) ≤ length (now block)) × (length (now block) ≡ 4194304) ⌝ }
     ensures few { λ r. ⌜ r ≤ 65536 ⌝ }
     ensures listing { λ r. ⌜ ListedBlock 4194304 (now (front .entry)) (choice .revolutions) (choice .revolution) (choice .track) (choice .side) (now (out .entry)) r (now (out .exit)) ⌝ }
 {
     basis::copy_bytes(front, block);
-    let input = read_block(block, front.len());
+    let input = standard_input::read_on(block, front.len());
     let count = input.count;
     if count < block.len() {
         return list_read(choice, &block[..count], input.ended, out);
     }
-    let further = read_further();
+    let further = standard_input::read_further();
     list_read(choice, block, further.ended, out)
 }
 

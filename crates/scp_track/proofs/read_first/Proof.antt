@@ -6,14 +6,14 @@ use borrow.Author.Needs.{needs}
 use Rattle.scp_track.proofs.read_first.Statement.{statement}
 use Rattle.scp_track.proofs.read_first.Tie as tie
 
-read-block-requires : tie.Need-read-block-requires
-read-block-requires c κs = search needs
+read-on-requires : tie.Need-read-on-requires
+read-on-requires c κs = search needs
 
 slice-reshare-prefix-list-read : tie.Need-slice-reshare-prefix-list-read
 slice-reshare-prefix-list-read c = search needs
 
 slice-aggregate-list-read : tie.Need-slice-aggregate-list-read
-slice-aggregate-list-read c = sym (length-take-le _ _ (c .before .before .before .before .read-block .ensures .within))
+slice-aggregate-list-read c = sym (length-take-le _ _ (c .before .before .before .before .read-on .ensures .within))
 
 list-read-requires : tie.Need-list-read-requires
 list-read-requires c κs = search needs
@@ -26,7 +26,7 @@ same-length-2 c = search needs
 
 returns : tie.Need-returns
 returns c =
-    let read = c .before .before .before .before .before .before .before .before .read-block .ensures in
+    let read = c .before .before .before .before .before .before .before .before .read-on .ensures in
     listed-where-stopped (read .brought) (read .stopped (c .before .before .before .before .before .if1 .taken)) (c .before .before .list-read .ensures)
 
 list-longer-requires : tie.Need-list-longer-requires
@@ -41,13 +41,13 @@ same-length-4 c = search needs
 returns-2 : tie.Need-returns-2
 returns-2 c =
     let l = c .before .before .list-longer .ensures in
-    (l .0, listed-on (whole-room (c .before .before .before .before .before .before .before .before .read-block .ensures .brought) (c .before .before .before .before .before .if1 .left)) (l .1))
+    (l .0, listed-on (whole-room (c .before .before .before .before .before .before .before .before .read-on .ensures .brought) (c .before .before .before .before .before .if1 .left)) (l .1))
 
 pub read-first-spec : {M : Type 1} → statement M
 read-first-spec =
     tie.close
     (tie.spec
-    read-block-requires
+    read-on-requires
     slice-reshare-prefix-list-read
     slice-aggregate-list-read
     list-read-requires

@@ -1,9 +1,9 @@
--- `scp_track::take_read` meets its contract. Assumes nothing.
+-- `standard_input::take_read` meets its contract. Assumes nothing.
 use mir.Facts.{toZ-ofZ}
-use Rattle.scp_track.proofs.Reading.{taken}
+use Rattle.standard_input.proofs.Reading.{taken}
 use borrow.Author.Needs.{needs}
-use Rattle.scp_track.proofs.take_read.Statement.{statement}
-use Rattle.scp_track.proofs.take_read.Tie as tie
+use Rattle.standard_input.proofs.take_read.Statement.{statement}
+use Rattle.standard_input.proofs.take_read.Tie as tie
 
 count-requires : tie.Need-count-requires
 count-requires c κs = search needs

@@ -1,20 +1,23 @@
--- `scp_track::read_block` meets its contract. Assumes nothing but the contract of the system's `read`.
+-- `standard_input::read_on` meets its contract. Assumes nothing but the contract of the system's `read`.
 use Prim.Native.Nat.{_-_}
 use native.Mathlib.Omega.{arith}
 use borrow.Author.Needs.{needs}
 use lib.ListN.{length, take}
-use Rattle.scp_track.proofs.Reading.{AtByte, at-first, as-long, in-block, next-byte, no-more, full}
-use Rattle.scp_track.proofs.read_block.Statement.{statement}
-use Rattle.scp_track.proofs.read_block.Tie as tie
+use Rattle.standard_input.proofs.Reading.{AtByte, at-first, as-long, in-block, next-byte, no-more, full}
+use Rattle.standard_input.proofs.read_on.Statement.{statement}
+use Rattle.standard_input.proofs.read_on.Tie as tie
 
 abbrev Inv-loop : tie.InvT-loop
-Inv-loop block₀ from count₀ block count = AtByte (take from block₀) block₀ block count
+Inv-loop room₀ from count₀ room count = AtByte (take from room₀) room₀ room count
 
 abbrev μ-loop : tie.MeasureT-loop
-μ-loop block₀ from count₀ block count = length block₀ - count
+μ-loop room₀ from count₀ room count = length room₀ - count
+
+smaller-requires : tie.Need-smaller-requires Inv-loop μ-loop
+smaller-requires c κs = search needs
 
 loop-holds : tie.Need-loop-holds Inv-loop μ-loop
-loop-holds c = at-first _ _ (c .before .pre)
+loop-holds c = at-first _ _ (c .smaller .ensures .0)
 
 sub-read-once : tie.Need-sub-read-once Inv-loop μ-loop
 sub-read-once c = search needs
@@ -42,7 +45,7 @@ add-count : tie.Need-add-count Inv-loop μ-loop
 add-count c =
     let l = c .before .before .before .before .before .before .before .before .loop in
     let read = c .before .before .before .before .before .read-once in
-    record { fits = omega (arith, in-block (l .inv) (read .last .0) (read .kept .0) (read .ensures), l .inv .long, c .before .before .before .before .before .before .before .before .before .before .good) }
+    record { fits = omega (arith, in-block (l .inv) (read .last .0) (read .kept .0) (read .ensures), l .inv .long, c .before .before .before .before .before .before .before .before .before .before .before .good) }
 
 loop-less : tie.Need-loop-less Inv-loop μ-loop
 loop-less c =
@@ -62,12 +65,13 @@ same-length-2 c = c .before .loop .inv .long
 returns-2 : tie.Need-returns-2 Inv-loop μ-loop
 returns-2 c = full (c .before .loop .inv) (c .loop-test .left)
 
-pub read-block-spec : {M : Type 1} → statement M
-read-block-spec =
+pub read-on-spec : {M : Type 1} → statement M
+read-on-spec =
     tie.close
     (tie.spec
     Inv-loop
     μ-loop
+    smaller-requires
     loop-holds
     sub-read-once
     part-read-once-start

@@ -1,10 +1,10 @@
--- `scp_track::at_end` meets its contract. Assumes nothing.
+-- `standard_input::at_end` meets its contract. Assumes nothing.
 use mathlib.Core.Path.{_∙_, ap}
 use mir.Facts.{toZ-ofZ}
-use Rattle.scp_track.specs.Reading.{isEnd}
-use Rattle.scp_track.proofs.Reading.{failed, brings, at-end}
-use Rattle.scp_track.proofs.at_end.Statement.{statement}
-use Rattle.scp_track.proofs.at_end.Tie as tie
+use Rattle.standard_input.specs.Reading.{isEnd}
+use Rattle.standard_input.proofs.Reading.{failed, brings, at-end}
+use Rattle.standard_input.proofs.at_end.Statement.{statement}
+use Rattle.standard_input.proofs.at_end.Tie as tie
 
 returns : tie.Need-returns
 returns c = failed _ (c .if1 .taken) ∙ ap isEnd (toZ-ofZ (c .before .fits .got))
