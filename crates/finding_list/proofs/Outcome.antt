@@ -17,8 +17,8 @@ use Rattle.finding_list.proofs.Numbers.{array-is}
 use Rattle.refusals.specs.RefusedCalls.{Answer}
 use Rattle.refusals.specs.RefusedCalls.Answer.{gives, refused}
 use Rattle.sectors.specs.Calls.{trackJudged, sectorsAnswer}
-use Rattle.sectors.specs.Sectors.{sectorsOf, kept}
-use Rattle.sectors.specs.declared.Sectors.{Sectors}
+use Rattle.sector_records.specs.Sectors.{sectorsOf, kept}
+use Rattle.sector_records.specs.declared.Sectors.{Sectors}
 use Rattle.sectors.proofs.Calls.{most-cells, judged-accepted, list-accepted, Follows, follows-given, follows-track, follows-count}
 
 pub findings-few : (bytes : List ℕ) (N T : ℕ) → length (sectorsOf bytes N) ≤ 64 → length (findingsOf bytes N T) ≤ 901

@@ -19,7 +19,7 @@ use Rattle.findings.specs.PrivateContracts.{countWritten}
 use Rattle.refusals.specs.RefusedCalls.{Answer, bufferAfter}
 use Rattle.refusals.specs.RefusedCalls.Answer.{gives, refused}
 use Rattle.sectors.specs.Calls.{trackJudged, countJudged}
-use Rattle.sectors.specs.Sectors.{sectorsOf}
+use Rattle.sector_records.specs.Sectors.{sectorsOf}
 use Rattle.sectors.proofs.Calls.{Follows, follows-given, follows-track, follows-count}
 
 -- what the call answers where the survey is accepted

@@ -11,10 +11,10 @@ use Rattle.basis.proofs.Bools.{or-right}
 use Rattle.cells.specs.CellsAndBytes.{cell, bytesFor}
 use Rattle.refusals.specs.RefusedCalls.{Answer, bufferAfter}
 use Rattle.refusals.specs.RefusedCalls.Answer.{gives, refused}
-use Rattle.sectors.specs.Sectors.{noSector, sectorsOf, kept, dataBytes}
+use Rattle.sector_records.specs.Sectors.{noSector, sectorsOf, kept, dataBytes}
 use Rattle.sectors.specs.Calls.{trackJudged, countJudged, indexJudged, sectorsAnswer, sectorsBeside, indexAnswer, recordBeside, sectorOf, DataRead, dataJudged, dataAnswer, dataAfter}
-use Rattle.sectors.specs.declared.Sector.{Sector}
-use Rattle.sectors.specs.declared.Sectors.{Sectors}
+use Rattle.sector_records.specs.declared.Sector.{Sector}
+use Rattle.sector_records.specs.declared.Sectors.{Sectors}
 
 pub most-cells : (n : ℕ) → (ltb n 20000 || ltb 131072 n) ≡ false → n ≤ 131072
 most-cells n e = ltb-false 131072 n (or-right (ltb n 20000) (ltb 131072 n) e)

@@ -9,7 +9,7 @@ use Rattle.finding_list.proofs.Outcome.{cells-accepted, survey-refused,
 use Rattle.refusals.specs.RefusedCalls.{numberOf, valueOf, countedAnswer}
 use Rattle.refusals.specs.RefusedCalls.Answer.{gives}
 use Rattle.sectors.specs.Calls.{sectorsAnswer}
-use Rattle.sectors.specs.Sectors.{sectorsOf, kept}
+use Rattle.sector_records.specs.Sectors.{sectorsOf, kept}
 use Rattle.sectors.proofs.Calls.{list-accepted, listed-sectors}
 use borrow.Author.Needs.{needs}
 use Rattle.finding_list.proofs.survey.Statement.{statement}
