@@ -162,10 +162,6 @@ module _ (f : ℕ → ℕ) (n : ℕ) where
       go a b = rise (getD (joined (sectorsAt f) n) i noSector) (getD (joined (sectorsAt f) n) j noSector) a b (decLe (getD (joined (sectorsAt f) n) j noSector .place) (getD (joined (sectorsAt f) n) i noSector .place))
 
 -- the same of the sectors of a track
-pub sectors-joined : (bytes : List ℕ) (n : ℕ) → sectorsOf bytes n ≡ joined (sectorsAt (cell bytes n)) n
-unfolding sectorsOf
-sectors-joined bytes n = refl
-
 module _ (bytes : List ℕ) (n : ℕ) where
   pub sector-of-mark : (i : ℕ) → i < length (sectorsOf bytes n) → SectorOf (cell bytes n) n i (getD (sectorsOf bytes n) i noSector)
   unfolding sectorsOf

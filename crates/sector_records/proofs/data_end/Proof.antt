@@ -1,4 +1,5 @@
 -- `sector_records::data_end` meets its contract. Assumes nothing.
+use mathlib.Core.Path.{refl}
 use borrow.Author.Needs.{needs}
 use Rattle.sector_records.proofs.data_end.Statement.{statement}
 use Rattle.sector_records.proofs.data_end.Tie as tie
@@ -22,7 +23,7 @@ add-result-3 : tie.Need-add-result-3
 add-result-3 c = search needs
 
 returns : tie.Need-returns
-returns c = search needs
+returns c = refl
 
 pub data-end-spec : {M : Type 1} → statement M
 data-end-spec = tie.close (tie.spec cast-result add-result cast-result-2 mul-result add-result-2 add-result-3 returns)
