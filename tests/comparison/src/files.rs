@@ -1,6 +1,6 @@
 //! 01, "Track file and listing": files that the library reads in portions, with its reader held as numbers, and listings.
 
-use crate::report::{Group, Lent};
+use crate::report::{Group, Lent, Report};
 use crate::terms::answer;
 use second_program::listing::listing;
 use second_program::random::Random;
@@ -48,7 +48,7 @@ fn read_cells_of(ours: thikbromu::TrackCells) -> TrackCells {
 }
 
 /// Many files, sound and broken, each cut in three ways.
-pub fn portions(totals: &mut (usize, usize)) {
+pub fn portions(report: &mut Report) {
     let mut group = Group::new("files in portions, by the library");
     let mut random = Random::new(63);
     for file in track_files::files() {
@@ -96,11 +96,11 @@ pub fn portions(totals: &mut (usize, usize)) {
             }
         }
     }
-    group.close(totals);
+    group.close(report);
 }
 
 /// States, buffers and places that are too short or too long, and numbers that are no reader's.
-pub fn states(totals: &mut (usize, usize)) {
+pub fn states(report: &mut Report) {
     let mut group = Group::new("the numbers of a reader");
     let mut random = Random::new(64);
     let file = track_files::file_of_timings(12, 1, &[4_100; 25_000]);
@@ -163,5 +163,5 @@ pub fn states(totals: &mut (usize, usize)) {
         let ours = answer(file_finish(&any, cells.clone().part(), &mut []));
         group.same(ours, Err(Refusal::not_a_track_file()), || format!("{any:?}"));
     }
-    group.close(totals);
+    group.close(report);
 }

@@ -1,6 +1,6 @@
 //! 01, "Findings": the list of a track's findings.
 
-use crate::report::{Element, Group};
+use crate::report::{Element, Group, Report};
 use crate::terms::{self, answer};
 use second_program::cells;
 use second_program::findings::{self, Finding};
@@ -88,7 +88,7 @@ fn sectors_on(count: usize, n: usize, drive_track: u8) -> Vec<u8> {
 }
 
 /// Each kind just inside and just outside its rule.
-pub fn edges(totals: &mut (usize, usize)) {
+pub fn edges(report: &mut Report) {
     let mut group = Group::new("each kind just inside and just outside its rule");
     let mut seen = [0; 22];
     for n in [96_999, 97_000, 100_000, 103_000, 103_001, 20_000, 131_072] {
@@ -189,10 +189,10 @@ pub fn edges(totals: &mut (usize, usize)) {
     for kind in 1..=21 {
         group.same(seen[kind] > 0, true, || format!("kind {kind} was reached"));
     }
-    group.close(totals);
+    group.close(report);
 }
 
-pub fn any_tracks(totals: &mut (usize, usize)) {
+pub fn any_tracks(report: &mut Report) {
     let mut group = Group::new("findings of odd tracks");
     let mut random = Random::new(30);
     let mut seen = [0; 22];
@@ -203,5 +203,5 @@ pub fn any_tracks(totals: &mut (usize, usize)) {
     for kind in 1..=21 {
         group.same(seen[kind] > 0, true, || format!("kind {kind} was reached"));
     }
-    group.close(totals);
+    group.close(report);
 }

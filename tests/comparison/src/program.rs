@@ -2,7 +2,7 @@
 //! portions.
 
 use crate::block_program;
-use crate::report::Group;
+use crate::report::{Group, Report};
 use second_program::flux_tracks::timings_of_cells;
 use second_program::listing::listing;
 use second_program::random::Random;
@@ -152,7 +152,7 @@ impl Seen {
 }
 
 /// Many files, whole: sound and broken ones.
-pub fn whole_files(totals: &mut (usize, usize)) {
+pub fn whole_files(report: &mut Report) {
     let mut group = Group::new("the program on whole files");
     let mut seen = Seen::default();
     for file in track_files::files() {
@@ -162,7 +162,7 @@ pub fn whole_files(totals: &mut (usize, usize)) {
     }
     // 3 gives way to 15, 6 to 15, and there is always room: 5 and 10 do not arise. The others are of other calls.
     seen.reached(&mut group, &[1, 2, 4, 7, 8, 9, 15]);
-    group.close(totals);
+    group.close(report);
 }
 
 /// Ten files for portions: cells and timings, sound, odd and broken.
@@ -188,7 +188,7 @@ fn ten_files() -> Vec<NamedFile> {
 }
 
 /// Files that come in portions, and the same files cut short.
-pub fn portions(totals: &mut (usize, usize)) {
+pub fn portions(report: &mut Report) {
     let mut group = Group::new("the program on files in portions");
     let mut random = Random::new(62);
     for file in ten_files() {
@@ -224,7 +224,7 @@ pub fn portions(totals: &mut (usize, usize)) {
             group.same(text(&in_portions(program(), parts.iter().copied())), expected.clone(), given);
         }
     }
-    group.close(totals);
+    group.close(report);
 }
 
 /// Waits until a program has ended, for at most so long; whether it has.
@@ -250,7 +250,7 @@ pub fn in_shell(command: &Command, redirection: &str) -> Output {
 }
 
 /// When the program stops reading, and inputs and outputs that fail.
-pub fn system(totals: &mut (usize, usize)) {
+pub fn system(report: &mut Report) {
     let mut group = Group::new("the program and the system");
     // A refusal that is given at once does not wait for the end of the input; everything else does.
     let place = [2, 0, 0, 0, 5, 0];
@@ -304,11 +304,11 @@ pub fn system(totals: &mut (usize, usize)) {
     File::open(&path).and_then(|mut file| file.read_to_end(&mut own)).expect("this program");
     let child = started(program(), Stdio::from(File::open(&path).expect("this program")));
     group.same(text(&printed(child)), text(&listing(&own)), || "a file that is no track file".to_string());
-    group.close(totals);
+    group.close(report);
 }
 
 /// The shipped samples: both programs give the listings beside them. A block's is that of revolution 1 of 2, at track 0 and side 0.
-pub fn samples(totals: &mut (usize, usize)) {
+pub fn samples(report: &mut Report) {
     let mut group = Group::new("samples");
     let folder = concat!(env!("CARGO_MANIFEST_DIR"), "/../../samples");
     for entry in std::fs::read_dir(folder).expect("samples") {
@@ -325,5 +325,5 @@ pub fn samples(totals: &mut (usize, usize)) {
         let child = started(command, Stdio::from(File::open(&path).expect("a sample")));
         group.same(text(&printed(child)), expected, name);
     }
-    group.close(totals);
+    group.close(report);
 }
