@@ -12,7 +12,7 @@ use Rattle.flux_timings.specs.Timings.{firstOut, timingsJudged}
 use Rattle.refusals.specs.RefusedCalls.{Answer}
 use Rattle.refusals.specs.RefusedCalls.Answer.{gives, refused}
 use Rattle.track_file.specs.TrackFile.{placed, placeCountRefused, cellCountRefused, fluxCountRefused, cellCount, fluxCount, timings, trackOf, sideOf, notATrackFile, givenAtOnce, fileAnswer, fileAnswerIn}
-use Rattle.track_file.proofs.Taking.{judged-in-room}
+use Rattle.taken_timings.proofs.Taking.{judged-in-room}
 use Rattle.listing.proofs.Laws.{Never, never-behind, never-given}
 
 -- the separator's call with room for 131,072 cells

@@ -15,7 +15,7 @@ use Rattle.track_file.specs.Portions.{startOf, startCells, readerAfter, cellsAf
 use Rattle.track_file.specs.TrackFile.{Content, fileBuffer}
 use Rattle.track_file.specs.declared.Read.{Read}
 use Rattle.track_file.specs.declared.Read.the-variants.{Cells, Refused}
-use Rattle.track_file.specs.declared.Reader.{Reader}
+use Rattle.file_reader.specs.declared.Reader.{Reader}
 use Rattle.track_file.proofs.Portions.{in-one-portion}
 
 -- what a writer answers and leaves, of the bytes `made`

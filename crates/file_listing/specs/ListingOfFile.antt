@@ -9,7 +9,7 @@ use Rattle.refusals.specs.RefusedCalls.{Answer}
 use Rattle.refusals.specs.RefusedCalls.Answer.{gives, refused}
 use Rattle.track_file.specs.Portions.{readerThrough, cellsThrough, wholeOf}
 use Rattle.track_file.specs.TrackFile.{Content, fileAnswerIn, fileBuffer}
-use Rattle.track_file.specs.declared.Reader.{Reader}
+use Rattle.file_reader.specs.declared.Reader.{Reader}
 
 -- what is printed of a file that gives this, with these packed cells: refusals 1 to 5 come last, with the listing. "A refused file prints
 -- "refused" and the number."

@@ -1,6 +1,6 @@
 // The listing of a whole track file: at the end of its portions, or of a file in memory.
+use file_reader::Reader;
 use track_file::Read;
-use track_file::Reader;
 ghost use mathlib.Core.Path.{_≡_};
 ghost use Prim.Native.Nat.{_≤_};
 ghost use lib.ListN.{length};

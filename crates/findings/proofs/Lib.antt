@@ -1,4 +1,5 @@
 pub mod Bounds
+pub mod Looks
 pub mod MostFindings
 pub mod Laws
 pub mod Lending
@@ -7,7 +8,3 @@ pub mod Numbers
 pub mod Others
 pub mod Outcome
 pub mod Records
-pub mod Rows
-pub mod Runs
-pub mod Syncs
-pub mod Table

@@ -11,8 +11,8 @@ use lib.Seq.{take-all}
 use Rattle.basis.specs.Lists.{joined}
 use Rattle.cells.specs.CellsAndBytes.{cell, bytesFor}
 use Rattle.findings.specs.Calls.{findingsAnswer, sectorsGiven, numbersOf}
-use Rattle.findings.specs.Findings.{levels, found, ofKind, findingsOf}
-use Rattle.findings.specs.PrivateContracts.{countWritten, kinds, sectorsIn, Added}
+use Rattle.findings.specs.Findings.{kinds, ofKind, findingsOf}
+use Rattle.findings.specs.PrivateContracts.{countWritten, sectorsIn, Added}
 use Rattle.findings.specs.declared.Finding.{Finding}
 use Rattle.findings.proofs.Bounds.{sectors-kept}
 use Rattle.findings.proofs.MostFindings.{few-findings}
@@ -53,13 +53,13 @@ module _ (bytes : List ℕ) (N T H : ℕ) where
 
 -- the survey of a track's sectors gives its findings
 module _ (bytes : List ℕ) (N T : ℕ) (ss : Sectors) (are : ss ≡ kept (sectorsOf bytes N)) (few : length (sectorsOf bytes N) ≤ 64) where
-  pub surveyed : (numbers : List ℕ) (count : ℕ) → Added [] 0 (joined (ofKind (found (cell bytes N) N T (sectorsIn ss))) kinds) numbers count
+  pub surveyed : (numbers : List ℕ) (count : ℕ) → Added [] 0 (joined (ofKind (cell bytes N) N T (sectorsIn ss)) kinds) numbers count
       → Added [] 0 (findingsOf bytes N T) numbers count
-  unfolding findingsOf levels
+  unfolding findingsOf
   surveyed numbers count added = rw (sectors-kept bytes N ss are few) at added
 
 pub findings-few : (bytes : List ℕ) (N T : ℕ) → length (sectorsOf bytes N) ≤ 64 → length (findingsOf bytes N T) ≤ 901
-unfolding findingsOf levels
+unfolding findingsOf
 findings-few bytes N T few = few-findings (cell bytes N) N T (sectorsOf bytes N) few
 
 -- what `plan` promises: beside a refusal nothing is to be written, else all findings

@@ -2,7 +2,7 @@
 use Prim.Native.Nat.{ℕ, zero, suc, _+_, _*_, _%_, _≤_, _<_}
 use mathlib.Core.Path.{_≡_, refl, sym, ap, _∙_}
 use mathlib.Core.Bool.{Bool, true, false, cond}
-use mathlib.Core.List.{List, [], _∷_, _++_, map}
+use mathlib.Core.List.{List, [], _∷_, _++_}
 use native.Mathlib.Nat.{mod-eq-of-lt}
 use native.Mathlib.Numerals.{add-one}
 use native.Mathlib.Omega.{arith}
@@ -16,12 +16,14 @@ use Rattle.basis.proofs.Tables.{below, passes-below}
 use Rattle.refusals.specs.RefusedCalls.{Answer, bufferAfter}
 use Rattle.refusals.specs.RefusedCalls.Answer.{gives, refused}
 use Rattle.findings.specs.Calls.{findingsAnswer, listAfter, numbersOf}
-use Rattle.findings.specs.Findings.{levels, findingOf, ofKind, findingsOf}
+use Rattle.findings.specs.Findings.{kinds, levels, rowAt, foundBy, foundAt, ofKind, findingsOf}
 use Rattle.findings.specs.PrivateContracts.{countWritten, findingAt}
-use Rattle.findings.specs.Rules.{Hit}
+use Rattle.finding_rules.specs.declared.Row.{Row}
 use Rattle.findings.specs.declared.Finding.{Finding}
 use Rattle.findings.proofs.Outcome.{findings-follow}
+use Rattle.cells.specs.CellsAndBytes.{cell}
 use Rattle.sectors.specs.Calls.{sectorsAnswer}
+use Rattle.sectors.specs.Sectors.{sectorsOf}
 
 -- a record that is all zeros, where there is none
 abbrev noFinding : Finding
@@ -48,16 +50,18 @@ levels-narrow : T′ (below level-narrow 21)
 unfolding level-narrow levels
 levels-narrow = tt
 
-narrow-kind : (k : ℕ) → k < 21 → (hits : List Hit) → Narrow (map (findingOf k) hits)
-unfolding findingOf level-narrow
-narrow-kind k h [] = tt
-narrow-kind k h (hit ∷ hits) = ((omega arith, ltb→lt _ 256 (passes-below level-narrow 21 levels-narrow k h)), narrow-kind k h hits)
+narrow-found : (k : ℕ) → k < kinds → (row : Row) → Narrow (foundBy k row)
+unfolding foundBy level-narrow
+narrow-found k h row = go (row .holds)
+  where
+    go : (b : Bool) → Narrow (cond b (record { kind = k + 1; level = getD levels k 0; place = row .place; detail = row .detail } ∷ []) [])
+    go true = ((omega arith, ltb→lt _ 256 (passes-below level-narrow 21 levels-narrow k h)), tt)
+    go false = tt
 
-narrow-kinds : (rows : List (List Hit)) (n : ℕ) → n ≤ 21 → Narrow (joined (ofKind rows) n)
-unfolding joined ofKind
-narrow-kinds rows zero h = tt
-narrow-kinds rows (suc n) h =
-    narrow-append (joined (ofKind rows) n) (ofKind rows n) (narrow-kinds rows n (omega arith)) (narrow-kind n (omega arith) (getD rows n []))
+narrow-joined : (f : ℕ → List Finding) (n : ℕ) → ((k : ℕ) → k < n → Narrow (f k)) → Narrow (joined f n)
+unfolding joined
+narrow-joined f zero h = tt
+narrow-joined f (suc n) h = narrow-append (joined f n) (f n) (narrow-joined f n (λ k l. h k (omega arith))) (h n (omega arith))
 
 -- four numbers on is one finding on
 next-finding : (a b c d : ℕ) (rest : List ℕ) (i : ℕ) → findingAt (a ∷ b ∷ c ∷ d ∷ rest) (suc i) ≡ findingAt rest i
@@ -128,8 +132,9 @@ module _ (bytes : List ℕ) (N T H : ℕ) where
       go (refused number value) e = rw (findings-follow bytes N T H room .refusals number value e) tt
 
   findings-narrow : Narrow (findingsOf bytes N T)
-  unfolding findingsOf levels
-  findings-narrow = narrow-kinds _ 21 (omega arith)
+  unfolding findingsOf ofKind foundAt
+  findings-narrow =
+      narrow-joined _ kinds (λ k h. narrow-joined _ _ (λ i l. narrow-found k h (rowAt (cell bytes N) N T (sectorsOf bytes N) k i)))
 
   -- the caller's list after as many stores as the answer has the call write
   pub list-is : (list : List Finding) (numbers : List ℕ) (c : ℕ) → c ≡ countWritten (findingsAnswer bytes N T H (length list)) → c ≤ length list

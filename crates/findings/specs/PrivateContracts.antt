@@ -1,59 +1,33 @@
--- What the contracts of private functions need, and the number of kinds: the rules in groups, as the code takes them, and findings added to a list of
--- numbers. Assumes nothing.
-use Prim.Native.Nat.{ℕ, _+_, _-_, _*_, _%_, _<_, _≤_}
+-- What the contracts of private functions need: what they ask of sectors and rows, and findings added to a list of numbers. Assumes
+-- nothing.
+use Prim.Native.Nat.{ℕ, _+_, _*_, _%_, _≤_}
 use mathlib.Core.Path.{_≡_}
-use mathlib.Core.Bool.{cond}
-use mathlib.Core.List.{List, [], _∷_, _++_}
-use lib.Dec.{eqb, ltb, leb}
+use mathlib.Core.List.{List, _++_}
 use lib.ListN.{length, getD, take}
-use Rattle.basis.specs.Search.{least, count}
-use Rattle.findings.specs.Cells.{violation, longestRun, longestStart}
-use Rattle.findings.specs.Rules.{Hit, when, lgt, sht, nos, tnf, ext, isn, itn, iif, ssz, nsi, nsd, sbi, snd, sbd, doi, dbi, sws, sid}
+use Rattle.finding_rules.specs.Rules.{nth, dsn}
+use Rattle.finding_rules.specs.declared.Row.{Row}
 use Rattle.findings.specs.Calls.{numbersOf}
+use Rattle.findings.specs.Findings.{foundBy}
 use Rattle.findings.specs.declared.Finding.{Finding}
-use Rattle.findings.specs.declared.cell_rules.Gaps.{Gaps}
-use Rattle.findings.specs.declared.rules.Seen.{Seen}
 use Rattle.refusals.specs.RefusedCalls.{Answer}
 use Rattle.refusals.specs.RefusedCalls.Answer.{gives, refused}
-use Rattle.sectors.specs.Sectors.{noSector}
 use Rattle.sectors.specs.declared.Sector.{Sector}
 use Rattle.sectors.specs.declared.Sectors.{Sectors}
 
--- what a rule saw, as hits
-abbrev pub hitsOf : Seen → List Hit
-hitsOf seen = when (seen .hit) (seen .place) (seen .detail)
+-- what DSN finds at sector i
+unfoldable pub duplicateAt : List Sector → ℕ → List Finding
+duplicateAt ss i = foundBy 5 (dsn (take i ss) (nth ss i))
 
--- kinds 1 to 5, on the numbers of a track
-unfoldable pub trackRules : (N sectors T : ℕ) → List (List Hit)
-trackRules N sectors T = lgt N ∷ sht N ∷ nos sectors ∷ tnf sectors T ∷ ext sectors T ∷ []
-
--- kinds 7 to 12, on a sector's ID and the marks
-unfoldable pub idRules : (T : ℕ) → Sector → List (List Hit)
-idRules T s = isn s ∷ itn T s ∷ iif s ∷ ssz s ∷ nsi s ∷ nsd s ∷ []
-
--- kinds 13 to 17, on a sector's checks and its data
-unfoldable pub dataRules : (N : ℕ) → Sector → List (List Hit)
-dataRules N s = sbi s ∷ snd s ∷ sbd s ∷ doi N s ∷ dbi N s ∷ []
-
--- kinds 20 and 21, on what a pass over the cells gives
-unfoldable pub gapRules : Gaps → List (List Hit)
-gapRules gaps = when (ltb 0 (gaps .violations)) (gaps .first) (gaps .violations) ∷ when (leb 1000 (gaps .longest)) (gaps .start) (gaps .longest) ∷ []
-
--- kinds 7 to 19, on one sector, k from 0
-unfoldable pub sectorRule : (ℕ → ℕ) → (N T : ℕ) → List Sector → ℕ → Sector → List Hit
-sectorRule f N T ss k s =
-    cond (ltb k 6) (getD (idRules T s) k []) (cond (ltb k 11) (getD (dataRules N s) (k - 6) []) (cond (eqb k 11) (sws N ss s) (sid f s)))
-
--- the gaps of a track
-pub record GapsOn (f : ℕ → ℕ) (n : ℕ) (gaps : Gaps) : Type 0 where
-  pub first : gaps .first ≡ least (violation f n) n 0
-  pub violations : gaps .violations ≡ count (violation f n) n 0
-  pub start : gaps .start ≡ longestStart f n
-  pub longest : gaps .longest ≡ longestRun f n
-
--- the bounds of a record's place and length of its data
+-- the bounds of a record's numbers
 pub record BoundedSector (s : Sector) : Type 0 where
+  pub place : s .place ≤ 131072
+  pub mark : s .mark ≤ 255
+  pub track : s .track ≤ 255
+  pub side : s .side ≤ 255
+  pub number : s .number ≤ 255
+  pub size-code : s .«size_code» ≤ 255
   pub data-place : s .«data_place» ≤ 200000
+  pub data-mark : s .«data_mark» ≤ 255
   pub data-length : s .«data_length» ≤ 1024
 
 -- the sectors that the struct keeps
@@ -68,13 +42,15 @@ pub record AtMost64 (ss : Sectors) : Type 0 where
 -- what the routines over a track's sectors ask: at most 64, each with its bounds, on a track of at most 131,072 cells
 pub record BoundedTrack (n : ℕ) (ss : Sectors) : Type 0 where
   pub few : AtMost64 ss
-  pub near : (i : ℕ) → i < ss .count → BoundedSector (getD (ss .all) i noSector)
+  pub near : (i : ℕ) → BoundedSector (nth (sectorsIn ss) i)
   pub short : n ≤ 131072
 
--- how many kinds there are, and a number of findings that they never pass on a track with at most 64 sectors
-abbrev pub kinds : ℕ
-kinds = 21
+-- a row whose place and detail are numbers of 32 bits
+pub record Narrow (row : Row) : Type 0 where
+  pub place : row .place ≤ 0xFFFFFFFF
+  pub detail : row .detail ≤ 0xFFFFFFFF
 
+-- a number of findings that is never passed on a track with at most 64 sectors
 abbrev pub mostFindings : ℕ
 mostFindings = 901
 

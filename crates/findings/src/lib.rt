@@ -1,7 +1,5 @@
 // The copy-protection findings of a track: 01's 21 kinds, ordered by kind, then place.
-mod cell_rules;
 mod lent;
-mod rules;
 mod survey;
 
 pub use lent::findings;

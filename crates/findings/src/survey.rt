@@ -1,18 +1,18 @@
 // The findings of a track as numbers, put one after the other into a list, kind by kind. A kind is given by its index, from 0.
-use crate::cell_rules;
-use crate::cell_rules::Gaps;
-use crate::rules;
-use crate::rules::Seen;
+use cell_patterns::Gaps;
+use finding_rules::Row;
 use sectors::Sector;
 use sectors::Sectors;
 ghost use mathlib.Core.Path.{_≡_};
-ghost use mathlib.Core.List.{[], map};
-ghost use Prim.Native.Nat.{_+_, _-_, _*_, _<_, _≤_};
+ghost use mathlib.Core.List.{[]};
+ghost use Prim.Native.Nat.{_*_, _<_, _≤_};
 ghost use lib.ListN.{length, getD};
 ghost use Rattle.basis.specs.Lists.{joined};
 ghost use Rattle.cells.specs.CellsAndBytes.{cell};
-ghost use Rattle.findings.specs.Findings.{levels, duplicateAt, atEachSector, found, findingOf, ofKind};
-ghost use Rattle.findings.specs.PrivateContracts.{hitsOf, kinds, mostFindings, sectorRule, BoundedSector, AtMost64, BoundedTrack, GapsOn, sectorsIn, Added, Room};
+ghost use Rattle.cell_patterns.specs.Cells.{gapsOf};
+ghost use Rattle.finding_rules.specs.Rules.{noRow, startsInData, someSector, sectorRows};
+ghost use Rattle.findings.specs.Findings.{kinds, levels, foundBy, ofKind};
+ghost use Rattle.findings.specs.PrivateContracts.{mostFindings, duplicateAt, AtMost64, BoundedTrack, Narrow, sectorsIn, Added, Room};
 
 // The numbers of the most findings that there can be, four for each: with 64 sectors there are at most 901.
 pub(crate) const NUMBERS: usize = 3604;
@@ -66,10 +66,10 @@ pub(crate) fn survey(
     ss: Sectors,
 ) -> usize
     requires { ⌜ BoundedTrack n ss ⌝ }
-    ensures { λ r. ⌜ Added [] 0 (joined (ofKind (found (cell (now (bytes .entry)) n) n track (sectorsIn ss))) kinds) (now (numbers .exit)) r ⌝ }
+    ensures { λ r. ⌜ Added [] 0 (joined (ofKind (cell (now (bytes .entry)) n) n track (sectorsIn ss)) kinds) (now (numbers .exit)) r ⌝ }
 {
     clear(numbers);
-    let gaps = cell_rules::find_gaps(bytes, n);
+    let gaps = cell_patterns::find_gaps(bytes, n);
     let mut at: usize = 0;
     let mut k: usize = 0;
     while k < KINDS {
@@ -91,16 +91,16 @@ fn one_kind(
     at: usize,
 ) -> usize
     requires { ⌜ BoundedTrack n ss ⌝ }
-    requires { ⌜ GapsOn (cell (now bytes) n) n gaps ⌝ }
-    requires { ⌜ (k < kinds) × Room (now numbers) at (ofKind (found (cell (now bytes) n) n track (sectorsIn ss)) k) ⌝ }
-    ensures { λ r. ⌜ Added (now (numbers .entry)) at (ofKind (found (cell (now (bytes .entry)) n) n track (sectorsIn ss)) k) (now (numbers .exit)) r ⌝ }
+    requires { ⌜ gaps ≡ gapsOf (cell (now bytes) n) n ⌝ }
+    requires { ⌜ (k < kinds) × Room (now numbers) at (ofKind (cell (now bytes) n) n track (sectorsIn ss) k) ⌝ }
+    ensures { λ r. ⌜ Added (now (numbers .entry)) at (ofKind (cell (now (bytes .entry)) n) n track (sectorsIn ss) k) (now (numbers .exit)) r ⌝ }
 {
     if k < DUPLICATES {
         return put(
             numbers,
             at,
             k,
-            rules::track_rule(k, n as u32, ss.count as u32, track),
+            finding_rules::track_rule(k, n as u32, ss.count as u32, track),
         );
     }
     if k == DUPLICATES {
@@ -109,13 +109,13 @@ fn one_kind(
     if k < GAP_KINDS {
         return each_sector(numbers, bytes, n, track, ss, k, at);
     }
-    put(numbers, at, k, rules::gap_rule(k - GAP_KINDS, gaps))
+    put(numbers, at, k, finding_rules::gap_rule(k - GAP_KINDS, gaps))
 }
 
 // DSN: nested loops over the pairs of sectors, left by label at the first earlier sector with the same number.
 fn duplicates(numbers: &mut [u32; NUMBERS], ss: Sectors, at: usize) -> usize
-    requires { ⌜ AtMost64 ss × Room (now numbers) at (map (findingOf 5) (joined (duplicateAt (sectorsIn ss)) (length (sectorsIn ss)))) ⌝ }
-    ensures { λ r. ⌜ Added (now (numbers .entry)) at (map (findingOf 5) (joined (duplicateAt (sectorsIn ss)) (length (sectorsIn ss)))) (now (numbers .exit)) r ⌝ }
+    requires { ⌜ AtMost64 ss × Room (now numbers) at (joined (duplicateAt (sectorsIn ss)) (length (sectorsIn ss))) ⌝ }
+    ensures { λ r. ⌜ Added (now (numbers .entry)) at (joined (duplicateAt (sectorsIn ss)) (length (sectorsIn ss))) (now (numbers .exit)) r ⌝ }
 {
     let count = ss.count;
     let mut to = at;
@@ -130,10 +130,10 @@ fn duplicates(numbers: &mut [u32; NUMBERS], ss: Sectors, at: usize) -> usize
                     numbers,
                     to,
                     DUPLICATES,
-                    Seen {
-                        hit: true,
-                        place: s.place,
-                        detail: s.number as u32,
+                    Row {
+                        holds: true,
+                        place: s.place as usize,
+                        detail: s.number as usize,
                     },
                 );
                 i += 1;
@@ -157,8 +157,8 @@ fn each_sector(
     at: usize,
 ) -> usize
     requires { ⌜ BoundedTrack n ss ⌝ }
-    requires { ⌜ (6 ≤ k) × (k < 19) × Room (now numbers) at (map (findingOf k) (atEachSector (sectorRule (cell (now bytes) n) n track (sectorsIn ss) (k - 6)) (sectorsIn ss))) ⌝ }
-    ensures { λ r. ⌜ Added (now (numbers .entry)) at (map (findingOf k) (atEachSector (sectorRule (cell (now (bytes .entry)) n) n track (sectorsIn ss) (k - 6)) (sectorsIn ss))) (now (numbers .exit)) r ⌝ }
+    requires { ⌜ (6 ≤ k) × (k < 19) × Room (now numbers) at (ofKind (cell (now bytes) n) n track (sectorsIn ss) k) ⌝ }
+    ensures { λ r. ⌜ Added (now (numbers .entry)) at (ofKind (cell (now (bytes .entry)) n) n track (sectorsIn ss) k) (now (numbers .exit)) r ⌝ }
 {
     let count = ss.count;
     let mut to = at;
@@ -176,43 +176,60 @@ fn each_sector(
     to
 }
 
-// What a kind on sectors sees at the sector s, k being its place among these kinds.
-fn sector_rule(bytes: &[u8], n: usize, track: u32, ss: Sectors, k: usize, s: Sector) -> Seen
-    requires { ⌜ BoundedTrack n ss × BoundedSector s ⌝ }
-    ensures { λ r. ⌜ hitsOf r ≡ sectorRule (cell (now (bytes .entry)) n) n track (sectorsIn ss) k s ⌝ }
+// The row of a kind on sectors at the sector s, k being its place among these kinds.
+fn sector_rule(bytes: &[u8], n: usize, track: u32, ss: Sectors, k: usize, s: Sector) -> Row
+    requires { ⌜ BoundedTrack n ss × (k < 13) ⌝ }
+    ensures { λ r. ⌜ r ≡ getD (sectorRows (cell (now (bytes .entry)) n) n track (sectorsIn ss) s) k noRow ⌝ }
 {
     if k < DATA_RULES {
-        return rules::id_rule(k, track, s);
+        return finding_rules::id_rule(k, track, s);
     }
     if k < OVERWRITTEN {
-        return rules::data_rule(k - DATA_RULES, n, s);
+        return finding_rules::data_rule(k - DATA_RULES, n as u32, s);
     }
     if k == OVERWRITTEN {
-        return Seen {
-            hit: rules::overwritten(n, ss, s),
-            place: s.place,
-            detail: s.number as u32,
+        return Row {
+            holds: overwritten(n as u32, ss, s),
+            place: s.place as usize,
+            detail: s.number as usize,
         };
     }
-    let syncs = cell_rules::syncs_inside(bytes, n, s);
-    Seen {
-        hit: 0 < syncs,
-        place: s.place,
-        detail: syncs as u32,
+    let syncs = cell_patterns::syncs_inside(bytes, n, s);
+    Row {
+        holds: 0 < syncs,
+        place: s.place as usize,
+        detail: syncs,
     }
 }
 
-// What a rule saw, put after the `at` findings that are in the list; how many there are then.
-fn put(numbers: &mut [u32; NUMBERS], at: usize, k: usize, seen: Seen) -> usize
-    requires { ⌜ (k < kinds) × Room (now numbers) at (map (findingOf k) (hitsOf seen)) ⌝ }
-    ensures { λ r. ⌜ Added (now (numbers .entry)) at (map (findingOf k) (hitsOf seen)) (now (numbers .exit)) r ⌝ }
+// SWS: does the sector s start in the data of another?
+fn overwritten(n: u32, ss: Sectors, s: Sector) -> bool
+    requires { ⌜ AtMost64 ss ⌝ }
+    ensures { λ r. ⌜ r ≡ someSector (startsInData n s) (sectorsIn ss) ⌝ }
 {
-    if seen.hit {
+    let count = ss.count;
+    let mut j: usize = 0;
+    while j < count {
+        let other = ss.all[j];
+        if finding_rules::starts_in_data(n, s, other) {
+            return true;
+        }
+        j += 1;
+    }
+    false
+}
+
+// What a row finds, put after the `at` findings that are in the list; how many there are then.
+fn put(numbers: &mut [u32; NUMBERS], at: usize, k: usize, row: Row) -> usize
+    requires { ⌜ (k < kinds) × Narrow row × Room (now numbers) at (foundBy k row) ⌝ }
+    ensures { λ r. ⌜ Added (now (numbers .entry)) at (foundBy k row) (now (numbers .exit)) r ⌝ }
+{
+    if row.holds {
         let b = 4 * at;
         numbers[b] = k as u32 + 1;
         numbers[b + 1] = level(k);
-        numbers[b + 2] = seen.place;
-        numbers[b + 3] = seen.detail;
+        numbers[b + 2] = row.place as u32;
+        numbers[b + 3] = row.detail as u32;
         at + 1
     } else {
         at

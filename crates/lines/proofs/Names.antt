@@ -4,7 +4,7 @@ use mathlib.Core.Path.{_≡_, refl, sym, ap, _∙_}
 use mathlib.Core.List.{List, [], _∷_, map}
 use native.Mathlib.Nat.{min-le-left}
 use native.Mathlib.Omega.{arith}
-use lib.ListN.{length, getD, take, drop, length-take, List·getD-map, List·getD-eq-default}
+use lib.ListN.{length, take, drop, length-take, List·getD-map, List·getD-eq-default}
 use Rattle.basis.specs.Lists.{listed}
 use Rattle.basis.proofs.Lists.{getD-listed}
 use Rattle.lines.specs.Lines.{bytesOf, names, nameOf}

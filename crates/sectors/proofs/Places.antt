@@ -16,7 +16,7 @@ use Rattle.basis.proofs.Search.{least-before, least-found, least-low, least-hig
 use Rattle.cells.specs.CellsAndBytes.{cell}
 use Rattle.sectors.specs.Marks.{idMarkAt, dataMarkAt}
 use Rattle.sectors.specs.declared.Sector.{Sector}
-use Rattle.sectors.specs.Sectors.{markLength, idLength, reach, leastWithin, leastData, dataFound, lengthOf, idByte, dataLength, dataEnd, sectorAt, noSector, sectorsAt, sectorsOf}
+use Rattle.sectors.specs.Sectors.{checkLength, markLength, idLength, reach, leastWithin, leastData, dataFound, lengthOf, idByte, dataLength, endOfData, sectorAt, noSector, sectorsAt, sectorsOf}
 
 -- q is the least place from p + after to p + until that passes the test
 pub record LeastWithin (test : ℕ → Bool) (after until p q : ℕ) : Type 0 where
@@ -101,11 +101,11 @@ unfolding lengthOf
 no-length code h = List·getD-eq-default {A = ℕ} (128 ∷ 256 ∷ 512 ∷ 1024 ∷ []) 0 h
 
 -- so reading a sector goes round the track at most once
-pub data-end-below : (f : ℕ → ℕ) (n p : ℕ) → 20000 ≤ n → p < n → dataEnd (sectorAt f p .«data_place») (sectorAt f p .«data_length») < 2 * n
+pub data-end-below : (f : ℕ → ℕ) (n p : ℕ) → 20000 ≤ n → p < n → endOfData (sectorAt f p) < 2 * n
 unfolding sectorAt dataLength
 data-end-below f n p h l = go (dataFound f p) refl
   where
-    go : (b : Bool) → dataFound f p ≡ b → dataEnd (cond b (leastData f p) 0) (cond b (lengthOf (idByte f p 3)) 0) < 2 * n
+    go : (b : Bool) → dataFound f p ≡ b → cond b (leastData f p) 0 + markLength + 16 * cond b (lengthOf (idByte f p 3)) 0 + checkLength < 2 * n
     go true e = end-in-two-turns markLength reach 1024 n p (leastData f p) (lengthOf (idByte f p 3)) (omega arith) l (leb-true (leastData f p) (p + reach) e) (length-most (idByte f p 3))
     go false e = omega arith
 
@@ -182,8 +182,8 @@ module _ (bytes : List ℕ) (n : ℕ) where
   sectors-ordered i j h l = places-rise (cell bytes n) n i j h l
 
   pub sectors-end-below : (i : ℕ) → 20000 ≤ n → i < length (sectorsOf bytes n)
-      → dataEnd (getD (sectorsOf bytes n) i noSector .«data_place») (getD (sectorsOf bytes n) i noSector .«data_length») < 2 * n
+      → endOfData (getD (sectorsOf bytes n) i noSector) < 2 * n
   sectors-end-below i h l = go (getD (sectorsOf bytes n) i noSector) (sector-of-mark i l)
     where
-      go : (s : Sector) → SectorOf (cell bytes n) n i s → dataEnd (s .«data_place») (s .«data_length») < 2 * n
+      go : (s : Sector) → SectorOf (cell bytes n) n i s → endOfData s < 2 * n
       go s m = rw (m .made) (data-end-below (cell bytes n) n (s .place) h (m .below))

@@ -18,7 +18,11 @@ use Rattle.sectors.specs.Marks.{markByte, idMarkAt, dataMarkAt}
 use Rattle.sectors.specs.declared.Sector.{Sector}
 use Rattle.sectors.specs.declared.Sectors.{Sectors}
 
--- the cells of a mark with its byte, of an ID with its mark and check bytes, and how far past an ID mark a data mark is looked for
+-- the cells of two check bytes, of a mark with its byte, of an ID with its mark and check bytes, and how far past an ID mark a data
+-- mark is looked for
+abbrev pub checkLength : ℕ
+checkLength = 32
+
 abbrev pub markLength : ℕ
 markLength = 64
 
@@ -68,10 +72,6 @@ idByte f p i = byteOn f (p + markLength + 16 * i)
 unfoldable pub dataLength : (ℕ → ℕ) → ℕ → ℕ
 dataLength f p = cond (dataFound f p) (lengthOf (idByte f p 3)) 0
 
--- "Data end = q + 64 + 16L + 32"
-abbrev pub dataEnd : ℕ → ℕ → ℕ
-dataEnd q l = q + markLength + 16 * l + 32
-
 -- "A sector's record holds p, mark, track, side, number, size code, ID check, q and data mark (0 where there is none), L and data check
 -- (0 and bad where no data is read)"
 unfoldable pub sectorAt : (ℕ → ℕ) → ℕ → Sector
@@ -89,6 +89,10 @@ sectorAt f p =
       «data_length» = dataLength f p;
       «data_check_good» = ltb 0 (dataLength f p) && checkGood f (leastData f p) (dataLength f p);
     }
+
+-- "Data end = q + 64 + 16L + 32": where the data of a sector ends, with its check bytes
+abbrev pub endOfData : Sector → ℕ
+endOfData s = s .«data_place» + markLength + 16 * s .«data_length» + checkLength
 
 -- a record that is all zeros
 abbrev pub noSector : Sector

@@ -13,7 +13,7 @@ ghost use Rattle.cells.specs.CellsAndBytes.{cell};
 ghost use Rattle.crc.specs.CheckWord.{checkWordFrom};
 ghost use Rattle.refusals.specs.RefusedCalls.{refusedWith, countedAnswer, bufferAfter};
 ghost use Rattle.sectors.specs.Marks.{markAt, markByte, markOf, idMarkAt};
-ghost use Rattle.sectors.specs.Sectors.{bytesFrom, checkBytes, checkGood, leastData, lengthOf, idByte, sectorAt, noSector, sectorsAt, sectorsOf, kept, dataBytes};
+ghost use Rattle.sectors.specs.Sectors.{bytesFrom, checkBytes, checkGood, leastData, lengthOf, idByte, sectorAt, noSector, sectorsAt, sectorsOf, endOfData, kept, dataBytes};
 ghost use Rattle.sectors.specs.Calls.{sectorsAnswer, sectorsBeside, indexAnswer, recordBeside, sectorOf, readOutAnswer, dataJudged, dataAnswer, dataAfter};
 
 // The last track and side of a drive.
@@ -27,6 +27,18 @@ pub const FEWEST_CELLS: usize = 20000;
 pub const MOST_CELLS: usize = 131072;
 
 pub const MOST_SECTORS: usize = 64;
+
+// The cells of a byte, of two check bytes, of a mark with its byte, and of an ID with its mark and check bytes.
+pub const BYTE_LENGTH: usize = 16;
+
+pub const CHECK_LENGTH: usize = 32;
+
+pub const MARK_LENGTH: usize = 64;
+
+pub const ID_LENGTH: usize = 160;
+
+// The sync A1.
+pub const SYNC: u64 = 0x4489;
 
 // A sector's record. Places are cells, counted on past the track's end where need be.
 pub struct Sector {
@@ -139,11 +151,17 @@ pub fn read_out(
     }
 }
 
-// The cells of a mark with its byte, of an ID with its mark and check bytes, and how far past an ID mark a data mark is looked for.
-const MARK: usize = 64;
+// Where a sector's data ends, with its check bytes.
+pub fn data_end(sector: Sector) -> usize
+    ensures { λ r. ⌜ r ≡ endOfData sector ⌝ }
+{
+    sector.data_place as usize
+        + MARK_LENGTH
+        + BYTE_LENGTH * (sector.data_length as usize)
+        + CHECK_LENGTH
+}
 
-const ID: usize = 160;
-
+// How far past an ID mark a data mark is looked for.
 const REACH: usize = 784;
 
 // Three syncs, the cells that they take, and the check word after their bytes.
@@ -198,7 +216,13 @@ fn read_sector(bytes: &[u8], n: usize, sector: Sector, buffer: &mut [u8]) -> Rea
     if buffer.len() < size {
         return ReadOut::Refused(Refusal::NoRoomForBytes(size));
     }
-    write_data(bytes, n, sector.data_place as usize + MARK, size, buffer);
+    write_data(
+        bytes,
+        n,
+        sector.data_place as usize + MARK_LENGTH,
+        size,
+        buffer,
+    );
     ReadOut::Data(size, sector.data_check_good)
 }
 
@@ -209,7 +233,7 @@ fn write_data(bytes: &[u8], n: usize, p: usize, size: usize, buffer: &mut [u8])
 {
     let mut i: usize = 0;
     while i < size {
-        buffer[i] = mfm::byte_on(bytes, n, p + 16 * i);
+        buffer[i] = mfm::byte_on(bytes, n, p + BYTE_LENGTH * i);
         i += 1;
     }
 }
@@ -311,7 +335,7 @@ fn id_byte(bytes: &[u8], n: usize, p: usize, i: usize) -> u8
     requires { ⌜ (p < 131072) × (i < 4) ⌝ }
     ensures { λ r. ⌜ r ≡ idByte (cell (now (bytes .entry)) n) p i ⌝ }
 {
-    mfm::byte_on(bytes, n, p + MARK + 16 * i)
+    mfm::byte_on(bytes, n, p + MARK_LENGTH + BYTE_LENGTH * i)
 }
 
 // Where the data mark of the ID mark at p stands; one past the reach where there is none.
@@ -319,7 +343,7 @@ fn find_data(bytes: &[u8], n: usize, p: usize) -> usize
     requires { ⌜ p < 131072 ⌝ }
     ensures { λ r. ⌜ (r ≡ leastData (cell (now (bytes .entry)) n) p) × (r ≤ p + 785) ⌝ }
 {
-    let from = p + ID;
+    let from = p + ID_LENGTH;
     let to = p + REACH + 1;
     find_mark(bytes, n, FIRST_DATA_MARK, LAST_DATA_MARK, from, to)
 }
@@ -380,7 +404,8 @@ fn check_good(bytes: &[u8], n: usize, p: usize, k: usize) -> bool
     requires { ⌜ (p < 200000) × (k ≤ 1024) ⌝ }
     ensures { λ r. ⌜ r ≡ checkGood (cell (now (bytes .entry)) n) p k ⌝ }
 {
-    check_word(bytes, n, p + SYNC_CELLS, k + 1) == check_bytes(bytes, n, p + MARK + 16 * k)
+    check_word(bytes, n, p + SYNC_CELLS, k + 1)
+        == check_bytes(bytes, n, p + MARK_LENGTH + BYTE_LENGTH * k)
 }
 
 // The check word of three syncs and the k bytes from p on.
@@ -391,7 +416,7 @@ fn check_word(bytes: &[u8], n: usize, p: usize, k: usize) -> u16
     let mut word = AFTER_SYNCS;
     let mut i: usize = 0;
     while i < k {
-        word = crc::step(word, mfm::byte_on(bytes, n, p + 16 * i));
+        word = crc::step(word, mfm::byte_on(bytes, n, p + BYTE_LENGTH * i));
         i += 1;
     }
     word
@@ -402,7 +427,7 @@ fn check_bytes(bytes: &[u8], n: usize, p: usize) -> u16
     requires { ⌜ p ≤ 300000 ⌝ }
     ensures { λ r. ⌜ r ≡ checkBytes (cell (now (bytes .entry)) n) p ⌝ }
 {
-    wide(mfm::byte_on(bytes, n, p)) * 256 + wide(mfm::byte_on(bytes, n, p + 16))
+    wide(mfm::byte_on(bytes, n, p)) * 256 + wide(mfm::byte_on(bytes, n, p + BYTE_LENGTH))
 }
 
 fn wide(byte: u8) -> u16

@@ -9,13 +9,16 @@ use lib.IntN.{ℤ, pos}
 use lib.ListN.{length, getD, drop, replicate, length-append, length-replicate, drop-of-length-le}
 use Rattle.cells.proofs.Packing.{Cells}
 use Rattle.cells.proofs.Zeros.{cells-append, cells-zeros, cells-one}
-use Rattle.flux_timings.specs.Timings.{inRange}
-use Rattle.separator.specs.Rule.{cellsAt, residualAfter, halfWindow}
+use Rattle.refusals.specs.RefusedCalls.{Answer}
+use Rattle.refusals.specs.RefusedCalls.Answer.{gives}
+use Rattle.flux_timings.specs.Timings.{inRange, firstOut}
+use Rattle.separator.specs.Rule.{cellsAt, residualAfter, halfWindow, stepAnswer, stepResidual}
 use Rattle.separation.specs.Separation.{cellsFor, windowsFrom, cellsIn, cellsOf}
 use Rattle.separator.proofs.Lifted.{Kept, kept-none, kept-next}
 use Rattle.flux_timings.proofs.Timing.{range-of}
 use Rattle.separator.proofs.MachineStep.{cells-small}
-use Rattle.flux_timings.proofs.FirstOut.{rest-is}
+use Rattle.separator.proofs.Stepping.{step-answers, step-leaves}
+use Rattle.flux_timings.proofs.FirstOut.{rest-is, all-in-range}
 
 -- the cells of one timing
 pub length-for : (n : ℕ) → length (cellsFor n) ≡ n
@@ -57,15 +60,33 @@ pub start-passed : (ts : List ℕ) {r : ℤ} (e : r ≡ pos 0) → walk-start ts
 unfolding walk-start
 start-passed ts e = refl
 
+-- what a turn's step gives: timing i of ts is in range, and from the residual r on it has n cells and leaves the residual r′
+pub record Turn (ts : List ℕ) (i : ℕ) (r : ℤ) (n : ℕ) (r′ : ℤ) : Type 0 where
+  pub here : i < length ts
+  pub ranged : inRange (getD ts i 0) ≡ true
+  pub cells : n ≡ cellsAt halfWindow r (getD ts i 0)
+  pub residual : r′ ≡ residualAfter halfWindow r (getD ts i 0)
+
+-- it follows from what the step promises, and the function that takes the number of cells out of its answer
+pub turn : (ts : List ℕ) (i : ℕ) (r : ℤ) {answer : Answer ℕ} {n : ℕ} {r′ : ℤ} → firstOut ts ≡ length ts → i < length ts → Kept halfWindow r
+    → answer ≡ stepAnswer r (getD ts i 0) → r′ ≡ stepResidual r (getD ts i 0) → ((k : ℕ) → answer ≡ gives k → n ≡ k) → Turn ts i r n r′
+turn ts i r all h kept answers leaves taken =
+    let ranged = all-in-range ts all i h in
+    record {
+      here = h;
+      ranged = ranged;
+      cells = taken _ (answers ∙ step-answers r (getD ts i 0) kept ranged);
+      residual = leaves ∙ step-leaves r (getD ts i 0) kept ranged;
+    }
+
 -- one timing more, of n cells, that leaves the residual r′
-module _ {ts : List ℕ} {at : ℕ} {r : ℤ} {i : ℕ} (w : Walked ts at r i) (h : i < length ts) (ranged : inRange (getD ts i 0) ≡ true)
-    {n : ℕ} {r′ : ℤ} (is-n : n ≡ cellsAt halfWindow r (getD ts i 0)) (is-r : r′ ≡ residualAfter halfWindow r (getD ts i 0)) where
+module _ {ts : List ℕ} {at : ℕ} {r : ℤ} {i : ℕ} (w : Walked ts at r i) {n : ℕ} {r′ : ℤ} (t : Turn ts i r n r′) where
   rest : cellsFrom r (drop i ts) ≡ cellsFor n ++ cellsFrom r′ (drop (i + 1) ts)
   unfolding windowsFrom cellsIn
-  rest = rw (rest-is ts i h, is-n, is-r)
+  rest = rw (rest-is ts i (t .here), t .cells, t .residual)
 
   pub walk-small : n ≤ 5000
-  walk-small = omega (arith, is-n, cells-small (getD ts i 0) (range-of (getD ts i 0) ranged .1) r (w .kept))
+  walk-small = omega (arith, t .cells, cells-small (getD ts i 0) (range-of (getD ts i 0) (t .ranged) .1) r (w .kept))
 
   pub walk-next : Walked ts (at + n) r′ (i + 1)
   walk-next =
@@ -74,9 +95,9 @@ module _ {ts : List ℕ} {at : ℕ} {r : ℤ} {i : ℕ} (w : Walked ts at r i) (
         passed = w .passed ++ cellsFor n;
         bits = cells-append (w .passed) (cellsFor n) (w .bits) (cells-for n);
         long = length-append (w .passed) (cellsFor n) ∙ ap (λ (m : ℕ). m + length (cellsFor n)) (w .long) ∙ ap (λ (m : ℕ). at + m) (length-for n);
-        within = omega arith;
+        within = omega (arith, t .here);
         small = omega (arith, w .small);
-        kept = subst (Kept halfWindow) (sym is-r) (kept-next 1000 (omega arith) r (getD ts i 0) (w .kept));
+        kept = subst (Kept halfWindow) (sym (t .residual)) (kept-next 1000 (omega arith) r (getD ts i 0) (w .kept));
         split = w .split ∙ ap (λ (l : List ℕ). w .passed ++ l) rest ∙ sym (append-assoc (w .passed) (cellsFor n) _);
       }
 

@@ -1,13 +1,13 @@
 -- The cells of timings written one timing after another: the front of the buffer is the cells passed, packed. Assumes nothing.
-use Prim.Native.Nat.{ℕ, zero, suc, _+_, _-_, _*_, _≤_, _<_}
+use Prim.Native.Nat.{ℕ, zero, suc, _+_, _-_, _*_, _≤_}
 use mathlib.Core.Path.{_≡_, refl, sym, _∙_, ap}
-use mathlib.Core.Bool.{true, cond}
+use mathlib.Core.Bool.{cond}
 use mathlib.Core.List.{List, [], _∷_, _++_, append-assoc, append-nil}
 use native.Mathlib.Omega.{arith}
 use borrow.Author.Tests.{ne-eqb}
 use lib.Dec.{eqb}
 use lib.IntN.{ℤ, pos}
-use lib.ListN.{length, getD, drop, replicate, length-append, length-replicate}
+use lib.ListN.{length, drop, replicate, length-append, length-replicate}
 use lib.Seq.{drop-at}
 use Rattle.basis.specs.Lists.{listed, writtenOver}
 use Rattle.basis.proofs.Lists.{length-listed}
@@ -15,10 +15,8 @@ use Rattle.cells.specs.CellsAndBytes.{bytesFor, packedByte, packed, cleared, wi
 use Rattle.cells.proofs.Packing.{Cells}
 use Rattle.cells.proofs.Zeros.{cells-append, cells-zeros, packed-with-zeros, cleared-front}
 use Rattle.cells.proofs.Appending.{packed-with-one}
-use Rattle.flux_timings.specs.Timings.{inRange}
-use Rattle.separator.specs.Rule.{cellsAt, residualAfter, halfWindow}
 use Rattle.separation.specs.Separation.{cellsFor, cellsOf}
-use Rattle.separation.proofs.Walk.{Walked, walk-start, start-passed, walk-next, next-passed, walk-within, walk-end}
+use Rattle.separation.proofs.Walk.{Walked, Turn, walk-start, start-passed, walk-next, next-passed, walk-within, walk-end}
 
 -- the cells q packed in the first `needed` bytes of a buffer, and then the rest
 abbrev pub frontOf : List ℕ → ℕ → List ℕ → List ℕ
@@ -64,22 +62,21 @@ filled-start ts needed {cells₀} e f =
     record { walked = walk-start ts e; long = refl; front = f ∙ ap (λ (x : List ℕ). frontOf x needed (drop needed cells₀)) (sym (start-passed ts e)) }
 
 -- one timing more, of n cells, that leaves the residual r′
-module _ {ts : List ℕ} {needed : ℕ} {cells₀ cells : List ℕ} {at : ℕ} {r : ℤ} {i : ℕ} (f : Filled ts needed cells₀ cells at r i) (h : i < length ts)
-    (ranged : inRange (getD ts i 0) ≡ true) (is-needed : needed ≡ bytesFor (length (cellsOf ts)))
-    {n : ℕ} {r′ : ℤ} (is-n : n ≡ cellsAt halfWindow r (getD ts i 0)) (is-r : r′ ≡ residualAfter halfWindow r (getD ts i 0)) where
+module _ {ts : List ℕ} {needed : ℕ} {cells₀ cells : List ℕ} {at : ℕ} {r : ℤ} {i : ℕ} (f : Filled ts needed cells₀ cells at r i)
+    (is-needed : needed ≡ bytesFor (length (cellsOf ts))) {n : ℕ} {r′ : ℤ} (t : Turn ts i r n r′) where
   pub filled-within : at + n ≤ length (cellsOf ts)
-  filled-within = walk-within (walk-next (f .walked) h ranged is-n is-r)
+  filled-within = walk-within (walk-next (f .walked) t)
 
   pub filled-next : (cells′ : List ℕ) → cells′ ≡ cond (eqb n 0) cells (withOne cells (at + (n - 1))) → length cells′ ≡ length cells
       → Filled ts needed cells₀ cells′ (at + n) r′ (i + 1)
   filled-next cells′ e l =
       let k : at + n ≤ 8 * needed = omega (arith, filled-within) in
       record {
-        walked = walk-next (f .walked) h ranged is-n is-r;
+        walked = walk-next (f .walked) t;
         long = l ∙ f .long;
         front = e ∙ ap (λ (x : List ℕ). cond (eqb n 0) x (withOne x (at + (n - 1)))) (f .front)
             ∙ front-with-timing (f .walked .passed) (f .walked .bits) needed (drop needed cells₀) at n (f .walked .long) k
-            ∙ ap (λ (x : List ℕ). frontOf x needed (drop needed cells₀)) (sym (next-passed (f .walked) h ranged is-n is-r));
+            ∙ ap (λ (x : List ℕ). frontOf x needed (drop needed cells₀)) (sym (next-passed (f .walked) t));
       }
 
 -- all timings written, to a buffer that had room

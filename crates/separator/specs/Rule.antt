@@ -4,7 +4,7 @@
 --
 -- The window is 2,000 ns and its half 1,000 ns; the rule is stated over the half. Assumes nothing.
 use Prim.Native.Nat.{ℕ, _*_}
-use mathlib.Core.Bool.{Bool, cond, _&&_}
+use mathlib.Core.Bool.{cond, _&&_}
 use lib.IntN.{ℤ, pos, negsuc, _+ℤ_, _-ℤ_, natAbs}
 use lib.Signed.{leZ, quotZ, shrZ}
 use Rattle.refusals.specs.RefusedCalls.{Answer, refusedWith}

@@ -12,6 +12,7 @@ mod files;
 pub use blocks::thikbromu_revolution_cells;
 pub use blocks::thikbromu_revolution_portion;
 pub use blocks::thikbromu_revolution_timings;
+pub use files::thikbromu_file_cells;
 pub use files::thikbromu_file_listing;
 pub use files::thikbromu_listing;
 use findings::Finding;

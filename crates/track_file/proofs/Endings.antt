@@ -7,18 +7,20 @@ use native.Mathlib.Omega.{arith}
 use borrow.Author.Tests.{lt-ltb, le-ltb}
 use lib.ListN.{length, replicate, length-replicate, drop-of-length-le}
 use Rattle.cells.specs.CellsAndBytes.{cleared}
-use Rattle.separator.specs.declared.Separator.{Separator}
-use Rattle.refusals.specs.RefusedCalls.{refusedWith}
+use Rattle.refusals.specs.RefusedCalls.{refusedWith, countedAnswer}
+use Rattle.refusals.specs.declared.Counted.{Counted}
+use Rattle.refusals.specs.declared.Counted.the-variants.{Count, Refused as CountRefused}
 use Rattle.refusals.specs.RefusedCalls.Answer.{refused}
 use Rattle.refusals.specs.declared.Refusal.{Refusal}
 use Rattle.refusals.specs.declared.Refusal.the-variants.{NoRoom}
-use Rattle.track_file.specs.Portions.{startOf, startCells, readerAfterByte, cellsAfterByte, readerAfter, cellsAfter, readAnswer, timingsAnswer, finishAnswer}
-use Rattle.track_file.specs.declared.Place.{Place}
-use Rattle.track_file.specs.declared.Number.the-variants.{Empty}
-use Rattle.track_file.specs.declared.TakenTimings.{TakenTimings}
-use Rattle.track_file.specs.declared.TakenTimings.the-variants.{InRange, OutOfRange}
-use Rattle.track_file.specs.declared.Reader.{Reader}
-use Rattle.track_file.specs.declared.Reader.the-variants.{PlaceCount, AllCells, AllTimings, Stopped}
+use Rattle.taken_timings.specs.Timings.{timingsAnswer}
+use Rattle.file_reader.specs.Bytes.{readerAfterByte, cellsAfterByte}
+use Rattle.track_file.specs.Portions.{startOf, startCells, readerAfter, cellsAfter, readAnswer, finishAnswer}
+use Rattle.file_reader.specs.declared.Place.{Place}
+use Rattle.file_reader.specs.declared.Number.the-variants.{Empty}
+use Rattle.taken_timings.specs.declared.TakenTimings.{TakenTimings}
+use Rattle.file_reader.specs.declared.Reader.{Reader}
+use Rattle.file_reader.specs.declared.Reader.the-variants.{PlaceCount, AllCells, AllTimings, Stopped}
 use Rattle.track_file.specs.declared.Read.the-variants.{Cells}
 
 -- a buffer cleared whole
@@ -67,19 +69,14 @@ module _ (reader : Reader) where
   unfolding finishAnswer
   given-cells e = rw e
 
-  module _ {place : Place} {taken : TakenTimings} (e : reader ≡ AllTimings place taken) where
-    pub given-too-many : {timings cells : ℕ} {s : Separator} → taken ≡ InRange timings cells s → 131072 < cells → refused 9 cells ≡ finishAnswer reader
-    unfolding finishAnswer timingsAnswer
-    given-too-many {timings} {cells} f h = rw (e, f, lt-ltb 131072 cells h)
+  module _ {place : Place} {taken : TakenTimings} (e : reader ≡ AllTimings place taken) {counted : Counted} (is : countedAnswer counted ≡ timingsAnswer taken) where
+    pub given-timings : {count : ℕ} → counted ≡ Count count → readAnswer (Cells (place .track) (place .side) count) ≡ finishAnswer reader
+    unfolding finishAnswer
+    given-timings f = rw (e, ← is, f)
 
-    pub given-timings : {timings cells : ℕ} {s : Separator} → taken ≡ InRange timings cells s → cells ≤ 131072
-        → readAnswer (Cells (place .track) (place .side) cells) ≡ finishAnswer reader
-    unfolding finishAnswer timingsAnswer
-    given-timings {timings} {cells} f h = rw (e, f, le-ltb 131072 cells h)
-
-    pub given-out-of-range : {index : ℕ} → taken ≡ OutOfRange index → refused 8 index ≡ finishAnswer reader
-    unfolding finishAnswer timingsAnswer
-    given-out-of-range f = rw (e, f)
+    pub given-refusal : {refusal : Refusal} → counted ≡ CountRefused refusal → refusedWith refusal ≡ finishAnswer reader
+    unfolding finishAnswer
+    given-refusal f = rw (e, ← is, f)
 
   pub given-stopped : {refusal : Refusal} → reader ≡ Stopped refusal → refusedWith refusal ≡ finishAnswer reader
   unfolding finishAnswer

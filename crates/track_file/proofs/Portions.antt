@@ -8,14 +8,16 @@ use native.Mathlib.Omega.{arith}
 use lib.ListN.{length, getD, drop, drop-of-length-le}
 use lib.Seq.{drop-cons}
 use Rattle.basis.specs.Bytes.{fourBytes}
-use Rattle.track_file.specs.Portions.{startOf, startCells, numberAfter, takenAfter, takenCells, inTiming, inTimingCells, readerAfterByte, cellsAfterByte, readerAfter, cellsAfter, readerAfterAll, cellsAfterAll, readerThrough, cellsThrough, wholeOf}
-use Rattle.track_file.specs.declared.Place.{Place}
-use Rattle.track_file.specs.declared.Number.{Number}
-use Rattle.track_file.specs.declared.Number.the-variants.{Empty}
-use Rattle.track_file.specs.declared.TakenTimings.{TakenTimings}
-use Rattle.track_file.specs.declared.Reader.{Reader}
-use Rattle.track_file.specs.declared.Reader.the-variants.{Timings}
-use Rattle.track_file.proofs.Sections.{more-timings}
+use Rattle.taken_timings.specs.Timings.{takenAfter, takenCells}
+use Rattle.file_reader.specs.Bytes.{numberAfter, inTiming, inTimingCells, readerAfterByte, cellsAfterByte}
+use Rattle.track_file.specs.Portions.{startOf, startCells, readerAfter, cellsAfter, readerAfterAll, cellsAfterAll, readerThrough, cellsThrough, wholeOf}
+use Rattle.file_reader.specs.declared.Place.{Place}
+use Rattle.file_reader.specs.declared.Number.{Number}
+use Rattle.file_reader.specs.declared.Number.the-variants.{Empty}
+use Rattle.taken_timings.specs.declared.TakenTimings.{TakenTimings}
+use Rattle.file_reader.specs.declared.Reader.{Reader}
+use Rattle.file_reader.specs.declared.Reader.the-variants.{Timings}
+use Rattle.file_reader.proofs.Sections.{more-timings}
 
 -- a portion cut in two
 pub reader-cut : (reader : Reader) (a b : List ℕ) → readerAfter reader (a ++ b) ≡ readerAfter (readerAfter reader a) b

@@ -9,8 +9,8 @@ use lib.ListN.{length}
 use Rattle.refusals.specs.declared.Refusal.{Refusal}
 use Rattle.track_file.specs.TrackFile.{refusedAtOnce, fileAnswerIn}
 use Rattle.track_file.specs.Portions.{startOf, readerAfter, readerThrough, wholeOf, isStopped, finishAnswer, AtOnce}
-use Rattle.track_file.specs.declared.Reader.{Reader}
-use Rattle.track_file.specs.declared.Reader.the-variants.{Stopped}
+use Rattle.file_reader.specs.declared.Reader.{Reader}
+use Rattle.file_reader.specs.declared.Reader.the-variants.{Stopped}
 use Rattle.track_file.proofs.Endings.{reader-stays}
 use Rattle.track_file.proofs.Portions.{reader-cut, reader-joined}
 use Rattle.track_file.proofs.Whole.{whole-answer}

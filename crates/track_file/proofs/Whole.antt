@@ -12,11 +12,11 @@ use Rattle.refusals.specs.RefusedCalls.Answer.{gives, refused}
 use Rattle.refusals.specs.declared.Refusal.the-variants.{NoRoom}
 use Rattle.track_file.specs.TrackFile.{Content, fileAnswer, fileCells, fileAnswerIn, fileBuffer}
 use Rattle.track_file.specs.Portions.{startOf, startCells, cellsAfter, wholeOf, finishAnswer, WholeFile}
-use Rattle.track_file.specs.declared.Number.the-variants.{Empty}
-use Rattle.track_file.specs.declared.Reader.{Reader}
-use Rattle.track_file.specs.declared.Reader.the-variants.{PlaceCount, Stopped}
+use Rattle.file_reader.specs.declared.Number.the-variants.{Empty}
+use Rattle.file_reader.specs.declared.Reader.{Reader}
+use Rattle.file_reader.specs.declared.Reader.the-variants.{PlaceCount, Stopped}
 use Rattle.track_file.proofs.Portions.{reader-joined, cells-joined}
-use Rattle.track_file.proofs.TimingCells.{never}
+use Rattle.taken_timings.proofs.TimingCells.{never}
 use Rattle.track_file.proofs.Staged.{ends, ends-stopped}
 use Rattle.track_file.proofs.Judged.{file-answer}
 use Rattle.track_file.proofs.Filling.{file-filled}

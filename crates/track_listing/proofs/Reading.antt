@@ -14,7 +14,7 @@ use Rattle.lines.specs.Lines.{outAfter}
 use Rattle.listing.proofs.Laws.{front-in-room}
 use Rattle.file_listing.specs.ListingOfFile.{fileListing, WholeListing}
 use Rattle.track_file.specs.Portions.{startOf, startCells, readerAfter, cellsAfter, readerAfterAll, cellsAfterAll, wholeOf, isStopped}
-use Rattle.track_file.specs.declared.Reader.{Reader}
+use Rattle.file_reader.specs.declared.Reader.{Reader}
 use Rattle.track_file.proofs.Portions.{cells-then}
 use Rattle.track_listing.specs.declared.Input.{Input}
 use Rattle.track_listing.specs.declared.Input.the-variants.{Open, Ended, Failed}

@@ -4,7 +4,7 @@ use mathlib.Core.List.{List}
 use lib.IntN.{ℤ}
 use Prim.Native.Nat.{ℕ}
 use Rattle.track_file.specs.Portions.{cellsAfter, cellsAfterAll}
-use Rattle.track_file.specs.declared.Reader.{Reader}
+use Rattle.file_reader.specs.declared.Reader.{Reader}
 use Rattle.track_listing.specs.Reading.{bytesRead, inputAfter, OneRead, portionsOf, AllReads}
 use Rattle.track_listing.specs.declared.Input.{Input}
 

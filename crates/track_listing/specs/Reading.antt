@@ -10,7 +10,7 @@ use lib.IntN.{ℤ, pos, negsuc}
 use lib.ListN.{length, take}
 use Rattle.file_listing.specs.ListingOfFile.{fileListing}
 use Rattle.track_file.specs.Portions.{startOf, readerAfter, wholeOf, isStopped}
-use Rattle.track_file.specs.declared.Reader.{Reader}
+use Rattle.file_reader.specs.declared.Reader.{Reader}
 use Rattle.track_listing.specs.declared.Input.{Input}
 use Rattle.track_listing.specs.declared.Input.the-variants.{Open, Ended, Failed}
 

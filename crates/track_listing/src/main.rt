@@ -2,10 +2,10 @@
 //
 // It stops reading at a refusal that is given at once, and otherwise at the end of the input. Where the input cannot be read to its end,
 // nothing is known of the file: it says so on standard error, and lists nothing.
+use file_reader::Reader;
 use libc::STDERR_FILENO;
 use libc::STDIN_FILENO;
 use libc::STDOUT_FILENO;
-use track_file::Reader;
 ghost use mathlib.Core.Path.{_≡_};
 ghost use Prim.Native.Nat.{_≤_};
 ghost use lib.ListN.{length};

@@ -22,98 +22,9 @@ write-decimal-at t = and 1 write-decimal-kinds.ps (is 1 write-decimal-kinds.ps �
 abbrev write-decimal-below : ℕ → In 1 write-decimal-kinds.ps
 write-decimal-below t = and 1 write-decimal-kinds.ps (falls 1 write-decimal-kinds.ps _<_ μ-write-decimal t) write-decimal.Pre
 
-write-decimal-last-digit-requires : (t : ℕ) → write-decimal-lts.Need-last-digit-requires (
-  last-digit-reads.Asked,
-  last-digit-reads.Learnt,
-  write-byte-reads.Asked,
-  write-byte-reads.Learnt,
-  write-decimal-below t,
-  write-decimal.Post,
-) (write-decimal-at t) write-decimal.Post
-write-decimal-last-digit-requires t c κs = tt
-
-write-decimal-write-byte-requires : (t : ℕ) → write-decimal-lts.Need-write-byte-requires (
-  last-digit-reads.Asked,
-  last-digit-reads.Learnt,
-  write-byte-reads.Asked,
-  write-byte-reads.Learnt,
-  write-decimal-below t,
-  write-decimal.Post,
-) (write-decimal-at t) write-decimal.Post
-write-decimal-write-byte-requires t c κs = omega (arith, c .before .before .before .before .pre .1)
-
-write-decimal-write-decimal-requires : (t : ℕ) → write-decimal-lts.Need-write-decimal-requires (
-  last-digit-reads.Asked,
-  last-digit-reads.Learnt,
-  write-byte-reads.Asked,
-  write-byte-reads.Learnt,
-  write-decimal-below t,
-  write-decimal.Post,
-) (write-decimal-at t) write-decimal.Post
-write-decimal-write-decimal-requires t c κs = (omega (arith, c .before .before .before .pre .0, c .before .if1 .left), c .before .before .before .pre .1)
-
-write-decimal-last-digit-requires-2 : (t : ℕ) → write-decimal-lts.Need-last-digit-requires-2 (
-  last-digit-reads.Asked,
-  last-digit-reads.Learnt,
-  write-byte-reads.Asked,
-  write-byte-reads.Learnt,
-  write-decimal-below t,
-  write-decimal.Post,
-) (write-decimal-at t) write-decimal.Post
-write-decimal-last-digit-requires-2 t c κs = tt
-
-write-decimal-write-byte-requires-2 : (t : ℕ) → write-decimal-lts.Need-write-byte-requires-2 (
-  last-digit-reads.Asked,
-  last-digit-reads.Learnt,
-  write-byte-reads.Asked,
-  write-byte-reads.Learnt,
-  write-decimal-below t,
-  write-decimal.Post,
-) (write-decimal-at t) write-decimal.Post
-write-decimal-write-byte-requires-2 t c κs = omega (arith, c .before .before .before .before .before .before .before .before .pre .1, before-last (c .before .before .before .before .before .before .before .before .args .n) (c .before .before .before .before .write-decimal .ensures) (c .before .before .before .before .before .before .before .before .fits .n .fits))
-
-write-decimal-same-length : (t : ℕ) → write-decimal-lts.Need-same-length (
-  last-digit-reads.Asked,
-  last-digit-reads.Learnt,
-  write-byte-reads.Asked,
-  write-byte-reads.Learnt,
-  write-decimal-below t,
-  write-decimal.Post,
-) (write-decimal-at t) write-decimal.Post
-write-decimal-same-length t c = search needs
-
-write-decimal-returns : (t : ℕ) → write-decimal-lts.Need-returns (
-  last-digit-reads.Asked,
-  last-digit-reads.Learnt,
-  write-byte-reads.Asked,
-  write-byte-reads.Learnt,
-  write-decimal-below t,
-  write-decimal.Post,
-) (write-decimal-at t) write-decimal.Post
-write-decimal-returns t c = wrote-small _ _ (c .before .before .write-byte .ensures) (c .before .before .before .last-digit .ensures) (c .before .before .before .before .before .if1 .taken)
-
-write-decimal-same-length-2 : (t : ℕ) → write-decimal-lts.Need-same-length-2 (
-  last-digit-reads.Asked,
-  last-digit-reads.Learnt,
-  write-byte-reads.Asked,
-  write-byte-reads.Learnt,
-  write-decimal-below t,
-  write-decimal.Post,
-) (write-decimal-at t) write-decimal.Post
-write-decimal-same-length-2 t c = search needs
-
-write-decimal-returns-2 : (t : ℕ) → write-decimal-lts.Need-returns-2 (
-  last-digit-reads.Asked,
-  last-digit-reads.Learnt,
-  write-byte-reads.Asked,
-  write-byte-reads.Learnt,
-  write-decimal-below t,
-  write-decimal.Post,
-) (write-decimal-at t) write-decimal.Post
-write-decimal-returns-2 t c = wrote-more _ _ (c .before .before .before .before .before .before .before .write-decimal .ensures) (c .before .before .write-byte2 .ensures) (c .before .before .before .last-digit2 .ensures) (c .before .before .before .before .before .before .before .before .before .if1 .left) (c .before .before .before .before .before .before .before .before .before .before .before .fits .n .fits)
-
-pub +write-decimal-spec : {M : Type 1} → statement M
-+write-decimal-spec = close μ-write-decimal λ t. write-decimal-lts.spec (
+-- what is asked and learnt of each callee, the function itself among them
+abbrev claims : ℕ → write-decimal-lts.Claims
+claims t = (
   last-digit-reads.Asked,
   last-digit-reads.Learnt,
   write-byte-reads.Asked,
@@ -121,6 +32,36 @@ pub +write-decimal-spec : {M : Type 1} → statement M
   write-decimal-below t,
   write-decimal.Post,
 )
+
+write-decimal-last-digit-requires : (t : ℕ) → write-decimal-lts.Need-last-digit-requires (claims t) (write-decimal-at t) write-decimal.Post
+write-decimal-last-digit-requires t c κs = tt
+
+write-decimal-write-byte-requires : (t : ℕ) → write-decimal-lts.Need-write-byte-requires (claims t) (write-decimal-at t) write-decimal.Post
+write-decimal-write-byte-requires t c κs = omega (arith, c .before .before .before .before .pre .1)
+
+write-decimal-write-decimal-requires : (t : ℕ) → write-decimal-lts.Need-write-decimal-requires (claims t) (write-decimal-at t) write-decimal.Post
+write-decimal-write-decimal-requires t c κs = (omega (arith, c .before .before .before .pre .0, c .before .if1 .left), c .before .before .before .pre .1)
+
+write-decimal-last-digit-requires-2 : (t : ℕ) → write-decimal-lts.Need-last-digit-requires-2 (claims t) (write-decimal-at t) write-decimal.Post
+write-decimal-last-digit-requires-2 t c κs = tt
+
+write-decimal-write-byte-requires-2 : (t : ℕ) → write-decimal-lts.Need-write-byte-requires-2 (claims t) (write-decimal-at t) write-decimal.Post
+write-decimal-write-byte-requires-2 t c κs = omega (arith, c .before .before .before .before .before .before .before .before .pre .1, before-last (c .before .before .before .before .before .before .before .before .args .n) (c .before .before .before .before .write-decimal .ensures) (c .before .before .before .before .before .before .before .before .fits .n .fits))
+
+write-decimal-same-length : (t : ℕ) → write-decimal-lts.Need-same-length (claims t) (write-decimal-at t) write-decimal.Post
+write-decimal-same-length t c = search needs
+
+write-decimal-returns : (t : ℕ) → write-decimal-lts.Need-returns (claims t) (write-decimal-at t) write-decimal.Post
+write-decimal-returns t c = wrote-small _ _ (c .before .before .write-byte .ensures) (c .before .before .before .last-digit .ensures) (c .before .before .before .before .before .if1 .taken)
+
+write-decimal-same-length-2 : (t : ℕ) → write-decimal-lts.Need-same-length-2 (claims t) (write-decimal-at t) write-decimal.Post
+write-decimal-same-length-2 t c = search needs
+
+write-decimal-returns-2 : (t : ℕ) → write-decimal-lts.Need-returns-2 (claims t) (write-decimal-at t) write-decimal.Post
+write-decimal-returns-2 t c = wrote-more _ _ (c .before .before .before .before .before .before .before .write-decimal .ensures) (c .before .before .write-byte2 .ensures) (c .before .before .before .last-digit2 .ensures) (c .before .before .before .before .before .before .before .before .before .if1 .left) (c .before .before .before .before .before .before .before .before .before .before .before .fits .n .fits)
+
+pub +write-decimal-spec : {M : Type 1} → statement M
++write-decimal-spec = close μ-write-decimal λ t. write-decimal-lts.spec (claims t)
     (write-decimal-at t)
     write-decimal.Post
     (write-decimal-last-digit-requires t)

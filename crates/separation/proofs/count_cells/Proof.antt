@@ -1,15 +1,10 @@
 -- `separation::count_cells` meets its contract: `count` is the number of cells passed. Assumes nothing.
-use Prim.Native.Nat.{ℕ, _-_}
-use mathlib.Core.Path.{_≡_, sym, _∙_, ap}
-use mathlib.Core.Bool.{true}
+use Prim.Native.Nat.{_-_}
+use mathlib.Core.Path.{sym, _∙_, ap}
 use native.Mathlib.Omega.{arith}
 use borrow.Author.Needs.{needs}
-use lib.ListN.{length, getD}
-use Rattle.flux_timings.specs.Timings.{inRange}
-use Rattle.separator.specs.Rule.{cellsAt, residualAfter, halfWindow}
-use Rattle.flux_timings.proofs.FirstOut.{all-in-range}
-use Rattle.separator.proofs.Stepping.{step-answers, step-leaves}
-use Rattle.separation.proofs.Walk.{Walked, walk-start, walk-small, walk-next, walk-end}
+use lib.ListN.{length}
+use Rattle.separation.proofs.Walk.{Walked, Turn, turn, walk-start, walk-small, walk-next, walk-end}
 use Rattle.separation.proofs.count_cells.Statement.{statement}
 use Rattle.separation.proofs.count_cells.Tie as tie
 
@@ -42,22 +37,15 @@ module _ (c : tie.After-cells-given Inv-loop μ-loop) where
   abbrev L : tie.At-loop Inv-loop μ-loop
   L = c .before .before .before .before
 
-  abbrev T₀ : ℕ
-  T₀ = getD (L .before .before .before .args .timings .now) (L .loop .i) 0
-
-  ranged : inRange T₀ ≡ true
-  ranged = all-in-range _ (L .before .before .before .pre .1) _ (c .before .before .before .loop-test .taken)
-
-  gives-n : c .cells-given .result ≡ cellsAt halfWindow (L .loop .state .residual) T₀
-  gives-n = c .cells-given .ensures _ (c .before .step .ensures .0 ∙ step-answers _ _ (L .loop .inv .kept) ranged)
-
-  leaves-r : c .before .step .result .next .residual ≡ residualAfter halfWindow (L .loop .state .residual) T₀
-  leaves-r = c .before .step .ensures .1 ∙ step-leaves _ _ (L .loop .inv .kept) ranged
+  turned : Turn (L .before .before .before .args .timings .now) (L .loop .i) (L .loop .state .residual) (c .cells-given .result) (c .before .step .result .next .residual)
+  turned =
+      turn _ _ _ (L .before .before .before .pre .1) (c .before .before .before .loop-test .taken) (L .loop .inv .kept)
+      (c .before .step .ensures .0) (c .before .step .ensures .1) (c .cells-given .ensures)
 
 add-count : tie.Need-add-count Inv-loop μ-loop
 add-count c =
     let l = L c .loop in
-    omega (arith, l .inv .small, L c .before .before .before .pre .0, walk-small (l .inv) (c .before .before .before .loop-test .taken) (ranged c) (gives-n c) (leaves-r c))
+    omega (arith, l .inv .small, L c .before .before .before .pre .0, walk-small (l .inv) (turned c))
 
 add-i : tie.Need-add-i Inv-loop μ-loop
 add-i c = search needs
@@ -66,9 +54,7 @@ loop-less : tie.Need-loop-less Inv-loop μ-loop
 loop-less c = search needs
 
 loop-again : tie.Need-loop-again Inv-loop μ-loop
-loop-again c =
-    let d = c .before in
-    walk-next (L d .loop .inv) (d .before .before .before .loop-test .taken) (ranged d) (gives-n d) (leaves-r d)
+loop-again c = walk-next (L (c .before) .loop .inv) (turned (c .before))
 
 returns : tie.Need-returns Inv-loop μ-loop
 returns c =

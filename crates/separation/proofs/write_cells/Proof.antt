@@ -1,14 +1,10 @@
 -- `separation::write_cells` meets its contract: after i turns the front of the buffer is the cells of i timings, packed. Assumes nothing.
-use Prim.Native.Nat.{ℕ, _+_, _-_, _≤_}
-use mathlib.Core.Path.{_≡_, _∙_}
-use mathlib.Core.Bool.{true}
+use Prim.Native.Nat.{_+_, _-_, _≤_}
+use mathlib.Core.Path.{_∙_}
 use native.Mathlib.Omega.{arith}
 use borrow.Author.Needs.{needs}
-use lib.ListN.{length, getD}
-use Rattle.flux_timings.specs.Timings.{inRange}
-use Rattle.separator.specs.Rule.{cellsAt, residualAfter, halfWindow}
-use Rattle.flux_timings.proofs.FirstOut.{all-in-range}
-use Rattle.separator.proofs.Stepping.{step-answers, step-leaves}
+use lib.ListN.{length}
+use Rattle.separation.proofs.Walk.{Turn, turn}
 use Rattle.separation.proofs.Writing.{Filled, rest-kept, front-cleared, filled-start, filled-within, filled-next, filled-end}
 use Rattle.separation.proofs.write_cells.Statement.{statement}
 use Rattle.separation.proofs.write_cells.Tie as tie
@@ -54,21 +50,14 @@ module _ (c : tie.After-cells-given Inv-loop μ-loop) where
   abbrev A : tie.Start Inv-loop μ-loop
   A = S (L .before .before .before .before)
 
-  abbrev T₀ : ℕ
-  T₀ = getD (A .args .timings .now) (L .loop .i) 0
-
-  ranged : inRange T₀ ≡ true
-  ranged = all-in-range _ (A .pre .0) _ (c .before .before .before .loop-test .taken)
-
-  gives-n : c .cells-given .result ≡ cellsAt halfWindow (L .loop .separator .residual) T₀
-  gives-n = c .cells-given .ensures _ (c .before .step .ensures .0 ∙ step-answers _ _ (L .loop .inv .walked .kept) ranged)
-
-  leaves-r : c .before .step .result .next .residual ≡ residualAfter halfWindow (L .loop .separator .residual) T₀
-  leaves-r = c .before .step .ensures .1 ∙ step-leaves _ _ (L .loop .inv .walked .kept) ranged
+  turned : Turn (A .args .timings .now) (L .loop .i) (L .loop .separator .residual) (c .cells-given .result) (c .before .step .result .next .residual)
+  turned =
+      turn _ _ _ (A .pre .0) (c .before .before .before .loop-test .taken) (L .loop .inv .walked .kept)
+      (c .before .step .ensures .0) (c .before .step .ensures .1) (c .cells-given .ensures)
 
   within : L .loop .at + c .cells-given .result ≤ 131072
   within =
-      omega (arith, A .pre .1, filled-within (L .loop .inv) (c .before .before .before .loop-test .taken) ranged (A .pre .2) gives-n leaves-r)
+      omega (arith, A .pre .1, filled-within (L .loop .inv) (A .pre .2) turned)
 
 put-cells-requires : tie.Need-put-cells-requires Inv-loop μ-loop
 put-cells-requires c κs = within (c .before)
@@ -86,7 +75,7 @@ loop-again : tie.Need-loop-again Inv-loop μ-loop
 loop-again c =
     let p = c .before .before .before in
     let d = p .before .before in
-    filled-next (L d .loop .inv) (d .before .before .before .loop-test .taken) (ranged d) (A d .pre .2) (gives-n d) (leaves-r d) _
+    filled-next (L d .loop .inv) (A d .pre .2) (turned d) _
     (p .put-cells .ensures) (p .put-cells .kept .0)
 
 same-length : tie.Need-same-length Inv-loop μ-loop

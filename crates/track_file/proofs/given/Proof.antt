@@ -1,7 +1,7 @@
 -- `track_file::given` meets its contract. Assumes nothing.
 use mathlib.Core.Path.{refl}
 use Rattle.track_file.specs.Portions.{finishAnswer}
-use Rattle.track_file.proofs.Endings.{given-short, given-cells, given-too-many, given-timings, given-out-of-range, given-stopped}
+use Rattle.track_file.proofs.Endings.{given-short, given-cells, given-timings, given-refusal, given-stopped}
 use borrow.Author.Needs.{needs}
 use Rattle.track_file.proofs.given.Statement.{statement}
 use Rattle.track_file.proofs.given.Tie as tie
@@ -30,17 +30,20 @@ enum-told-7 c = search needs
 enum-known-reader : tie.Need-enum-known-reader
 enum-known-reader c = search needs
 
-cast-t17 : tie.Need-cast-t17
-cast-t17 c = search needs
+cast-t18 : tie.Need-cast-t18
+cast-t18 c = search needs
 
 enum-known-reader-2 : tie.Need-enum-known-reader-2
 enum-known-reader-2 c = search needs
 
-enum-known-taken : tie.Need-enum-known-taken
-enum-known-taken c = search needs
+count-taken-requires : tie.Need-count-taken-requires
+count-taken-requires c κs = search needs
 
-enum-known-taken-2 : tie.Need-enum-known-taken-2
-enum-known-taken-2 c = search needs
+enum-known-counted : tie.Need-enum-known-counted
+enum-known-counted c = search needs
+
+enum-known-counted-2 : tie.Need-enum-known-counted-2
+enum-known-counted-2 c = search needs
 
 enum-told-8 : tie.Need-enum-told-8
 enum-told-8 c = search needs
@@ -80,20 +83,17 @@ returns-8 : tie.Need-returns-8
 returns-8 c = given-cells _ (c .before .reader .given .1)
 
 returns-9 : tie.Need-returns-9
-returns-9 c = given-too-many _ (c .before .before .before .before .before .reader2 .given .1) (c .before .before .taken .given .1) (c .if1 .taken)
+returns-9 c = given-timings _ (c .before .before .before .before .before .reader2 .given .1) (c .before .before .before .count-taken .ensures) (c .before .counted .given .1)
 
 returns-10 : tie.Need-returns-10
-returns-10 c = given-timings _ (c .before .before .before .before .before .reader2 .given .1) (c .before .before .taken .given .1) (c .if1 .left)
+returns-10 c = given-refusal _ (c .before .before .before .before .before .reader2 .given .1) (c .before .before .before .count-taken .ensures) (c .before .counted2 .given .1)
 
 returns-11 : tie.Need-returns-11
-returns-11 c = given-out-of-range _ (c .before .before .before .before .reader2 .given .1) (c .before .taken2 .given .1)
+unfolding finishAnswer
+returns-11 c = given-short _ _ (c .enum-told8 .given .1) refl
 
 returns-12 : tie.Need-returns-12
-unfolding finishAnswer
-returns-12 c = given-short _ _ (c .enum-told8 .given .1) refl
-
-returns-13 : tie.Need-returns-13
-returns-13 c = given-stopped _ (c .before .reader3 .given .1)
+returns-12 c = given-stopped _ (c .before .reader3 .given .1)
 
 pub given-spec : {M : Type 1} → statement M
 given-spec =
@@ -107,10 +107,11 @@ given-spec =
     enum-told-6
     enum-told-7
     enum-known-reader
-    cast-t17
+    cast-t18
     enum-known-reader-2
-    enum-known-taken
-    enum-known-taken-2
+    count-taken-requires
+    enum-known-counted
+    enum-known-counted-2
     enum-told-8
     enum-known-reader-3
     returns
@@ -124,5 +125,4 @@ given-spec =
     returns-9
     returns-10
     returns-11
-    returns-12
-    returns-13)
+    returns-12)
