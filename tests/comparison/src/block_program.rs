@@ -2,8 +2,8 @@
 //! with inputs that fail and with other arguments.
 
 use crate::program::{
-    built, ends_within, four_reads, in_portions, in_shell, left_after_pipe, left_after_socket, started, text, through_pipe, Seen,
-    SocketEnd,
+    built, ends_within, in_portions, in_shell, left_after_pipe, left_after_socket, listed_alone, not_listed, says_one_line,
+    sockets_as_expected, started, text, through_pipe, Seen, SocketEnd,
 };
 use crate::report::{Group, Report};
 use second_program::listing::listing;
@@ -17,9 +17,8 @@ use second_program::track_builder::standard_track as standard_track_cells;
 use second_program::track_files::file_of_cells;
 use std::ffi::OsStr;
 use std::fs::File;
-use std::io::ErrorKind;
 use std::os::unix::ffi::OsStrExt;
-use std::process::{Command, Output, Stdio};
+use std::process::{Command, Stdio};
 use std::time::Duration;
 use thikbromu::TrackBlock;
 
@@ -180,32 +179,10 @@ fn program_that_may_fail(numbers: [u8; 4]) -> Command {
     command
 }
 
-/// Whether standard error has one line, and it begins so.
-fn says_one_line(output: &Output, start: &str) -> bool {
-    let error = text(&output.stderr);
-    error.starts_with(start) && error.ends_with('\n') && error.lines().count() == 1
-}
-
-/// An input that is too long or cannot be read to its end: nothing is listed, since the block is not known, and one line says why.
-fn not_listed(group: &mut Group, output: &Output, given: impl Fn() -> String) {
-    let ours = (text(&output.stdout), says_one_line(output, "scp_track: "), output.status.success());
-    group.same(ours, (String::new(), true, true), || format!("{}, which says {:?}", given(), text(&output.stderr)));
-}
-
-/// A block that is listed, and nothing said beside it.
-fn listed_alone(group: &mut Group, output: &Output, listed: &str, given: impl Fn() -> String) {
-    group.same((text(&output.stdout), text(&output.stderr)), (listed.to_string(), String::new()), given);
-}
-
 /// Inputs through stream sockets that end, and inputs that fail once and then end: of these nothing is listed, however much was read.
 pub fn failing_inputs(report: &mut Report) {
     let mut group = Group::new("the block program on inputs that fail");
-    // What the system gives, without which the cases below would say nothing.
-    let (ends, fails_once) = (four_reads(b"TRK", SocketEnd::Ends), four_reads(b"TRK", SocketEnd::FailsOnce));
-    group.same(ends, vec![Ok(3), Ok(0), Ok(0), Ok(0)], || "a socket that ends".to_string());
-    let reset = Err(ErrorKind::ConnectionReset);
-    group.same(fails_once, vec![Ok(3), reset, Ok(0), Ok(0)], || "a socket that fails once".to_string());
-
+    sockets_as_expected(&mut group);
     let mut random = Random::new(76);
     for (name, block, numbers) in [
         ("two revolutions", two_revolutions(), [2, 1, 5, 1]),
@@ -231,7 +208,7 @@ pub fn failing_inputs(report: &mut Report) {
             let front = &block[..place];
             let given = || format!("{place} bytes of {name}");
             let output = left_after_socket(program_that_may_fail(numbers), front, SocketEnd::FailsOnce);
-            not_listed(&mut group, &output, || format!("{}, then a failure", given()));
+            not_listed(&mut group, "scp_track", &output, || format!("{}, then a failure", given()));
             let output = left_after_socket(program_that_may_fail(numbers), front, SocketEnd::Ends);
             listed_alone(&mut group, &output, &expected(front, numbers), given);
         }
@@ -239,7 +216,7 @@ pub fn failing_inputs(report: &mut Report) {
     // No input, or one that cannot be read at all.
     let numbers = [2, 1, 5, 1];
     for redirection in ["<&-", "< /", "< /proc/self/mem"] {
-        not_listed(&mut group, &in_shell(&program_with(numbers), redirection), || redirection.to_string());
+        not_listed(&mut group, "scp_track", &in_shell(&program_with(numbers), redirection), || redirection.to_string());
     }
 
     // The longest block, and longer ones.
@@ -253,7 +230,7 @@ pub fn failing_inputs(report: &mut Report) {
             for numbers in [[1, 0, 5, 0], [6, 0, 5, 0]] {
                 let output = left_after_pipe(program_that_may_fail(numbers), &block);
                 if block.len() > LONGEST_BLOCK {
-                    not_listed(&mut group, &output, given);
+                    not_listed(&mut group, "scp_track", &output, given);
                 } else {
                     listed_alone(&mut group, &output, &expected(&block, numbers), given);
                 }
@@ -267,7 +244,7 @@ pub fn failing_inputs(report: &mut Report) {
         child.kill().expect("a program that reads without end");
     }
     let output = child.wait_with_output().expect("the program's output");
-    not_listed(&mut group, &output, || "zeros without end".to_string());
+    not_listed(&mut group, "scp_track", &output, || "zeros without end".to_string());
     group.close(report);
 }
 
