@@ -5,7 +5,9 @@ use crate::terms::{self, answer};
 use second_program::cells;
 use second_program::findings::{self, Finding};
 use second_program::random::Random;
+use second_program::refusal::Refusal;
 use second_program::track_builder::{filled, nine_sectors, odd_track, standard_track, turn, SectorPlan, TrackBuilder};
+use std::fmt::Display;
 use thikbromu::boundary::{self, FindingRecord, FINDING_NUMBERS};
 use thikbromu::Track;
 
@@ -32,47 +34,65 @@ impl Element for FindingRecord {
     }
 }
 
-/// One call: the answer, the list and the bytes afterwards. `room` counts numbers.
-fn case(group: &mut Group, bytes: &[u8], n: usize, drive: (u32, u32), room: usize) {
-    group.same_written(
-        bytes,
-        room,
-        |input, list| boundary::findings(input, n, drive.0, drive.1, list),
-        findings::findings(drive.0, drive.1, bytes, n, room / FINDING_NUMBERS).map(|list| (list.len(), numbers(&list))),
-        || format!("n {n}, T {}, H {}, room {room}", drive.0, drive.1),
-    );
+/// A track, and what the second program finds on it, whatever the room is.
+struct Judged<'a> {
+    bytes: &'a [u8],
+    n: usize,
+    drive: (u32, u32),
+    second: Result<Vec<Finding>, Refusal>,
 }
 
-/// As `case`, on a list of records. `room` counts records.
-fn record_case(group: &mut Group, bytes: &[u8], n: usize, drive: (u32, u32), room: usize) {
-    group.same_written(
-        bytes,
-        room,
-        |input, list| boundary::finding_records(input, n, drive.0, drive.1, list),
-        findings::findings(drive.0, drive.1, bytes, n, room).map(|list| (list.len(), records(&list))),
-        || format!("n {n}, T {}, H {}, room for {room} records", drive.0, drive.1),
-    );
+impl Judged<'_> {
+    /// What the second program answers with room for so many findings.
+    fn second_in_room(&self, room: usize) -> Result<Vec<Finding>, Refusal> {
+        findings::in_room(self.second.clone()?, room)
+    }
+
+    fn given(&self, room: impl Display) -> String {
+        format!("n {}, T {}, H {}, room for {room}", self.n, self.drive.0, self.drive.1)
+    }
+
+    /// One call: the answer, the list and the bytes afterwards. `room` counts numbers.
+    fn case(&self, group: &mut Group, room: usize) {
+        group.same_written(
+            self.bytes,
+            room,
+            |input, list| boundary::findings(input, self.n, self.drive.0, self.drive.1, list),
+            self.second_in_room(room / FINDING_NUMBERS).map(|list| (list.len(), numbers(&list))),
+            || self.given(format!("{room} numbers")),
+        );
+    }
+
+    /// As `case`, on a list of records. `room` counts records.
+    fn record_case(&self, group: &mut Group, room: usize) {
+        group.same_written(
+            self.bytes,
+            room,
+            |input, list| boundary::finding_records(input, self.n, self.drive.0, self.drive.1, list),
+            self.second_in_room(room).map(|list| (list.len(), records(&list))),
+            || self.given(format!("{room} records")),
+        );
+    }
 }
 
 /// A track with a list that is too short by one number or record, just long enough, and longer.
 fn whole_track(group: &mut Group, seen: &mut [usize; 22], track_cells: &[u8], drive: (u32, u32)) {
     let bytes = cells::pack(track_cells);
     let n = track_cells.len();
-    let second = findings::findings(drive.0, drive.1, &bytes, n, usize::MAX);
-    let list = second.clone().unwrap_or_default();
+    // The second program's findings are made once.
+    let judged = Judged { bytes: &bytes, n, drive, second: findings::findings(drive.0, drive.1, &bytes, n, usize::MAX) };
+    let list = judged.second.clone().unwrap_or_default();
     for finding in &list {
         seen[finding.kind as usize] += 1;
     }
     let ours = answer(Track::new(&bytes, n, drive.0, drive.1).findings());
-    group.same(ours.map(|list| list.into_iter().map(terms::finding).collect()), second, || {
-        format!("n {n}, T {}, H {}, as a vector", drive.0, drive.1)
-    });
+    group.same(ours.map(|list| list.into_iter().map(terms::finding).collect()), judged.second.clone(), || judged.given("all"));
     let needed = list.len();
     for room in [4 * needed, (4 * needed).saturating_sub(1), 4 * needed + 7] {
-        case(group, &bytes, n, drive, room);
+        judged.case(group, room);
     }
     for room in [needed, needed.saturating_sub(1), needed + 2] {
-        record_case(group, &bytes, n, drive, room);
+        judged.record_case(group, room);
     }
 }
 
