@@ -11,7 +11,7 @@ use Rattle.cells.specs.CellsAndBytes.{packed}
 use Rattle.separation.specs.Separation.{cellsFor}
 use Rattle.separation.specs.Demand3.{Reversal, Fair, last, more, shortestCell, longestCell, mostJitter, Tolerable, cellsWritten, cellsInAll, refusalTable}
 use Rattle.refusals.specs.RefusedCalls.{Answer, bufferAfter}
-use Rattle.revolution_values.specs.Values.{valuesOf, timingsFrom}
+use Rattle.revolution_portions.specs.Timings.{valuesOf, timingsFrom}
 use Rattle.supercard_pro.specs.TrackBlock.{revolutionTimings}
 use Rattle.block_cells.specs.BlockToCells.{BlockDemand3}
 use Rattle.supercard_pro.proofs.Examples.{block, is-block}

@@ -1,6 +1,5 @@
 -- How large the numbers are that are counted on the cells. Assumes nothing.
 use Prim.Native.Nat.{ℕ, zero, suc, _+_, _*_, _≤_}
-use mathlib.Core.Path.{_≡_}
 use mathlib.Core.Bool.{Bool, true, false, cond}
 use native.Mathlib.Nat.{max-le}
 use native.Mathlib.Omega.{arith}

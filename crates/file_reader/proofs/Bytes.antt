@@ -15,49 +15,67 @@ use Rattle.taken_timings.specs.declared.TakenTimings.{TakenTimings}
 use Rattle.file_reader.specs.declared.Reader.{Reader}
 use Rattle.file_reader.specs.declared.Reader.the-variants.{PlaceCount, Track, Side, CellCount, PackedCells, FluxCount, Timings, AllCells, AllTimings, NotATrackFile, Stopped}
 
+-- a byte of a count, and of a timing
+module _ (extended : Extended) where
+  module _ {part : Number} (is : extended ≡ Part part) where
+    pub in-place-count-part : PlaceCount part ≡ inPlaceCount extended
+    unfolding inPlaceCount
+    in-place-count-part = rw is
+
+    pub in-cell-count-part : (place : Place) → CellCount place part ≡ inCellCount place extended
+    unfolding inCellCount
+    in-cell-count-part place = rw is
+
+    pub in-flux-count-part : (place : Place) (cells : ℕ) → FluxCount place cells part ≡ inFluxCount place cells extended
+    unfolding inFluxCount
+    in-flux-count-part place cells = rw is
+
+    pub in-timing-part : (place : Place) (left : ℕ) (taken : TakenTimings) (buffer : List ℕ)
+        → (Timings place left part taken ≡ inTiming place left taken extended) × (buffer ≡ inTimingCells taken extended buffer)
+    unfolding inTiming inTimingCells
+    in-timing-part place left taken buffer = (rw is, rw is)
+
+  module _ {number : ℕ} (is : extended ≡ Whole number) {next : Reader} where
+    pub in-place-count-whole : next ≡ afterPlaceCount number → next ≡ inPlaceCount extended
+    unfolding inPlaceCount
+    in-place-count-whole n = rw is n
+
+    pub in-cell-count-whole : (place : Place) → next ≡ afterCellCount place number → next ≡ inCellCount place extended
+    unfolding inCellCount
+    in-cell-count-whole place n = rw is n
+
+    pub in-flux-count-whole : (place : Place) (cells : ℕ) → next ≡ afterFluxCount place cells number → next ≡ inFluxCount place cells extended
+    unfolding inFluxCount
+    in-flux-count-whole place cells n = rw is n
+
+    pub in-timing-whole : (place : Place) (left : ℕ) (taken : TakenTimings) (buffer : List ℕ) {after : List ℕ} {then-taken : TakenTimings}
+        → (then-taken ≡ takenAfter taken number) × (after ≡ takenCells taken number buffer) → next ≡ afterTiming place left then-taken
+        → (next ≡ inTiming place left taken extended) × (after ≡ inTimingCells taken extended buffer)
+    unfolding inTiming inTimingCells
+    in-timing-whole place left taken buffer s n = (rw (is, ← (s .0)) n, rw is (s .1))
+
 module _ (reader : Reader) (byte : ℕ) (buffer : List ℕ) where
   -- the reader and the buffer are those after the byte
   abbrev pub After : Reader → List ℕ → Type 0
   After next after = (next ≡ readerAfterByte reader byte) × (after ≡ cellsAfterByte reader byte buffer)
 
   module _ {number : Number} {extended : Extended} (q : extended ≡ numberAfter number byte) where
-    pub place-count-part : {part : Number} → reader ≡ PlaceCount number → extended ≡ Part part → After (PlaceCount part) buffer
-    unfolding readerAfterByte cellsAfterByte inPlaceCount
-    place-count-part p r = (rw (p, ← q, r), rw p)
+    pub place-count-read : {next : Reader} → reader ≡ PlaceCount number → next ≡ inPlaceCount extended → After next buffer
+    unfolding readerAfterByte cellsAfterByte
+    place-count-read p n = (rw (p, ← q) n, rw p)
 
-    pub place-count-whole : {count : ℕ} {next : Reader} → reader ≡ PlaceCount number → extended ≡ Whole count → next ≡ afterPlaceCount count → After next buffer
-    unfolding readerAfterByte cellsAfterByte inPlaceCount
-    place-count-whole p r n = (rw (p, ← q, r) n, rw p)
+    pub cell-count-read : {place : Place} {next : Reader} → reader ≡ CellCount place number → next ≡ inCellCount place extended → After next buffer
+    unfolding readerAfterByte cellsAfterByte
+    cell-count-read p n = (rw (p, ← q) n, rw p)
 
-    pub cell-count-part : {place : Place} {part : Number} → reader ≡ CellCount place number → extended ≡ Part part → After (CellCount place part) buffer
-    unfolding readerAfterByte cellsAfterByte inCellCount
-    cell-count-part p r = (rw (p, ← q, r), rw p)
+    pub flux-count-read : {place : Place} {cells : ℕ} {next : Reader} → reader ≡ FluxCount place cells number → next ≡ inFluxCount place cells extended → After next buffer
+    unfolding readerAfterByte cellsAfterByte
+    flux-count-read p n = (rw (p, ← q) n, rw p)
 
-    pub cell-count-whole : {place : Place} {count : ℕ} {next : Reader} → reader ≡ CellCount place number → extended ≡ Whole count
-        → next ≡ afterCellCount place count → After next buffer
-    unfolding readerAfterByte cellsAfterByte inCellCount
-    cell-count-whole p r n = (rw (p, ← q, r) n, rw p)
-
-    pub flux-count-part : {place : Place} {cells : ℕ} {part : Number} → reader ≡ FluxCount place cells number → extended ≡ Part part
-        → After (FluxCount place cells part) buffer
-    unfolding readerAfterByte cellsAfterByte inFluxCount
-    flux-count-part p r = (rw (p, ← q, r), rw p)
-
-    pub flux-count-whole : {place : Place} {cells count : ℕ} {next : Reader} → reader ≡ FluxCount place cells number → extended ≡ Whole count
-        → next ≡ afterFluxCount place cells count → After next buffer
-    unfolding readerAfterByte cellsAfterByte inFluxCount
-    flux-count-whole p r n = (rw (p, ← q, r) n, rw p)
-
-    pub timing-part : {place : Place} {left : ℕ} {taken : TakenTimings} {part : Number} → reader ≡ Timings place left number taken → extended ≡ Part part
-        → After (Timings place left part taken) buffer
-    unfolding readerAfterByte cellsAfterByte inTiming inTimingCells
-    timing-part p r = (rw (p, ← q, r), rw (p, ← q, r))
-
-    pub timing-whole : {place : Place} {left : ℕ} {taken next-taken : TakenTimings} {t : ℕ} {next : Reader} {after : List ℕ}
-        → reader ≡ Timings place left number taken → extended ≡ Whole t
-        → (next-taken ≡ takenAfter taken t) × (after ≡ takenCells taken t buffer) → next ≡ afterTiming place left next-taken → After next after
-    unfolding readerAfterByte cellsAfterByte inTiming inTimingCells
-    timing-whole p r s n = (rw (p, ← q, r, ← (s .0)) n, rw (p, ← q, r) (s .1))
+    pub timing-read : {place : Place} {left : ℕ} {taken : TakenTimings} {next : Reader} {after : List ℕ} → reader ≡ Timings place left number taken
+        → (next ≡ inTiming place left taken extended) × (after ≡ inTimingCells taken extended buffer) → After next after
+    unfolding readerAfterByte cellsAfterByte
+    timing-read p n = (rw (p, ← q) (n .0), rw (p, ← q) (n .1))
 
   pub track-read : reader ≡ Track → After (Side byte) buffer
   unfolding readerAfterByte cellsAfterByte

@@ -3,7 +3,7 @@ use refusals::Refusal;
 use taken_timings::TakenTimings;
 ghost use mathlib.Core.Path.{_≡_};
 ghost use lib.ListN.{set};
-ghost use Rattle.file_reader.specs.Bytes.{numberAfter, afterPlaceCount, afterCellCount, afterPackedByte, afterFluxCount, afterTiming, readerAfterByte, cellsAfterByte};
+ghost use Rattle.file_reader.specs.Bytes.{numberAfter, afterPlaceCount, afterCellCount, afterPackedByte, afterFluxCount, afterTiming, inPlaceCount, inCellCount, inFluxCount, inTiming, inTimingCells, readerAfterByte, cellsAfterByte};
 
 // The place section: the drive's track and side.
 pub struct Place {
@@ -55,13 +55,7 @@ pub fn feed_byte(reader: Reader, byte: u8, cells: &mut [u8]) -> Reader
     ensures buffer { λ _. ⌜ now (cells .exit) ≡ cellsAfterByte reader byte (now (cells .entry)) ⌝ }
 {
     match reader {
-        Reader::PlaceCount(number) => {
-            let extended = extend(number, byte);
-            match extended {
-                Extended::Part(part) => Reader::PlaceCount(part),
-                Extended::Whole(count) => after_place_count(count),
-            }
-        }
+        Reader::PlaceCount(number) => in_place_count(extend(number, byte)),
         Reader::Track => Reader::Side(byte),
         Reader::Side(track) => Reader::CellCount(
             Place {
@@ -70,38 +64,68 @@ pub fn feed_byte(reader: Reader, byte: u8, cells: &mut [u8]) -> Reader
             },
             Number::Empty,
         ),
-        Reader::CellCount(place, number) => {
-            let extended = extend(number, byte);
-            match extended {
-                Extended::Part(part) => Reader::CellCount(place, part),
-                Extended::Whole(count) => after_cell_count(place, count),
-            }
-        }
+        Reader::CellCount(place, number) => in_cell_count(place, extend(number, byte)),
         Reader::PackedCells(place, count, at) => {
             put_byte(cells, at, byte);
             after_packed_byte(place, count, at)
         }
         Reader::FluxCount(place, cell_count, number) => {
-            let extended = extend(number, byte);
-            match extended {
-                Extended::Part(part) => Reader::FluxCount(place, cell_count, part),
-                Extended::Whole(count) => after_flux_count(place, cell_count, count),
-            }
+            in_flux_count(place, cell_count, extend(number, byte))
         }
         Reader::Timings(place, left, number, taken) => {
-            let extended = extend(number, byte);
-            match extended {
-                Extended::Part(part) => Reader::Timings(place, left, part, taken),
-                Extended::Whole(timing) => {
-                    let now_taken = taken_timings::take_timing(taken, timing, cells);
-                    after_timing(place, left, now_taken)
-                }
-            }
+            in_timing(place, left, taken, extend(number, byte), cells)
         }
         Reader::AllCells(_, _) => Reader::NotATrackFile,
         Reader::AllTimings(_, _) => Reader::NotATrackFile,
         Reader::NotATrackFile => Reader::NotATrackFile,
         Reader::Stopped(refusal) => Reader::Stopped(refusal),
+    }
+}
+
+// The reader after a byte of each count, and after a byte of a timing.
+fn in_place_count(extended: Extended) -> Reader
+    ensures { λ r. ⌜ r ≡ inPlaceCount extended ⌝ }
+{
+    match extended {
+        Extended::Part(part) => Reader::PlaceCount(part),
+        Extended::Whole(count) => after_place_count(count),
+    }
+}
+
+fn in_cell_count(place: Place, extended: Extended) -> Reader
+    ensures { λ r. ⌜ r ≡ inCellCount place extended ⌝ }
+{
+    match extended {
+        Extended::Part(part) => Reader::CellCount(place, part),
+        Extended::Whole(count) => after_cell_count(place, count),
+    }
+}
+
+fn in_flux_count(place: Place, cells: u32, extended: Extended) -> Reader
+    ensures { λ r. ⌜ r ≡ inFluxCount place cells extended ⌝ }
+{
+    match extended {
+        Extended::Part(part) => Reader::FluxCount(place, cells, part),
+        Extended::Whole(count) => after_flux_count(place, cells, count),
+    }
+}
+
+fn in_timing(
+    place: Place,
+    left: u32,
+    taken: TakenTimings,
+    extended: Extended,
+    cells: &mut [u8],
+) -> Reader
+    ensures reader { λ r. ⌜ r ≡ inTiming place left taken extended ⌝ }
+    ensures buffer { λ _. ⌜ now (cells .exit) ≡ inTimingCells taken extended (now (cells .entry)) ⌝ }
+{
+    match extended {
+        Extended::Part(part) => Reader::Timings(place, left, part, taken),
+        Extended::Whole(timing) => {
+            let next = taken_timings::take_timing(taken, timing, cells);
+            after_timing(place, left, next)
+        }
     }
 }
 

@@ -3,7 +3,7 @@ use Prim.Native.Nat.{ℕ, _+_, _-_, _<_, _≤_}
 use mathlib.Core.Path.{_≡_, refl, sym, _∙_}
 use mathlib.Core.List.{List, [], _∷_, _++_}
 use native.Mathlib.Omega.{arith}
-use lib.ListN.{length, getD, take, length-append, List·getD-eq-default, List·getD-append}
+use lib.ListN.{length, getD, take, List·getD-eq-default, List·getD-append}
 use lib.Seq.{getD-append-add}
 use Rattle.cell_patterns.specs.Cells.{gapsOf, syncsInside}
 use Rattle.finding_rules.specs.Rules.{noRow, nth, dsn, sws, sid, trackRows, idRows, dataRows, sectorRows, gapRows, rows}

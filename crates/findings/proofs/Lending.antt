@@ -7,9 +7,9 @@ use denote.RattleType.{RattleType}
 use denote.Struct.Laws as LL
 use denote.Enum.Laws as EL
 use Rattle.findings.specs.Calls.{findingsAnswer}
-use Rattle.findings.specs.declared.Finding.{Finding}
-use Rattle.findings.proofs.Finding as T
-use Rattle.findings.proofs.Finding.Laws as T′
+use Rattle.finding_list.specs.declared.Finding.{Finding}
+use Rattle.finding_list.proofs.Finding as T
+use Rattle.finding_list.proofs.Finding.Laws as T′
 use Rattle.refusals.specs.RefusedCalls.{countedAnswer}
 use Rattle.refusals.specs.declared.Counted.{Counted}
 use Rattle.refusals.proofs.Counted as N

@@ -1,10 +1,3 @@
-pub mod Bounds
-pub mod Looks
-pub mod MostFindings
-pub mod Laws
 pub mod Lending
-pub mod Members
-pub mod Numbers
-pub mod Others
 pub mod Outcome
 pub mod Records

@@ -1,28 +1,25 @@
 -- Numbers back into records, and the caller's list as the call leaves it. Assumes nothing.
-use Prim.Native.Nat.{ℕ, zero, suc, _+_, _*_, _%_, _≤_, _<_}
+use Prim.Native.Nat.{ℕ, zero, suc, _+_, _*_, _≤_, _<_}
 use mathlib.Core.Path.{_≡_, refl, sym, ap, _∙_}
 use mathlib.Core.Bool.{Bool, true, false, cond}
 use mathlib.Core.List.{List, [], _∷_, _++_}
 use native.Mathlib.Nat.{mod-eq-of-lt}
 use native.Mathlib.Numerals.{add-one}
 use native.Mathlib.Omega.{arith}
-use borrow.Author.Tests.{ltb-false}
 use lib.Dec.{T as T′, ltb, ltb→lt}
 use lib.ListN.{length, getD, set, take, drop, length-set, take-append-drop}
-use lib.Seq.{length-take-le, take-all}
+use lib.Seq.{length-take-le}
 use Rattle.basis.specs.Lists.{listed, joined}
 use Rattle.basis.proofs.Lists.{is-listed, listed-more}
 use Rattle.basis.proofs.Tables.{below, passes-below}
-use Rattle.refusals.specs.RefusedCalls.{Answer, bufferAfter}
-use Rattle.refusals.specs.RefusedCalls.Answer.{gives, refused}
-use Rattle.findings.specs.Calls.{findingsAnswer, listAfter, numbersOf}
-use Rattle.findings.specs.Findings.{kinds, levels, rowAt, foundBy, foundAt, ofKind, findingsOf}
+use Rattle.findings.specs.Calls.{findingsAnswer, listAfter}
+use Rattle.finding_list.specs.Calls.{numbersOf}
+use Rattle.finding_list.specs.Findings.{kinds, levels, rowAt, foundBy, foundAt, ofKind, findingsOf}
 use Rattle.findings.specs.PrivateContracts.{countWritten, findingAt}
 use Rattle.finding_rules.specs.declared.Row.{Row}
-use Rattle.findings.specs.declared.Finding.{Finding}
-use Rattle.findings.proofs.Outcome.{findings-follow}
+use Rattle.finding_list.specs.declared.Finding.{Finding}
+use Rattle.findings.proofs.Outcome.{written-few, findings-written}
 use Rattle.cells.specs.CellsAndBytes.{cell}
-use Rattle.sectors.specs.Calls.{sectorsAnswer}
 use Rattle.sectors.specs.Sectors.{sectorsOf}
 
 -- a record that is all zeros, where there is none
@@ -104,33 +101,7 @@ unfolding listed
 filled-is f list zero h = refl
 filled-is f list (suc i) h = rw add-one at (listed-more f noFinding i (f i) list (filled f list i) (filled-is f list i (omega arith)) h refl)
 
--- an answer that gives a number gives that of the findings, for which there is room
-abbrev Counts : (all room : ℕ) → Answer ℕ → Type 0
-Counts all room (gives count) = (count ≡ all) × (count ≤ room)
-Counts all room (refused number value) = Unit {0}
-
-module _ (xs list : List Finding) where
-  few-written : (a : Answer ℕ) → Counts (length xs) (length list) a → countWritten a ≤ length xs
-  few-written (gives count) e = omega (arith, e .0)
-  few-written (refused number value) e = omega arith
-
-  after-is : (a : Answer ℕ) → Counts (length xs) (length list) a → take (countWritten a) xs ++ drop (countWritten a) list ≡ bufferAfter a xs list
-  unfolding bufferAfter
-  after-is (gives count) e = rw (take-all count xs (omega (arith, e .0)), e .0)
-  after-is (refused number value) e = refl
-
 module _ (bytes : List ℕ) (N T H : ℕ) where
-  answer-counts : (room : ℕ) → Counts (length (findingsOf bytes N T)) room (findingsAnswer bytes N T H room)
-  answer-counts room = go (sectorsAnswer bytes N T H) refl
-    where
-      judged : (all : ℕ) (b : Bool) → ltb room all ≡ b → Counts all room (cond b (refused 5 all) (gives all))
-      judged all true e = tt
-      judged all false e = (refl, ltb-false room all e)
-
-      go : (a : Answer ℕ) → sectorsAnswer bytes N T H ≡ a → Counts (length (findingsOf bytes N T)) room (findingsAnswer bytes N T H room)
-      go (gives m) e = rw (findings-follow bytes N T H room .accepted m e) (judged (length (findingsOf bytes N T)) (ltb room (length (findingsOf bytes N T))) refl)
-      go (refused number value) e = rw (findings-follow bytes N T H room .refusals number value e) tt
-
   findings-narrow : Narrow (findingsOf bytes N T)
   unfolding findingsOf ofKind foundAt
   findings-narrow =
@@ -140,9 +111,7 @@ module _ (bytes : List ℕ) (N T H : ℕ) where
   pub list-is : (list : List Finding) (numbers : List ℕ) (c : ℕ) → c ≡ countWritten (findingsAnswer bytes N T H (length list)) → c ≤ length list
       → take (4 * c) numbers ≡ numbersOf (take c (findingsOf bytes N T)) → filled (findingAt numbers) list c ≡ listAfter bytes N T H list
   list-is list numbers c e h n =
-      let a = findingsAnswer bytes N T H (length list) in
       let xs = findingsOf bytes N T in
-      let counts = answer-counts (length list) in
-      let l : length (take c xs) ≡ c = length-take-le c xs (omega (arith, few-written xs list a counts)) in
+      let l : length (take c xs) ≡ c = length-take-le c xs (omega (arith, written-few bytes N T H (length list))) in
       let s : listed (findingAt numbers) c ≡ take c xs = rw l at (front-is (take c xs) numbers (narrow-take c xs findings-narrow) (rw l n)) in
-      filled-is (findingAt numbers) list c h ∙ rw (s, e) (after-is xs list a counts)
+      filled-is (findingAt numbers) list c h ∙ rw (s, e) (findings-written bytes N T H (length list) list)

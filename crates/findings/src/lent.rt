@@ -1,8 +1,8 @@
 // The findings of a track in the caller's list of finding records.
-use crate::Finding;
 use crate::finding_at;
 use crate::plan;
-use crate::survey::NUMBERS;
+use finding_list::Finding;
+use finding_list::NUMBERS;
 use refusals::Counted;
 ghost use mathlib.Core.Path.{_≡_};
 ghost use lib.ListN.{length};

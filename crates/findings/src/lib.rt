@@ -1,35 +1,21 @@
-// The copy-protection findings of a track: 01's 21 kinds, ordered by kind, then place.
+// The copy-protection findings of a track in the caller's list: 01's 21 kinds, ordered by kind, then place.
 mod lent;
-mod survey;
 
+pub use finding_list::Finding;
+pub use finding_list::Found;
+use finding_list::NUMBERS;
 pub use lent::findings;
 use refusals::Counted;
 use refusals::Refusal;
-use survey::NUMBERS;
 ghost use mathlib.Core.Path.{_≡_};
 ghost use Prim.Native.Nat.{_+_, _*_, _/_, _%_, _<_, _≤_};
-ghost use mathlib.Core.List.{_++_};
-ghost use lib.ListN.{length, take, drop};
-ghost use Rattle.findings.specs.Calls.{findingsAnswer, sectorsGiven, numbersOf, numbersAfter};
-ghost use Rattle.findings.specs.Findings.{findingsOf};
+ghost use lib.ListN.{length, take};
+ghost use Rattle.finding_list.specs.Calls.{sectorsGiven, numbersOf};
+ghost use Rattle.finding_list.specs.Findings.{findingsOf};
+ghost use Rattle.findings.specs.Calls.{findingsAnswer, numbersAfter};
 ghost use Rattle.findings.specs.PrivateContracts.{countWritten, findingAt};
-ghost use Rattle.refusals.specs.RefusedCalls.{countedAnswer};
+ghost use Rattle.refusals.specs.RefusedCalls.{refusedWith, countedAnswer};
 ghost use Rattle.sectors.specs.Sectors.{sectorsOf};
-
-// A finding: its kind from 1 to 21, the kind's level, its place in cells, and its detail.
-#[repr(C)]
-pub struct Finding {
-    pub kind: u8,
-    pub level: u8,
-    pub place: u32,
-    pub detail: u32,
-}
-
-// The number of sectors, 0 beside a refusal, and the number of findings or a refusal.
-pub struct Found {
-    pub sectors: usize,
-    pub answer: Counted,
-}
 
 // The findings of a track of n cells, packed in `bytes`, as numbers at the front of the list: kind, level, place and detail of each.
 // `track` and `side` are the drive's.
@@ -70,23 +56,14 @@ fn plan(
     ensures numbers { λ r. ⌜ take (4 * r .count) (now (numbers .exit)) ≡ numbersOf (take (r .count) (findingsOf (now (bytes .entry)) n track)) ⌝ }
     ensures bounds { λ r. ⌜ (r .count ≤ 901) × (r .count ≤ room) ⌝ }
 {
-    let listed = sectors::sectors_of(bytes, n, track, side);
-    let ss = listed.sectors;
-    let answer = listed.answer;
+    let found = finding_list::survey(numbers, bytes, n, track, side);
+    let sectors = found.sectors;
+    let answer = found.answer;
     match answer {
-        Counted::Refused(refusal) => Planned {
-            count: 0,
-            answer: Counted::Refused(refusal),
-            sectors: 0,
-        },
-        Counted::Count(sectors) => {
-            let count = survey::survey(numbers, bytes, n, track, ss);
+        Counted::Refused(refusal) => nothing_planned(refusal),
+        Counted::Count(count) => {
             if room < count {
-                return Planned {
-                    count: 0,
-                    answer: Counted::Refused(Refusal::ListTooShort(count)),
-                    sectors: 0,
-                };
+                return nothing_planned(Refusal::ListTooShort(count));
             }
             Planned {
                 count,
@@ -94,6 +71,17 @@ fn plan(
                 sectors,
             }
         }
+    }
+}
+
+// Nothing goes to the list beside a refusal.
+fn nothing_planned(refusal: Refusal) -> Planned
+    ensures { λ r. ⌜ (countedAnswer (r .answer) ≡ refusedWith refusal) × (r .count ≡ 0) × (r .sectors ≡ 0) ⌝ }
+{
+    Planned {
+        count: 0,
+        answer: Counted::Refused(refusal),
+        sectors: 0,
     }
 }
 

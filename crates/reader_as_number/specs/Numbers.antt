@@ -14,7 +14,7 @@ use lib.ListN.{take}
 use Rattle.basis.specs.Bytes.{AreBytes}
 use Rattle.refusals.specs.RefusedCalls.{Answer}
 use Rattle.refusals.specs.RefusedCalls.Answer.{gives, refused}
-use Rattle.revolution_values.specs.Values.{timingsIn}
+use Rattle.revolution_portions.specs.Timings.{timingsIn}
 use Rattle.revolution_portions.specs.Portions.{usableReader, portionTimings, portionAnswer, portionReader}
 use Rattle.revolution_values.specs.declared.Held.{Held}
 use Rattle.revolution_values.specs.declared.Held.the-variants.{Nothing, High}

@@ -11,7 +11,8 @@ use Rattle.basis.specs.Lists.{writtenOver}
 use Rattle.flux_timings.specs.Timings.{firstOut}
 use Rattle.refusals.specs.RefusedCalls.{Answer, bufferAfter}
 use Rattle.refusals.specs.RefusedCalls.Answer.{gives, refused}
-use Rattle.revolution_values.specs.Values.{timingsIn, unfinishedAfter, timingsEnding, between}
+use Rattle.revolution_values.specs.Values.{unfinishedAfter, timingsEnding, between}
+use Rattle.revolution_portions.specs.Timings.{timingsIn}
 use Rattle.revolution_portions.specs.Portions.{isLeftByCalls, usableReader, portionTimings, portionAnswer, readerLeft, portionReader, portionList, Calls, AllTimings}
 use Rattle.revolution_portions.specs.Portions.Calls.{none, more}
 use Rattle.revolution_portions.specs.declared.RevolutionReader.{RevolutionReader}

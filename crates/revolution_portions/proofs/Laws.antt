@@ -21,7 +21,8 @@ use Rattle.flux_timings.specs.Timings.{inRange}
 use Rattle.flux_timings.specs.Timings.{firstOut}
 use Rattle.refusals.specs.RefusedCalls.{Answer}
 use Rattle.refusals.specs.RefusedCalls.Answer.{gives}
-use Rattle.revolution_values.specs.Values.{timingsIn, unfinishedAfterValue, timingsOfValue, unfinishedAfter, timingsEnding, between}
+use Rattle.revolution_values.specs.Values.{unfinishedAfterValue, timingsOfValue, unfinishedAfter, timingsEnding, between}
+use Rattle.revolution_portions.specs.Timings.{timingsIn}
 use Rattle.revolution_portions.specs.Portions.{isLeftByCalls, usableReader, portionTimings, portionAnswer, readerLeft, portionReader, Calls}
 use Rattle.revolution_portions.specs.Portions.Calls.{none, more}
 use Rattle.revolution_values.specs.declared.Held.{Held}

@@ -12,7 +12,8 @@ use lib.Dec.{eqb}
 use lib.ListN.{length, length-append}
 use Rattle.flux_timings.specs.Timings.{inRange}
 use Rattle.flux_timings.specs.Timings.{firstOut}
-use Rattle.revolution_values.specs.Values.{valuesOf, timingsFrom, timingsIn, unfinishedAfterValue, unfinishedAfterByte, timingsOfValue, timingsOfByte, unfinishedAfter, timingsEnding, between}
+use Rattle.revolution_values.specs.Values.{unfinishedAfterValue, unfinishedAfterByte, timingsOfValue, timingsOfByte, unfinishedAfter, timingsEnding, between}
+use Rattle.revolution_portions.specs.Timings.{valuesOf, timingsFrom, timingsIn}
 use Rattle.revolution_values.specs.declared.Held.{Held}
 use Rattle.revolution_values.specs.declared.Held.the-variants.{Nothing, High}
 use Rattle.revolution_values.specs.declared.Unfinished.{Unfinished}

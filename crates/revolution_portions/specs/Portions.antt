@@ -10,7 +10,8 @@ use lib.ListN.{length, take}
 use Rattle.flux_timings.specs.Timings.{firstOut}
 use Rattle.refusals.specs.RefusedCalls.{Answer, bufferAfter}
 use Rattle.refusals.specs.RefusedCalls.Answer.{gives, refused}
-use Rattle.revolution_values.specs.Values.{timingsIn, unfinishedAfter, timingsEnding, between}
+use Rattle.revolution_values.specs.Values.{unfinishedAfter, timingsEnding, between}
+use Rattle.revolution_portions.specs.Timings.{timingsIn}
 use Rattle.revolution_portions.specs.declared.RevolutionReader.{RevolutionReader}
 
 -- before the first byte: nothing is held, no zeros stand before the next value, no timing has ended

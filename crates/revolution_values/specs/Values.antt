@@ -1,6 +1,5 @@
--- 02, ticket 3 (docs/changes/03-supercard-pro.md has its text): a revolution's values and their timings, as a whole (`timingsIn`), and byte by
--- byte (`timingsEnding`), where the bytes may end between any two. `pass` promises the second, and `from-start` in
--- revolution_portions/proofs/Timings says that both are the same where no timing is out of range. Assumes nothing.
+-- 02, ticket 3 (docs/changes/03-supercard-pro.md has its text): a revolution's values byte by byte: the timings that end in some bytes, and what
+-- the bytes leave unfinished, where they may end between the two of a value. Assumes nothing.
 use Prim.Native.Nat.{ℕ, _+_, _*_, min}
 use mathlib.Core.Bool.{cond}
 use mathlib.Core.List.{List, [], _∷_, _++_}
@@ -8,22 +7,6 @@ use lib.Dec.{eqb}
 use Rattle.revolution_values.specs.declared.Held.{Held}
 use Rattle.revolution_values.specs.declared.Held.the-variants.{Nothing, High}
 use Rattle.revolution_values.specs.declared.Unfinished.{Unfinished}
-
--- "then 16-bit values, high byte first". A byte without its second makes no value
-unfoldable pub valuesOf : List ℕ → List ℕ
-valuesOf [] = []
-valuesOf (high ∷ []) = []
-valuesOf (high ∷ low ∷ bytes) = (256 * high + low) ∷ valuesOf bytes
-
--- "in units of 25 ns, where a 0 adds 65,536 to the next value": the timings of values in nanoseconds, where zeros before them have added
--- so many units
-unfoldable pub timingsFrom : ℕ → List ℕ → List ℕ
-timingsFrom units [] = []
-timingsFrom units (value ∷ values) = cond (eqb value 0) (timingsFrom (units + 65536) values) (25 * (units + value) ∷ timingsFrom 0 values)
-
--- the timings of a revolution's bytes. "The first values of a later revolution are not joined to the one before": nothing is added first
-abbrev pub timingsIn : List ℕ → List ℕ
-timingsIn bytes = timingsFrom 0 (valuesOf bytes)
 
 -- the timing that has not ended, after a value: the zeros before the next one. They are counted up to 7, since with 7 of them, or with more,
 -- no timing is in range

@@ -107,6 +107,12 @@ few-accepted count m next e = go (ltb 64 count) refl e
     go true t g = let z : _≡_ {A = ℕ} 0 1 = cc in absurd (omega arith)
     go false t g = ltb-false 64 count t
 
+-- what is judged after 1 to 4 gives what was accepted
+pub judged-accepted : (bytes : List ℕ) (N T H sectors m : ℕ) (next : Answer ℕ) → trackJudged bytes N T H (countJudged sectors next) ≡ gives m → (next ≡ gives m) × (sectors ≤ 64)
+judged-accepted bytes N T H sectors m next e =
+    let j = sym (follows-track _ _ _ (follows-self (countJudged sectors next)) bytes N T H .accepted m e) ∙ e in
+    (sym (follows-count _ _ _ (follows-self next) sectors .accepted m j) ∙ j, few-accepted sectors m next j)
+
 module _ (bytes : List ℕ) (N T H : ℕ) where
   abbrev count : ℕ
   count = length (sectorsOf bytes N)
@@ -115,10 +121,10 @@ module _ (bytes : List ℕ) (N T H : ℕ) where
   pub list-accepted : (m : ℕ) → sectorsAnswer bytes N T H ≡ gives m → (m ≡ length (sectorsOf bytes N)) × (m ≤ 64)
   unfolding sectorsAnswer
   list-accepted m e =
-      let j = sym (follows-track _ _ _ (follows-self (countJudged count (gives count))) bytes N T H .accepted m e) ∙ e in
-      let g = sym (follows-count _ _ _ (follows-self (gives count)) count .accepted m j) ∙ j in
+      let j = judged-accepted bytes N T H count m (gives count) e in
+      let g = j .0 in
       let s : m ≡ count = cc in
-      (s, rw s (few-accepted count m (gives count) j))
+      (s, rw s (j .1))
 
   -- a sector by index is judged after the list, and reading out after the sector by index
   pub index-follows : (index : ℕ) → Follows (sectorsAnswer bytes N T H) (indexAnswer bytes N T H index) (indexJudged (length (sectorsOf bytes N)) index (gives (length (sectorsOf bytes N))))

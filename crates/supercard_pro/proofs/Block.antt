@@ -17,7 +17,7 @@ use Rattle.flux_timings.proofs.Judging.{no-timings}
 use Rattle.refusals.specs.RefusedCalls.{Answer, bufferAfter}
 use Rattle.refusals.specs.RefusedCalls.Answer.{gives, refused}
 use Rattle.supercard_pro.specs.TrackBlock.{valueCount, valueOffset, tableEnd, valueBytes, revolutionTimings, endsInZero, otherLetters, tableShort, badRevolution, someBad, notATrackBlock, blockJudged, blockAnswer, blockTimings}
-use Rattle.revolution_values.specs.Values.{valuesOf, timingsFrom, timingsIn}
+use Rattle.revolution_portions.specs.Timings.{valuesOf, timingsFrom, timingsIn}
 use Rattle.revolution_portions.specs.Portions.{roomJudged, freshReader, isLeftByCalls, usableReader, portionJudged, portionTimings, portionAnswer, portionList}
 use Rattle.revolution_portions.specs.declared.RevolutionReader.{RevolutionReader}
 use Rattle.revolution_portions.proofs.Judging.{accepted}

@@ -7,7 +7,7 @@ use Rattle.basis.specs.Search.{least}
 use Rattle.flux_timings.specs.Timings.{inRange}
 use Rattle.flux_timings.specs.Timings.{firstOut, timingsJudged}
 use Rattle.refusals.specs.RefusedCalls.Answer.{gives, refused}
-use Rattle.revolution_values.specs.Values.{valuesOf, timingsFrom}
+use Rattle.revolution_portions.specs.Timings.{valuesOf, timingsFrom}
 use Rattle.supercard_pro.specs.TrackBlock.{revolutionTimings, endsInZero, badRevolution, notATrackBlock, blockJudged, blockAnswer}
 
 -- TRK, track 0; of each of two revolutions the index time (200 ms, in units of 25 ns), the number of values and their offset; the values

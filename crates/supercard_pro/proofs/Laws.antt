@@ -22,7 +22,8 @@ use Rattle.flux_timings.proofs.Judging.{no-timings, timings-accepted}
 use Rattle.refusals.specs.RefusedCalls.{Answer, bufferAfter}
 use Rattle.refusals.specs.RefusedCalls.Answer.{gives, refused}
 use Rattle.supercard_pro.specs.TrackBlock.{valueBytes, revolutionTimings, notATrackBlock, blockJudged, blockAnswer, blockTimings}
-use Rattle.revolution_values.specs.Values.{timingsIn, unfinishedAfter, timingsEnding, between}
+use Rattle.revolution_values.specs.Values.{unfinishedAfter, timingsEnding, between}
+use Rattle.revolution_portions.specs.Timings.{timingsIn}
 use Rattle.revolution_portions.specs.Portions.{roomJudged, freshReader, isLeftByCalls, usableReader, portionJudged, portionTimings, portionAnswer, portionReader, portionList, Calls}
 use Rattle.revolution_portions.specs.Portions.Calls.{none, more}
 use Rattle.revolution_portions.specs.declared.RevolutionReader.{RevolutionReader}

@@ -17,7 +17,7 @@ use Rattle.flux_timings.specs.Timings.{timingsJudged}
 use Rattle.refusals.specs.RefusedCalls.{Answer, bufferAfter}
 use Rattle.refusals.specs.RefusedCalls.Answer.{refused}
 use Rattle.revolution_portions.specs.Portions.{roomJudged}
-use Rattle.revolution_values.specs.Values.{valuesOf, timingsIn}
+use Rattle.revolution_portions.specs.Timings.{valuesOf, timingsIn}
 
 -- "twelve bytes for each revolution (index time, number of values, offset from the block's start, each 32 bits, low byte first)", of
 -- revolution k from byte 4 + 12k on. The index time is not used

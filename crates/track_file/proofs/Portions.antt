@@ -2,7 +2,7 @@
 -- nothing.
 use Prim.Native.Nat.{ℕ, _+_, _-_, _≤_, _<_}
 use mathlib.Core.Path.{_≡_, refl, sym, _∙_, ap}
-use mathlib.Core.List.{List, [], _∷_, _++_, append-assoc, append-nil}
+use mathlib.Core.List.{List, [], _∷_, _++_, append-nil}
 use native.Mathlib.Numerals.{add-one}
 use native.Mathlib.Omega.{arith}
 use lib.ListN.{length, getD, drop, drop-of-length-le}
@@ -43,22 +43,11 @@ cells-joined reader (portion ∷ portions) buffer =
     cells-joined (readerAfter reader portion) portions (cellsAfter reader portion buffer) ∙ sym (cells-cut reader portion (wholeOf portions) buffer)
 
 -- one portion more, for a caller that feeds them in a loop
-module _ (portion : List ℕ) where
-  pub reader-then : (reader : Reader) (portions : List (List ℕ)) → readerAfterAll reader (portions ++ (portion ∷ [])) ≡ readerAfter (readerAfterAll reader portions) portion
-  unfolding readerAfterAll
-  reader-then reader [] = refl
-  reader-then reader (first ∷ portions) = reader-then (readerAfter reader first) portions
-
-  pub cells-then : (reader : Reader) (portions : List (List ℕ)) (buffer : List ℕ)
-      → cellsAfterAll reader (portions ++ (portion ∷ [])) buffer ≡ cellsAfter (readerAfterAll reader portions) portion (cellsAfterAll reader portions buffer)
-  unfolding readerAfterAll cellsAfterAll
-  cells-then reader [] buffer = refl
-  cells-then reader (first ∷ portions) buffer = cells-then (readerAfter reader first) portions (cellsAfter reader first buffer)
-
-  pub whole-then : (portions : List (List ℕ)) → wholeOf (portions ++ (portion ∷ [])) ≡ wholeOf portions ++ portion
-  unfolding wholeOf
-  whole-then [] = append-nil portion
-  whole-then (first ∷ portions) = ap (λ (x : List ℕ). first ++ x) (whole-then portions) ∙ sym (append-assoc first (wholeOf portions) portion)
+pub cells-then : (portion : List ℕ) (reader : Reader) (portions : List (List ℕ)) (buffer : List ℕ)
+    → cellsAfterAll reader (portions ++ (portion ∷ [])) buffer ≡ cellsAfter (readerAfterAll reader portions) portion (cellsAfterAll reader portions buffer)
+unfolding readerAfterAll cellsAfterAll
+cells-then portion reader [] buffer = refl
+cells-then portion reader (first ∷ portions) buffer = cells-then portion (readerAfter reader first) portions (cellsAfter reader first buffer)
 
 -- a file in one portion
 pub in-one-portion : (buffer file : List ℕ) {start reader : Reader} {cleared cells : List ℕ} → (start ≡ startOf (length buffer)) × (cleared ≡ startCells buffer)

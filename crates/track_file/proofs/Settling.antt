@@ -42,10 +42,9 @@ is-stopped reader {refusal} e =
       },
     )
 
-pub not-stopped : (reader a : Reader) → reader ≡ a → false ≡ isStopped a → (false ≡ isStopped reader) × AtOnce reader false
-not-stopped reader a e f =
-    let no = f ∙ ap isStopped (sym e) in
-    (no, record { exactly = exactly-at-once reader no; settled = λ t buffer portions is rest. absurd (differ t) })
+pub not-stopped : (reader : Reader) → false ≡ isStopped reader → (false ≡ isStopped reader) × AtOnce reader false
+not-stopped reader is-not =
+    (is-not, record { exactly = exactly-at-once reader is-not; settled = λ t buffer portions is rest. absurd (differ t) })
   where
     differ : false ≡ true → ⊥
     differ t = let z : _≡_ {A = ℕ} 0 1 = cc in omega arith

@@ -55,17 +55,8 @@ pub fn stopped(reader: Reader) -> bool
     ensures file { λ r. ⌜ AtOnce reader r ⌝ }
 {
     match reader {
-        Reader::PlaceCount(_) => false,
-        Reader::Track => false,
-        Reader::Side(_) => false,
-        Reader::CellCount(_, _) => false,
-        Reader::PackedCells(_, _, _) => false,
-        Reader::FluxCount(_, _, _) => false,
-        Reader::Timings(_, _, _, _) => false,
-        Reader::AllCells(_, _) => false,
-        Reader::AllTimings(_, _) => false,
-        Reader::NotATrackFile => false,
         Reader::Stopped(_) => true,
+        _ => false,
     }
 }
 
@@ -77,18 +68,11 @@ pub fn finish(reader: Reader) -> Read
     given(reader)
 }
 
-// What the end of the file gives.
+// What the end of the file gives. A file that ends anywhere else is short.
 fn given(reader: Reader) -> Read
     ensures { λ r. ⌜ readAnswer r ≡ finishAnswer reader ⌝ }
 {
     match reader {
-        Reader::PlaceCount(_) => Read::Refused(Refusal::NotATrackFile),
-        Reader::Track => Read::Refused(Refusal::NotATrackFile),
-        Reader::Side(_) => Read::Refused(Refusal::NotATrackFile),
-        Reader::CellCount(_, _) => Read::Refused(Refusal::NotATrackFile),
-        Reader::PackedCells(_, _, _) => Read::Refused(Refusal::NotATrackFile),
-        Reader::FluxCount(_, _, _) => Read::Refused(Refusal::NotATrackFile),
-        Reader::Timings(_, _, _, _) => Read::Refused(Refusal::NotATrackFile),
         Reader::AllCells(place, count) => Read::Cells {
             track: place.track,
             side: place.side,
@@ -105,8 +89,8 @@ fn given(reader: Reader) -> Read
                 Counted::Refused(refusal) => Read::Refused(refusal),
             }
         }
-        Reader::NotATrackFile => Read::Refused(Refusal::NotATrackFile),
         Reader::Stopped(refusal) => Read::Refused(refusal),
+        _ => Read::Refused(Refusal::NotATrackFile),
     }
 }
 

@@ -1,11 +1,9 @@
 -- The cells of a file handed over: each branch of the code, and what the whole call promises. Assumes nothing.
 use Prim.Native.Nat.{ℕ, _≤_, _<_}
 use mathlib.Core.Path.{_≡_, refl, sym, _∙_, ap}
-use mathlib.Core.Bool.{Bool, true, false, cond}
 use mathlib.Core.List.{List, [], _∷_}
 use native.Mathlib.Omega.{arith}
 use borrow.Author.Tests.{lt-ltb, le-ltb}
-use lib.Dec.{ltb}
 use lib.ListN.{length, take, drop, replicate, length-take}
 use lib.Seq.{take-all, take-at}
 use Rattle.basis.specs.Lists.{writtenOver}

@@ -55,13 +55,14 @@ use denote.Triple.Clauses.{ensured, lasts}
 use denote.Triple.Table.{entered, cited}
 use denote.Triple.Walked.{says, Stays, stay-slice, stay-none-slice, stay-none, walkOf, AllGo, goes-slice, goes-none-slice, goes-none, Walks, ends-at, walked, walk-meets}
 use denote.Exit.{yes}
-use Rattle.findings.specs.Calls.{findingsAnswer, sectorsGiven, numbersOf}
-use Rattle.findings.specs.Findings.{findingsOf}
+use Rattle.findings.specs.Calls.{findingsAnswer}
+use Rattle.finding_list.specs.Calls.{sectorsGiven, numbersOf}
+use Rattle.finding_list.specs.Findings.{findingsOf}
 use Rattle.findings.specs.PrivateContracts.{countWritten, findingAt}
-use Rattle.findings.specs.declared.Finding.{Finding}
+use Rattle.finding_list.specs.declared.Finding.{Finding}
 use Rattle.findings.specs.declared.Planned.{Planned}
-use Rattle.findings.proofs.Finding as T
-use Rattle.findings.proofs.Finding.Laws as T′
+use Rattle.finding_list.proofs.Finding as T
+use Rattle.finding_list.proofs.Finding.Laws as T′
 use Rattle.findings.proofs.Planned as P
 use Rattle.findings.proofs.Planned.Laws as P′
 use Rattle.refusals.proofs.Counted as N

@@ -1,7 +1,5 @@
 -- `thikbromu::files::thikbromu_file_cells` meets its contract. Assumes nothing.
 use mathlib.Core.Path.{ap, _∙_}
-use mathlib.Core.List.{List}
-use Prim.Native.Nat.{ℕ}
 use denote.Ref.{now}
 use Rattle.refusals.specs.RefusedCalls.{Answer}
 use Rattle.track_file.specs.TrackFile.{Content}
@@ -23,7 +21,11 @@ same-length-2 : tie.Need-same-length-2
 same-length-2 c = search needs
 
 returns : tie.Need-returns
-returns c = ?
+returns c =
+    let f = c .before .before .before .before .before .before .before .file-cells .ensures in
+    let t = c .before .before .told-file .ensures in
+    let place = now (c .before .before .before .before .before .before .before .before .before .before .before .before .args .place) in
+    (t .0 ∙ ap numberIn (f .0), (t .1 ∙ ap valueGiven (f .0), (t .2 ∙ ap (λ (a : Answer Content). placeGiven a place) (f .0), f .1)))
 
 pub thikbromu-file-cells-spec : {M : Type 1} → statement M
 thikbromu-file-cells-spec =
