@@ -88,7 +88,7 @@ pub fn in_memory(report: &mut Report) {
         let given = || file.name.clone();
         let second = read_cells(bytes);
         for room in rooms(&second) {
-            // Each room meets each length of the place, though not with each file; the exact room always meets them all.
+            // The exact room and the most room meet each length of the place; the other rooms one of them, in turn.
             let exact = second.as_ref().is_ok_and(|track| track.bytes.len() == room);
             if exact || room == ROOM {
                 for places in 0..4 {

@@ -4,8 +4,8 @@
 //! The library is called over its Rust crate: over `thikbromu::boundary`, which lends buffers of any length, and where the crate's other
 //! types have the call, over these as well.
 //!
-//! An argument names the groups to run, by their module; without one all run. The last line is 'N passed, M failed'; the exit status is 1
-//! where something failed.
+//! An argument names the groups to run, by their module; without one all run. They run side by side, one on each processor, and are printed
+//! in their order. The last line is 'N passed, M failed'; the exit status is 1 where something failed.
 
 mod block_program;
 mod blocks;
@@ -27,8 +27,22 @@ use std::thread;
 
 type Part = fn(&mut Report);
 
-/// The groups of cases, by their module.
+/// The parts, by their modules. The long ones come first, so that no worker is left alone with one at the end.
 const PARTS: [(&str, Part); 39] = [
+    ("files", files::in_memory),
+    ("findings", findings::any_tracks),
+    ("sectors", sectors::standard),
+    ("program", program::whole_files),
+    ("sectors", sectors::any_tracks),
+    ("files", files::from_readers),
+    ("block_program", block_program::whole_blocks),
+    ("flux", flux::extremes),
+    ("blocks", blocks::cells),
+    ("blocks", blocks::portions),
+    ("findings", findings::edges),
+    ("program", program::portions),
+    ("blocks", blocks::timings),
+    ("blocks", blocks::short_rooms),
     ("terms", terms::tables),
     ("track_cells", track_cells::reading),
     ("track_cells", track_cells::finding),
@@ -42,26 +56,12 @@ const PARTS: [(&str, Part); 39] = [
     ("flux", flux::printed),
     ("flux", flux::steps),
     ("flux", flux::lists),
-    ("flux", flux::extremes),
     ("flux", flux::limits),
     ("flux", flux::histograms),
-    ("sectors", sectors::standard),
     ("sectors", sectors::shapes),
-    ("sectors", sectors::any_tracks),
-    ("findings", findings::edges),
-    ("findings", findings::any_tracks),
-    ("files", files::in_memory),
-    ("files", files::from_readers),
     ("files", files::short_rooms),
-    ("blocks", blocks::timings),
-    ("blocks", blocks::cells),
-    ("blocks", blocks::portions),
-    ("blocks", blocks::short_rooms),
     ("blocks", blocks::states),
     ("program", program::samples),
-    ("program", program::whole_files),
-    ("block_program", block_program::whole_blocks),
-    ("program", program::portions),
     ("program", program::failing_inputs),
     ("program", program::system),
     ("block_program", block_program::standard_track),
