@@ -9,8 +9,8 @@ use Rattle.basis.proofs.Search.{least-high, count-few}
 use Rattle.cell_patterns.specs.Cells.{violation, zerosFrom, runFrom, longestRun, longestStart, gapsOf, syncsBetween, syncsInside}
 use Rattle.cell_patterns.proofs.Runs.{zeros-few}
 use Rattle.cell_patterns.proofs.Syncs.{syncs-few}
-use Rattle.sectors.specs.Sectors.{markLength, idLength, endOfData}
-use Rattle.sectors.specs.declared.Sector.{Sector}
+use Rattle.sector_records.specs.Sectors.{markLength, idLength, endOfData}
+use Rattle.sector_records.specs.declared.Sector.{Sector}
 
 most-few : (g : ℕ → ℕ) (b : ℕ) → ((q : ℕ) → g q ≤ b) → (k p : ℕ) → most g k p ≤ b
 unfolding most

@@ -10,9 +10,9 @@ use Rattle.basis.specs.Search.{count, least}
 use Rattle.basis.proofs.Search.{least-low, least-high, least-same, count-few, count-end, count-next}
 use Rattle.cells.specs.CellsAndBytes.{cell, wordAt, stands, leastPlace}
 use Rattle.cell_patterns.specs.Cells.{syncsBetween, syncsInside}
-use Rattle.sectors.specs.Marks.{syncAt}
-use Rattle.sectors.specs.Sectors.{markLength, idLength, endOfData}
-use Rattle.sectors.specs.declared.Sector.{Sector}
+use Rattle.sector_records.specs.Marks.{syncAt}
+use Rattle.sector_records.specs.Sectors.{markLength, idLength, endOfData}
+use Rattle.sector_records.specs.declared.Sector.{Sector}
 
 -- the search for the word of a sync finds the next sync
 stands-sync : (bytes : List ℕ) (n q : ℕ) → stands bytes n 16 0x4489 q ≡ syncAt (cell bytes n) q

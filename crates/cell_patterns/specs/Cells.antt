@@ -3,9 +3,9 @@ use Prim.Native.Nat.{ℕ, _+_, _-_}
 use mathlib.Core.Bool.{Bool, cond, _&&_, _||_}
 use lib.Dec.{eqb, ltb}
 use Rattle.basis.specs.Search.{least, count, most}
-use Rattle.sectors.specs.Marks.{syncAt}
-use Rattle.sectors.specs.Sectors.{markLength, idLength, endOfData}
-use Rattle.sectors.specs.declared.Sector.{Sector}
+use Rattle.sector_records.specs.Marks.{syncAt}
+use Rattle.sector_records.specs.Sectors.{markLength, idLength, endOfData}
+use Rattle.sector_records.specs.declared.Sector.{Sector}
 use Rattle.cell_patterns.specs.declared.Gaps.{Gaps}
 
 -- a one at p

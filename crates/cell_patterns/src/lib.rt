@@ -1,10 +1,10 @@
 // What 01's kinds MTV, NFA and SID count on the cells of a track: ones too near or too far, the longest run of zeros, and sync words.
-use sectors::BYTE_LENGTH;
-use sectors::ID_LENGTH;
-use sectors::MARK_LENGTH;
-use sectors::SYNC;
-use sectors::Sector;
-use sectors::data_end;
+use sector_records::BYTE_LENGTH;
+use sector_records::ID_LENGTH;
+use sector_records::MARK_LENGTH;
+use sector_records::SYNC;
+use sector_records::Sector;
+use sector_records::data_end;
 ghost use mathlib.Core.Path.{_≡_};
 ghost use mathlib.Core.Bool.{cond};
 ghost use Prim.Native.Nat.{_≤_};

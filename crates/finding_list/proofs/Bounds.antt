@@ -19,11 +19,11 @@ use Rattle.finding_rules.specs.declared.Row.{Row}
 use Rattle.finding_list.specs.Findings.{rowAt}
 use Rattle.finding_list.specs.PrivateContracts.{BoundedSector, BoundedTrack, Narrow, sectorsIn}
 use Rattle.mfm.specs.Coding.{byteOn, dataCell}
-use Rattle.sectors.specs.Marks.{markByte}
-use Rattle.sectors.specs.Sectors.{reach, leastData, dataFound, lengthOf, idByte, dataLength, sectorAt, noSector, sectorsOf, kept}
-use Rattle.sectors.specs.declared.Sector.{Sector}
-use Rattle.sectors.specs.declared.Sectors.{Sectors}
-use Rattle.sectors.proofs.Places.{length-most, sector-of-mark}
+use Rattle.sector_records.specs.Marks.{markByte}
+use Rattle.sector_records.specs.Sectors.{reach, leastData, dataFound, lengthOf, idByte, dataLength, sectorAt, noSector, sectorsOf, kept}
+use Rattle.sector_records.specs.declared.Sector.{Sector}
+use Rattle.sector_records.specs.declared.Sectors.{Sectors}
+use Rattle.sector_records.proofs.Places.{length-most, sector-of-mark}
 
 -- a record's numbers
 byte-few : (f : ℕ → ℕ) → ((i : ℕ) → f i < 2) → (p : ℕ) → byteOn f p ≤ 255

@@ -28,9 +28,9 @@ use Rattle.finding_list.specs.Findings.{kinds, levels, looks, rowAt, fou
 use Rattle.finding_list.specs.declared.Finding.{Finding}
 use Rattle.finding_list.proofs.Looks.{looks-first, looks-sectors, looks-last, sector-place}
 use Rattle.finding_list.proofs.Members.{joined-from, joined-has, no-members, Ordered, ordered-joined, ordered-at}
-use Rattle.sectors.specs.Sectors.{sectorsOf}
-use Rattle.sectors.specs.declared.Sector.{Sector}
-use Rattle.sectors.proofs.Places.{sectors-ordered}
+use Rattle.sector_records.specs.Sectors.{sectorsOf}
+use Rattle.sector_records.specs.declared.Sector.{Sector}
+use Rattle.sector_records.proofs.Places.{sectors-ordered}
 
 -- a finding of a kind, with the kind's level
 abbrev pub finding : (kind place detail : ℕ) → Finding

@@ -15,7 +15,7 @@ use Rattle.finding_rules.proofs.Rows.{length-on-sector, row-track, row-dsn, row
 use Rattle.finding_list.specs.Findings.{looks, rowAt, foundBy, foundAt, ofKind}
 use Rattle.finding_list.specs.PrivateContracts.{duplicateAt}
 use Rattle.finding_list.specs.declared.Finding.{Finding}
-use Rattle.sectors.specs.declared.Sector.{Sector}
+use Rattle.sector_records.specs.declared.Sector.{Sector}
 
 module _ (ss : List Sector) (k : ℕ) where
   pub looks-first : k < 5 → looks ss k ≡ 1

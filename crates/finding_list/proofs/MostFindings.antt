@@ -16,7 +16,7 @@ use Rattle.finding_list.specs.Findings.{kinds, looks, rowAt, foundBy, fo
 use Rattle.finding_list.specs.Calls.{mostFindings}
 use Rattle.finding_list.specs.declared.Finding.{Finding}
 use Rattle.finding_list.proofs.Looks.{looks-sectors, looks-last}
-use Rattle.sectors.specs.declared.Sector.{Sector}
+use Rattle.sector_records.specs.declared.Sector.{Sector}
 
 -- g 0 + g 1 + .. + g (n - 1)
 abbrev sum : (ℕ → ℕ) → ℕ → ℕ

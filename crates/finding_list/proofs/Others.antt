@@ -12,9 +12,9 @@ use Rattle.finding_rules.specs.Rules.{nth, someSector, sameNumber}
 use Rattle.finding_list.specs.Findings.{foundBy}
 use Rattle.finding_list.specs.PrivateContracts.{duplicateAt, AtMost64, sectorsIn}
 use Rattle.finding_list.specs.declared.Finding.{Finding}
-use Rattle.sectors.specs.Sectors.{noSector}
-use Rattle.sectors.specs.declared.Sector.{Sector}
-use Rattle.sectors.specs.declared.Sectors.{Sectors}
+use Rattle.sector_records.specs.Sectors.{noSector}
+use Rattle.sector_records.specs.declared.Sector.{Sector}
+use Rattle.sector_records.specs.declared.Sectors.{Sectors}
 
 module _ (ss : Sectors) where
   pub length-kept : AtMost64 ss → length (sectorsIn ss) ≡ ss .count

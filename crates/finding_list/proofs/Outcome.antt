@@ -1,10 +1,8 @@
 -- From the sectors of a track to the answer of the call and what stands in its array. Assumes nothing.
 use Prim.Native.Nat.{ℕ, _≤_}
 use mathlib.Core.Path.{_≡_, refl, sym}
-use mathlib.Core.Bool.{Bool, true, false, cond, _||_}
 use mathlib.Core.List.{List}
 use native.Mathlib.Omega.{arith}
-use lib.Dec.{ltb}
 use lib.ListN.{length, replicate}
 use Rattle.basis.specs.Lists.{joined}
 use Rattle.cells.specs.CellsAndBytes.{cell}
@@ -14,12 +12,11 @@ use Rattle.finding_list.specs.PrivateContracts.{sectorsIn, Added}
 use Rattle.finding_list.proofs.Bounds.{sectors-kept}
 use Rattle.finding_list.proofs.MostFindings.{few-findings}
 use Rattle.finding_list.proofs.Numbers.{array-is}
-use Rattle.refusals.specs.RefusedCalls.{Answer}
 use Rattle.refusals.specs.RefusedCalls.Answer.{gives, refused}
-use Rattle.sectors.specs.Calls.{trackJudged, sectorsAnswer}
-use Rattle.sectors.specs.Sectors.{sectorsOf, kept}
-use Rattle.sectors.specs.declared.Sectors.{Sectors}
-use Rattle.sectors.proofs.Calls.{most-cells, judged-accepted, list-accepted, Follows, follows-given, follows-track, follows-count}
+use Rattle.sectors.specs.Calls.{sectorsAnswer}
+use Rattle.sector_records.specs.Sectors.{sectorsOf, kept}
+use Rattle.sector_records.specs.declared.Sectors.{Sectors}
+use Rattle.sectors.proofs.Calls.{judged-accepted, list-accepted, Follows, follows-given, follows-track, follows-count}
 
 pub findings-few : (bytes : List ℕ) (N T : ℕ) → length (sectorsOf bytes N) ≤ 64 → length (findingsOf bytes N T) ≤ 901
 unfolding findingsOf
@@ -30,16 +27,6 @@ module _ (bytes : List ℕ) (N T H : ℕ) where
   pub survey-follows : Follows (sectorsAnswer bytes N T H) (surveyAnswer bytes N T H) (gives (length (findingsOf bytes N T)))
   unfolding sectorsAnswer surveyAnswer
   survey-follows = follows-track _ _ _ (follows-count _ _ _ (follows-given (length (sectorsOf bytes N)) _) (length (sectorsOf bytes N))) bytes N T H
-
-  -- an accepted track has at most 131,072 cells
-  pub cells-accepted : (m : ℕ) → sectorsAnswer bytes N T H ≡ gives m → N ≤ 131072
-  unfolding sectorsAnswer trackJudged
-  cells-accepted m e = go _ (ltb 83 T || ltb 1 H) (ltb N 20000 || ltb 131072 N) refl e
-    where
-      go : (next : Answer ℕ) (b c : Bool) → (ltb N 20000 || ltb 131072 N) ≡ c → cond b (refused 1 0) (cond c (refused 2 N) next) ≡ gives m → N ≤ 131072
-      go next true c f g = let z : _≡_ {A = ℕ} 0 1 = cc in absurd (omega arith)
-      go next false true f g = let z : _≡_ {A = ℕ} 0 1 = cc in absurd (omega arith)
-      go next false false f g = most-cells N f
 
   -- an accepted call gives the number of findings, at most 901
   pub survey-accepted : (m : ℕ) → surveyAnswer bytes N T H ≡ gives m → (m ≡ length (findingsOf bytes N T)) × (m ≤ 901)

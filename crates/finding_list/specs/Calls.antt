@@ -8,7 +8,7 @@ use Rattle.refusals.specs.RefusedCalls.Answer.{gives, refused}
 use Rattle.finding_list.specs.Findings.{findingsOf}
 use Rattle.finding_list.specs.declared.Finding.{Finding}
 use Rattle.sectors.specs.Calls.{trackJudged, countJudged}
-use Rattle.sectors.specs.Sectors.{sectorsOf}
+use Rattle.sector_records.specs.Sectors.{sectorsOf}
 
 -- a number of findings that is never passed on a track with at most 64 sectors
 abbrev pub mostFindings : ℕ

@@ -9,8 +9,8 @@ use Rattle.cells.specs.CellsAndBytes.{cell}
 use Rattle.finding_rules.specs.Rules.{noRow, rows}
 use Rattle.finding_rules.specs.declared.Row.{Row}
 use Rattle.finding_list.specs.declared.Finding.{Finding}
-use Rattle.sectors.specs.Sectors.{sectorsOf}
-use Rattle.sectors.specs.declared.Sector.{Sector}
+use Rattle.sector_records.specs.Sectors.{sectorsOf}
+use Rattle.sector_records.specs.declared.Sector.{Sector}
 
 -- how many kinds there are
 abbrev pub kinds : ℕ

@@ -9,8 +9,8 @@ use Rattle.finding_rules.specs.declared.Row.{Row}
 use Rattle.finding_list.specs.Calls.{numbersOf, mostFindings}
 use Rattle.finding_list.specs.Findings.{foundBy}
 use Rattle.finding_list.specs.declared.Finding.{Finding}
-use Rattle.sectors.specs.declared.Sector.{Sector}
-use Rattle.sectors.specs.declared.Sectors.{Sectors}
+use Rattle.sector_records.specs.declared.Sector.{Sector}
+use Rattle.sector_records.specs.declared.Sectors.{Sectors}
 
 -- what DSN finds at sector i
 unfoldable pub duplicateAt : List Sector → ℕ → List Finding

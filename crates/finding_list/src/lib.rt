@@ -3,8 +3,8 @@
 use cell_patterns::Gaps;
 use finding_rules::Row;
 use refusals::Counted;
-use sectors::Sector;
-use sectors::Sectors;
+use sector_records::Sector;
+use sector_records::Sectors;
 ghost use mathlib.Core.Path.{_≡_};
 ghost use Prim.Native.Nat.{_<_, _≤_};
 ghost use lib.ListN.{length, getD, replicate};
@@ -15,7 +15,7 @@ ghost use Rattle.finding_rules.specs.Rules.{noRow, startsInData, someSector, se
 ghost use Rattle.finding_list.specs.Findings.{kinds, levels, foundBy, ofKind, findingsOf};
 ghost use Rattle.finding_list.specs.Calls.{surveyAnswer, sectorsGiven, arrayAfter};
 ghost use Rattle.refusals.specs.RefusedCalls.{countedAnswer};
-ghost use Rattle.sectors.specs.Sectors.{sectorsOf};
+ghost use Rattle.sector_records.specs.Sectors.{sectorsOf};
 ghost use Rattle.finding_list.specs.PrivateContracts.{duplicateAt, AtMost64, BoundedTrack, Narrow, sectorsIn, Added, Room};
 
 // A finding: its kind from 1 to 21, the kind's level, its place in cells, and its detail.

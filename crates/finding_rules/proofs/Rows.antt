@@ -8,7 +8,7 @@ use lib.Seq.{getD-append-add}
 use Rattle.cell_patterns.specs.Cells.{gapsOf, syncsInside}
 use Rattle.finding_rules.specs.Rules.{noRow, nth, dsn, sws, sid, trackRows, idRows, dataRows, sectorRows, gapRows, rows}
 use Rattle.finding_rules.specs.declared.Row.{Row}
-use Rattle.sectors.specs.declared.Sector.{Sector}
+use Rattle.sector_records.specs.declared.Sector.{Sector}
 
 -- a group has no more rows than it lists
 pub no-row : (group : List Row) (k : ℕ) → length group ≤ k → noRow ≡ getD group k noRow

@@ -8,8 +8,8 @@ use lib.ListN.{length, getD, take}
 use Rattle.cell_patterns.specs.Cells.{gapsOf, syncsInside}
 use Rattle.cell_patterns.specs.declared.Gaps.{Gaps}
 use Rattle.finding_rules.specs.declared.Row.{Row}
-use Rattle.sectors.specs.Sectors.{noSector, endOfData}
-use Rattle.sectors.specs.declared.Sector.{Sector}
+use Rattle.sector_records.specs.Sectors.{noSector, endOfData}
+use Rattle.sector_records.specs.declared.Sector.{Sector}
 
 -- some sector of a list passes the test
 unfoldable pub someSector : (Sector → Bool) → List Sector → Bool

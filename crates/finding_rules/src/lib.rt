@@ -1,8 +1,8 @@
 // The rules of 01's table of findings on the track's numbers, on one sector's record, on one record beside another, and on what was
 // counted on the cells. A kind is given by its place in its group, from 0.
 use cell_patterns::Gaps;
-use sectors::Sector;
-use sectors::data_end;
+use sector_records::Sector;
+use sector_records::data_end;
 ghost use mathlib.Core.Path.{_≡_};
 ghost use Prim.Native.Nat.{_-_};
 ghost use lib.ListN.{getD};

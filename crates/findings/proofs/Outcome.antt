@@ -13,14 +13,14 @@ use Rattle.finding_list.specs.Calls.{surveyAnswer, sectorsGiven, numbersOf, arr
 use Rattle.finding_list.specs.Findings.{findingsOf}
 use Rattle.finding_list.specs.declared.Finding.{Finding}
 use Rattle.finding_list.proofs.Numbers.{length-numbers}
-use Rattle.finding_list.proofs.Outcome.{survey-accepted}
+use Rattle.finding_list.proofs.Outcome.{findings-few, survey-accepted}
 use Rattle.findings.specs.Calls.{findingsAnswer}
 use Rattle.findings.specs.PrivateContracts.{countWritten}
 use Rattle.refusals.specs.RefusedCalls.{Answer, bufferAfter}
 use Rattle.refusals.specs.RefusedCalls.Answer.{gives, refused}
 use Rattle.sectors.specs.Calls.{trackJudged, countJudged}
-use Rattle.sectors.specs.Sectors.{sectorsOf}
-use Rattle.sectors.proofs.Calls.{Follows, follows-given, follows-track, follows-count}
+use Rattle.sector_records.specs.Sectors.{sectorsOf}
+use Rattle.sectors.proofs.Calls.{judged-accepted, Follows, follows-given, follows-track, follows-count}
 
 -- what the call answers where the survey is accepted
 abbrev pub judgedRoom : (room findings : ℕ) → Answer ℕ
@@ -66,6 +66,20 @@ module _ (bytes : List ℕ) (N T H room : ℕ) where
         let long : length (numbersOf fs) ≡ 4 * m = length-numbers fs ∙ rw (← all-there) in
         let front : take (4 * m) numbers ≡ numbersOf fs = rw (n, e) (take-at (numbersOf fs) _ (4 * m) long) in
         rw (← g) (refl, ((refl, s ∙ rw e), (front ∙ ap numbersOf (sym (take-all m fs (omega (arith, all-there)))), (survey-accepted bytes N T H m e .1, h))))
+
+-- an accepted call gives the number of findings, at most 901, of a track of at most 131,072 cells with at most 64 sectors
+pub findings-accepted : (bytes : List ℕ) (N T H room m : ℕ) → findingsAnswer bytes N T H room ≡ gives m
+    → (m ≡ length (findingsOf bytes N T)) × (m ≤ 901) × (length (sectorsOf bytes N) ≤ 64) × (N ≤ 131072)
+unfolding findingsAnswer
+findings-accepted bytes N T H room m e =
+    let k = length (findingsOf bytes N T) in
+    let j = judged-accepted bytes N T H (length (sectorsOf bytes N)) m (judgedRoom room k) e in
+    let s = given (ltb room k) (j .0) in
+    (s, rw s (findings-few bytes N T (j .1)), j .1, j .2)
+  where
+    given : (b : Bool) → cond b (refused 5 (length (findingsOf bytes N T))) (gives (length (findingsOf bytes N T))) ≡ gives m → m ≡ length (findingsOf bytes N T)
+    given true g = let z : _≡_ {A = ℕ} 0 1 = cc in absurd (omega arith)
+    given false g = cc
 
 -- an answer gives k or refuses
 data Judged (k : ℕ) : Answer ℕ → Type 0 where

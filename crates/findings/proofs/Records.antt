@@ -20,7 +20,7 @@ use Rattle.finding_rules.specs.declared.Row.{Row}
 use Rattle.finding_list.specs.declared.Finding.{Finding}
 use Rattle.findings.proofs.Outcome.{written-few, findings-written}
 use Rattle.cells.specs.CellsAndBytes.{cell}
-use Rattle.sectors.specs.Sectors.{sectorsOf}
+use Rattle.sector_records.specs.Sectors.{sectorsOf}
 
 -- a record that is all zeros, where there is none
 abbrev noFinding : Finding

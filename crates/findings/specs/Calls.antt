@@ -11,7 +11,7 @@ use Rattle.finding_list.specs.Calls.{numbersOf}
 use Rattle.finding_list.specs.Findings.{findingsOf}
 use Rattle.finding_list.specs.declared.Finding.{Finding}
 use Rattle.sectors.specs.Calls.{trackJudged, countJudged}
-use Rattle.sectors.specs.Sectors.{sectorsOf}
+use Rattle.sector_records.specs.Sectors.{sectorsOf}
 
 -- refusals 1 to 5, for a list with room for `room` findings, and else their number
 unfoldable pub findingsAnswer : List ℕ → (N T H room : ℕ) → Answer ℕ

@@ -15,7 +15,7 @@ ghost use Rattle.finding_list.specs.Findings.{findingsOf};
 ghost use Rattle.findings.specs.Calls.{findingsAnswer, numbersAfter};
 ghost use Rattle.findings.specs.PrivateContracts.{countWritten, findingAt};
 ghost use Rattle.refusals.specs.RefusedCalls.{refusedWith, countedAnswer};
-ghost use Rattle.sectors.specs.Sectors.{sectorsOf};
+ghost use Rattle.sector_records.specs.Sectors.{sectorsOf};
 
 // The findings of a track of n cells, packed in `bytes`, as numbers at the front of the list: kind, level, place and detail of each.
 // `track` and `side` are the drive's.

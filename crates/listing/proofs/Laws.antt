@@ -17,12 +17,12 @@ use lib.Seq.{take-all, take-at}
 use Rattle.basis.specs.Lists.{writtenOver}
 use Rattle.cells.specs.CellsAndBytes.{bytesFor}
 use Rattle.findings.specs.Calls.{findingsAnswer}
-use Rattle.findings.specs.Findings.{findingsOf}
-use Rattle.findings.proofs.Outcome.{findings-few}
+use Rattle.finding_list.specs.Findings.{findingsOf}
+use Rattle.finding_list.proofs.Outcome.{findings-few}
 use Rattle.refusals.specs.RefusedCalls.{Answer}
 use Rattle.refusals.specs.RefusedCalls.Answer.{gives, refused}
 use Rattle.sectors.specs.Calls.{trackJudged, countJudged}
-use Rattle.sectors.specs.Sectors.{sectorsOf}
+use Rattle.sector_records.specs.Sectors.{sectorsOf}
 use Rattle.lines.specs.Lines.{outAfter}
 
 -- a buffer that is long enough

@@ -6,8 +6,8 @@ use native.Mathlib.Omega.{arith}
 use lib.ListN.{length}
 use Rattle.basis.specs.Lists.{joined}
 use Rattle.basis.proofs.Joined.{joined-more}
-use Rattle.findings.specs.Calls.{numbersOf}
-use Rattle.findings.specs.declared.Finding.{Finding}
+use Rattle.finding_list.specs.Calls.{numbersOf}
+use Rattle.finding_list.specs.declared.Finding.{Finding}
 use Rattle.listing.specs.Listing.{linesOf}
 use Rattle.lines.specs.Writing.{Wrote}
 use Rattle.listing.specs.PrivateContracts.{lineAt}

@@ -1,22 +1,20 @@
 -- The listing of a track, from what its findings' call gives. Assumes nothing.
 use Prim.Native.Nat.{ℕ, _+_, _*_, _<_, _≤_}
-use mathlib.Core.Path.{_≡_, refl, ap, _∙_}
-use mathlib.Core.Bool.{Bool, true, false, cond, _||_}
+use mathlib.Core.Path.{_≡_, ap, _∙_}
+use mathlib.Core.Bool.{Bool, true, false, cond}
 use mathlib.Core.List.{List, _++_}
 use native.Mathlib.Omega.{arith}
-use borrow.Author.Tests.{ltb-false}
 use lib.Dec.{ltb}
 use lib.ListN.{length, drop}
 use Rattle.basis.specs.Lists.{joined}
-use Rattle.cells.specs.CellsAndBytes.{bytesFor}
-use Rattle.findings.specs.Calls.{findingsAnswer, sectorsGiven, numbersOf, numbersAfter}
-use Rattle.findings.specs.Findings.{findingsOf}
-use Rattle.findings.proofs.Outcome.{findings-few}
+use Rattle.findings.specs.Calls.{findingsAnswer, numbersAfter}
+use Rattle.finding_list.specs.Calls.{sectorsGiven, numbersOf}
+use Rattle.finding_list.specs.Findings.{findingsOf}
+use Rattle.finding_list.proofs.Outcome.{findings-few}
 use Rattle.refusals.specs.RefusedCalls.{Answer, bufferAfter}
 use Rattle.refusals.specs.RefusedCalls.Answer.{gives, refused}
-use Rattle.sectors.specs.Calls.{trackJudged, countJudged}
-use Rattle.sectors.specs.Sectors.{sectorsOf}
-use Rattle.sectors.proofs.Calls.{most-cells}
+use Rattle.sector_records.specs.Sectors.{sectorsOf}
+use Rattle.sectors.proofs.Calls.{judged-accepted}
 use Rattle.lines.specs.Lines.{headerOf, refusedLine, outAfter}
 use Rattle.lines.specs.Writing.{Wrote}
 use Rattle.lines.proofs.Lengths.{header-few, refused-few}
@@ -24,11 +22,6 @@ use Rattle.lines.proofs.Writing.{_then_, wrote-few, wrote-front, answer-is, ans
 use Rattle.listing.specs.Listing.{linesOf, printed, listingOf}
 use Rattle.listing.specs.PrivateContracts.{lineAt}
 use Rattle.listing.proofs.Lines.{lines-are}
-
--- what is given behind a refusal that does not hold
-behind : {A : Type 0} {x : A} (b : Bool) (number value : ℕ) (next : Answer A) → cond b (refused number value) next ≡ gives x → (b ≡ false) × (next ≡ gives x)
-behind true number value next e = let z : _≡_ {A = ℕ} 0 1 = cc in absurd (omega arith)
-behind false number value next e = (refl, e)
 
 -- what the call promises of a listing: its length, that it is short enough, and the buffer
 abbrev pub Told : (made before after : List ℕ) → ℕ → Type 0
@@ -48,14 +41,14 @@ module _ (bytes : List ℕ) (N T H : ℕ) where
   -- one that is accepted, with so many findings
   module _ (count : ℕ) (e : findingsAnswer bytes N T H 901 ≡ gives count) where
     judged : (N ≤ 131072) × ((length (sectorsOf bytes N) ≤ 64) × (count ≡ length (findingsOf bytes N T)))
-    unfolding findingsAnswer trackJudged countJudged
+    unfolding findingsAnswer
     judged =
-        let place = behind (ltb 83 T || ltb 1 H) 1 0 _ e in
-        let cells = behind (ltb N 20000 || ltb 131072 N) 2 N _ (place .1) in
-        let room = behind (ltb (length bytes) (bytesFor N)) 3 (bytesFor N) _ (cells .1) in
-        let sectors = behind (ltb 64 (length (sectorsOf bytes N))) 4 (length (sectorsOf bytes N)) _ (room .1) in
-        let list = behind (ltb 901 (length (findingsOf bytes N T))) 5 (length (findingsOf bytes N T)) _ (sectors .1) in
-        (most-cells N (cells .0), (ltb-false 64 (length (sectorsOf bytes N)) (sectors .0), (let f = list .1 in cc)))
+        let j = judged-accepted bytes N T H (length (sectorsOf bytes N)) count _ e in
+        (j .2, (j .1, in-room (ltb 901 (length (findingsOf bytes N T))) (j .0)))
+      where
+        in-room : {k : ℕ} (b : Bool) → cond b (refused 5 k) (gives k) ≡ gives count → count ≡ k
+        in-room true f = let z : _≡_ {A = ℕ} 0 1 = cc in absurd (omega arith)
+        in-room false f = cc
 
     pub few-cells : N ≤ 131072
     few-cells = judged .0

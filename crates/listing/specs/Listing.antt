@@ -11,12 +11,12 @@ use Prim.Native.Nat.{ℕ}
 use mathlib.Core.List.{List, [], _∷_, _++_}
 use lib.ListN.{length}
 use Rattle.findings.specs.Calls.{findingsAnswer}
-use Rattle.findings.specs.Findings.{findingsOf}
-use Rattle.findings.specs.declared.Finding.{Finding}
+use Rattle.finding_list.specs.Findings.{findingsOf}
+use Rattle.finding_list.specs.declared.Finding.{Finding}
 use Rattle.lines.specs.Lines.{headerOf, findingLine, refusedLine}
 use Rattle.refusals.specs.RefusedCalls.{Answer}
 use Rattle.refusals.specs.RefusedCalls.Answer.{gives, refused}
-use Rattle.sectors.specs.Sectors.{sectorsOf}
+use Rattle.sector_records.specs.Sectors.{sectorsOf}
 
 -- a line for each finding, in the order of the findings
 unfoldable pub linesOf : List Finding → List ℕ

@@ -1,6 +1,5 @@
--- 01, "Refused calls": the number of each refusal, what it gives also, and what a call leaves in a lent buffer. A refused call leaves
--- it as it was; the reader of a track file clears its cell buffer instead. 16 and 17 are those of 02, ticket 3, which gives 10 also "for
--- room, with the timings needed". Assumes nothing.
+-- 01, "Refused calls": the number of each refusal, what it gives also, and what a call leaves in a lent buffer: a refused call leaves it as
+-- it was. 16 and 17 are those of 02, ticket 3, which has 10 also for the room of timings. Assumes nothing.
 use Prim.Native.Nat.{ℕ}
 use mathlib.Core.List.{List}
 use Rattle.basis.specs.Lists.{writtenOver}

@@ -5,7 +5,7 @@ use mathlib.Core.Bool.{Bool, cond}
 use mathlib.Core.List.{List, []}
 use lib.ListN.{length}
 use Rattle.block_listing.specs.BlockListing.{blockListing}
-use Rattle.listing.specs.Listing.{outAfter}
+use Rattle.lines.specs.Lines.{outAfter}
 use Rattle.scp_track.specs.InputRead.{InputRead}
 
 -- what is to be written of an input of which these bytes were read: where it ended there the listing, and else nothing

@@ -14,7 +14,7 @@ ghost use mathlib.Core.Path.{_≡_};
 ghost use mathlib.Core.List.{[]};
 ghost use Prim.Native.Nat.{_≤_};
 ghost use lib.ListN.{length};
-ghost use Rattle.listing.specs.Listing.{outAfter};
+ghost use Rattle.lines.specs.Lines.{outAfter};
 ghost use Rattle.scp_track.specs.Arguments.{ChoiceRead};
 ghost use Rattle.scp_track.specs.InputListing.{inputListing, ListedBlock};
 

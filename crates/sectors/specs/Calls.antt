@@ -9,9 +9,9 @@ use lib.ListN.{length, getD}
 use Rattle.cells.specs.CellsAndBytes.{cell, bytesFor}
 use Rattle.refusals.specs.RefusedCalls.{Answer, refusedWith, bufferAfter}
 use Rattle.refusals.specs.RefusedCalls.Answer.{gives, refused}
-use Rattle.sectors.specs.Sectors.{noSector, sectorsOf, kept, dataBytes}
-use Rattle.sectors.specs.declared.Sector.{Sector}
-use Rattle.sectors.specs.declared.Sectors.{Sectors}
+use Rattle.sector_records.specs.Sectors.{noSector, sectorsOf, kept, dataBytes}
+use Rattle.sector_records.specs.declared.Sector.{Sector}
+use Rattle.sector_records.specs.declared.Sectors.{Sectors}
 use Rattle.sectors.specs.declared.ReadOut.{ReadOut}
 use Rattle.sectors.specs.declared.ReadOut.the-variants.{Data, Refused}
 

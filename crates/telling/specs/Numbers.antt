@@ -8,7 +8,7 @@ use Rattle.basis.specs.Lists.{writtenOver}
 use Rattle.refusals.specs.RefusedCalls.{Answer}
 use Rattle.refusals.specs.RefusedCalls.Answer.{gives, refused}
 use Rattle.sectors.specs.Calls.{DataRead}
-use Rattle.sectors.specs.declared.Sector.{Sector}
+use Rattle.sector_records.specs.declared.Sector.{Sector}
 use Rattle.track_file.specs.TrackFile.{Content}
 
 -- the number that a call returns, whatever it gives

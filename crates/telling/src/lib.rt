@@ -3,8 +3,8 @@
 use refusals::Counted;
 use revolution_portions::RevolutionReader;
 use revolution_portions::TakenPortion;
+use sector_records::Sector;
 use sectors::ReadOut;
-use sectors::Sector;
 use separator::Taken;
 use track_file::Read;
 ghost use mathlib.Core.Path.{_≡_};

@@ -7,7 +7,7 @@ use Rattle.basis.specs.Search.{count}
 use Rattle.cells.specs.CellsAndBytes.{cell}
 use Rattle.cell_patterns.specs.Cells.{syncsBetween}
 use Rattle.cell_patterns.proofs.Syncs.{sync-found, found-within, syncs-short, syncs-none, syncs-more, syncs-all}
-use Rattle.sectors.specs.Marks.{syncAt}
+use Rattle.sector_records.specs.Marks.{syncAt}
 use Rattle.cell_patterns.proofs.syncs_between.Statement.{statement}
 use Rattle.cell_patterns.proofs.syncs_between.Tie as tie
 

@@ -3,7 +3,7 @@ use Prim.Native.Nat.{_+_, _<_}
 use native.Mathlib.Omega.{arith}
 use Rattle.cells.specs.CellsAndBytes.{cell}
 use Rattle.cell_patterns.proofs.Syncs.{syncs-few, inside-id, inside-both}
-use Rattle.sectors.specs.Sectors.{markLength, idLength}
+use Rattle.sector_records.specs.Sectors.{markLength, idLength}
 use borrow.Author.Needs.{needs}
 use Rattle.cell_patterns.proofs.syncs_inside.Statement.{statement}
 use Rattle.cell_patterns.proofs.syncs_inside.Tie as tie

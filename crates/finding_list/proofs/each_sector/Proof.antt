@@ -13,7 +13,7 @@ use Rattle.finding_list.proofs.Bounds.{row-narrow}
 use Rattle.finding_list.proofs.Looks.{row-on-sector, sector-kind}
 use Rattle.finding_list.proofs.Numbers.{joined-start, joined-next, joined-room}
 use Rattle.finding_list.proofs.Others.{length-kept, kept-sector}
-use Rattle.sectors.specs.declared.Sector.{Sector}
+use Rattle.sector_records.specs.declared.Sector.{Sector}
 use Rattle.finding_list.proofs.each_sector.Statement.{statement}
 use Rattle.finding_list.proofs.each_sector.Tie as tie
 

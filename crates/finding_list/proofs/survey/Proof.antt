@@ -5,11 +5,11 @@ use native.Mathlib.Omega.{arith}
 use denote.Ref.{now}
 use lib.ListN.{length}
 use Rattle.finding_list.proofs.Bounds.{sectors-on}
-use Rattle.finding_list.proofs.Outcome.{cells-accepted, survey-refused, survey-given}
+use Rattle.finding_list.proofs.Outcome.{survey-refused, survey-given}
 use Rattle.refusals.specs.RefusedCalls.{numberOf, valueOf, countedAnswer}
 use Rattle.refusals.specs.RefusedCalls.Answer.{gives}
 use Rattle.sectors.specs.Calls.{sectorsAnswer}
-use Rattle.sectors.specs.Sectors.{sectorsOf, kept}
+use Rattle.sector_records.specs.Sectors.{sectorsOf, kept}
 use Rattle.sectors.proofs.Calls.{list-accepted, listed-sectors}
 use borrow.Author.Needs.{needs}
 use Rattle.finding_list.proofs.survey.Statement.{statement}
@@ -42,7 +42,7 @@ all-kinds-requires c κs =
     let a = k .before .before .before .before .before .before .args in
     let l = list-accepted (now (a .bytes)) (a .n) (a .track) (a .side) (count k) (accepted k) in
     let few : length (sectorsOf (now (a .bytes)) (a .n)) ≤ 64 = omega (arith, l .0, l .1) in
-    sectors-on (now (a .bytes)) (a .n) _ (are k) few (cells-accepted (now (a .bytes)) (a .n) (a .track) (a .side) (count k) (accepted k))
+    sectors-on (now (a .bytes)) (a .n) _ (are k) few (l .2)
 
 returns : tie.Need-returns
 returns c =

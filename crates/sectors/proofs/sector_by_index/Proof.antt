@@ -6,11 +6,11 @@ use denote.Ref.{now}
 use lib.ListN.{getD}
 use Rattle.refusals.specs.RefusedCalls.{numberOf, valueOf, countedAnswer}
 use Rattle.refusals.specs.RefusedCalls.Answer.{gives}
-use Rattle.sectors.specs.Sectors.{noSector, sectorsOf}
+use Rattle.sector_records.specs.Sectors.{noSector, sectorsOf}
 use Rattle.sectors.specs.Calls.{sectorsAnswer}
-use Rattle.sectors.specs.declared.Sectors.{Sectors}
+use Rattle.sector_records.specs.declared.Sectors.{Sectors}
 use Rattle.sectors.proofs.Calls.{list-accepted, listed-sectors, index-follows, index-refused, index-given, record-refused, record-given}
-use Rattle.sectors.proofs.Kept.{kept-at}
+use Rattle.sector_records.proofs.Kept.{kept-at}
 use borrow.Author.Needs.{needs}
 use Rattle.sectors.proofs.sector_by_index.Statement.{statement}
 use Rattle.sectors.proofs.sector_by_index.Tie as tie

@@ -40,9 +40,9 @@ use denote.Exit.{yes}
 use Rattle.basis.proofs.Walks.{says-both}
 use Rattle.refusals.specs.RefusedCalls.{countedAnswer}
 use Rattle.findings.specs.Calls.{findingsAnswer, listAfter}
-use Rattle.findings.specs.declared.Finding.{Finding}
+use Rattle.finding_list.specs.declared.Finding.{Finding}
 use Rattle.refusals.specs.declared.Counted.{Counted}
-use Rattle.findings.proofs.Finding as T
+use Rattle.finding_list.proofs.Finding as T
 use Rattle.refusals.proofs.Counted as N
 use Rattle.refusals.proofs.Counted.Laws as N′
 use Rattle.findings.proofs.findings as findings

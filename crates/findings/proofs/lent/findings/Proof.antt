@@ -68,7 +68,7 @@ use Rattle.findings.proofs.Planned.Laws as P′
 use Rattle.refusals.proofs.Counted as N
 use Rattle.refusals.proofs.Counted.Laws as N′
 use Rattle.basis.proofs.Walks.{says-both}
-use Rattle.sectors.specs.Sectors.{sectorsOf}
+use Rattle.sector_records.specs.Sectors.{sectorsOf}
 use Rattle.findings.proofs.Lending.{R, r-vals, counted-vals, Answers}
 use Rattle.findings.proofs.Records.{filled, length-filled, list-is}
 use Rattle.findings.proofs.plan as plan
