@@ -238,12 +238,13 @@ uint32_t thikbromu_finding_records(const uint8_t *bytes, size_t length, size_t n
  *
  * Refusals of a file: as soon as a count is read, 15 for a place count that is not 2, then 2 for more than 131,072 cells, then 7 for more
  * than 65,536 timings, whatever follows the count. After these 15, for a file that is cut short, has bytes left over, or has both or
- * neither of cells and timings. Then 8 and 9 for its timings.
+ * neither of cells and timings. Then 8 and 9 for its timings. Both routines read the cells into 16,384 bytes of the stack first.
  */
 
-/* The cells of a file, packed at the front of `cells`; bytes behind them keep their contents. Gives the number of cells, and stores the
- * track and the side at the front of `place`, or as many of the two as there is room for. Refuses a file as above, and then 10, with the
- * bytes that its cells need. The track, the side and fewer than 20,000 cells are not judged here: the routines on a track do that. */
+/* The cells of a file, packed at the front of `cells`; bytes behind them keep their contents. Unused bits of the last byte are the file's,
+ * and 0 where the cells come from timings. Gives the number of cells, and stores the track and the side at the front of `place`, or as many
+ * of the two as there is room for. Refuses a file as above, and then 10, with the bytes that its cells need. The track, the side and fewer
+ * than 20,000 cells are not judged here: the routines on a track do that. */
 uint32_t thikbromu_file_cells(const uint8_t *file, size_t length, uint8_t *cells, size_t room, uint32_t *place, size_t places,
                               size_t *value);
 

@@ -478,9 +478,10 @@ pub fn finding_records(
     })
 }
 
-/// The cells of a track file, packed at the front of `cells`; bytes behind them keep their contents. Gives the number of cells, and stores
-/// the track and the side at the front of `place`, or as many of the two as there is room for. [`TrackFile`](crate::TrackFile) says what a
-/// track file is.
+/// The cells of a track file, packed at the front of `cells`; bytes behind them keep their contents. Unused bits of the last byte are the
+/// file's, and 0 where the cells come from timings. Gives the number of cells, and stores the track and the side at the front of `place`,
+/// or as many of the two as there is room for. [`TrackFile`](crate::TrackFile) says what a track file is. The cells are first read into
+/// 16,384 bytes of the stack.
 ///
 /// Refuses as soon as a count is read [`NotATrackFile`](Refusal::NotATrackFile) for a place count that is not 2,
 /// [`CellCount`](Refusal::CellCount) for more than 131,072 cells, [`TooManyTimings`](Refusal::TooManyTimings) for more than 65,536 timings;

@@ -67,8 +67,8 @@ fn a_residual_is_kept_beside_a_refusal() {
 fn cells_and_a_place_of_any_room() {
     let mut file = STANDARD.to_vec();
     (file[4], file[5]) = (84, 2);
-    for (room, places) in [0, 1, 12_499, 12_500, 12_501, 16_384].into_iter().flat_map(|room| (0..4).map(move |places| (room, places)))
-    {
+    let rooms = [0, 1, 12_499, 12_500, 12_501, 16_384].into_iter();
+    for (room, places) in rooms.flat_map(|room| (0..4).map(move |places| (room, places))) {
         let (mut cells, mut place) = (vec![7; room], vec![7; places]);
         let read = file_cells(&file, &mut cells, &mut place);
         if room < 12_500 {

@@ -38,9 +38,15 @@ fn expected_cells(second: &Result<TrackCells, Refusal>, room: usize) -> (Result<
     }
 }
 
-/// The cells of a file over the export: what it answers, and the cells, the place and the file afterwards, the first two with their margins.
+/// The cells of a file over the export: what it answers, and the file, the cells and the place afterwards, the last two with their margins.
 /// Beside a refusal nothing is written to them.
-fn cells_case(group: &mut Group, file: &[u8], second: &Result<TrackCells, Refusal>, room: usize, places: usize, given: impl Fn() -> String) {
+fn cells_case(
+    group: &mut Group,
+    file: &[u8],
+    second: &Result<TrackCells, Refusal>,
+    (room, places): (usize, usize),
+    given: impl Fn() -> String,
+) {
     let passed = file.to_vec();
     let (mut cells, mut place) = (Lent::new(room), Lent::new(places));
     let ours = answer(file_cells(&passed, cells.part(), place.part()));
@@ -92,10 +98,10 @@ pub fn in_memory(report: &mut Report) {
             let exact = second.as_ref().is_ok_and(|track| track.bytes.len() == room);
             if exact || room == ROOM {
                 for places in 0..4 {
-                    cells_case(&mut group, bytes, &second, room, places, given);
+                    cells_case(&mut group, bytes, &second, (room, places), given);
                 }
             } else {
-                cells_case(&mut group, bytes, &second, room, places.next().expect("lengths without end"), given);
+                cells_case(&mut group, bytes, &second, (room, places.next().expect("lengths without end")), given);
             }
         }
         group.same(answer(TrackFile::new(bytes).cells()).map(read_cells_of), second.clone(), given);
@@ -186,7 +192,7 @@ pub fn short_rooms(report: &mut Report) {
         let around = needed.saturating_sub(9)..needed + 9;
         for room in (0..9).chain(around).chain([ROOM - 1, ROOM, ROOM + 1, 2 * ROOM]) {
             for places in 0..4 {
-                cells_case(&mut group, file, &second, room, places, || name.to_string());
+                cells_case(&mut group, file, &second, (room, places), || name.to_string());
             }
         }
         for room in listing_rooms(listing(file).len()) {
@@ -195,25 +201,29 @@ pub fn short_rooms(report: &mut Report) {
     }
     // Longer than any file: the answers are those of the first bytes, one more than the longest has.
     for (count, timings) in [(131_072, 65_536), (131_072, 65_537), (131_072, 0), (0, 65_536), (131_073, 0), (8, 1)] {
+        let packed = vec![0x11; bytes_needed(count.min(131_072) as usize)];
+        let plan = FilePlan { cell_count: count, flux_count: timings, ..FilePlan::of_cells(3, 1, 0, &packed) };
         for more in [0, 1, 2, 4_096] {
-            let plan = FilePlan { cell_count: count, flux_count: timings, ..FilePlan::of_cells(3, 1, 0, &vec![0x11; bytes_needed(count.min(131_072) as usize)]) };
             let mut file = plan.bytes();
             file.resize(LONGEST_FILE + more, 0x22);
             let second = read_cells(&file);
             let front = &file[..file.len().min(LONGEST_FILE + 1)];
             let given = || format!("{count} cells, {timings} timings, {more} more bytes than any file");
             group.same(read_cells(front), second.clone(), given);
-            cells_case(&mut group, &file, &second, ROOM, 2, given);
-            cells_case(&mut group, front, &second, ROOM, 2, given);
+            cells_case(&mut group, &file, &second, (ROOM, 2), given);
+            cells_case(&mut group, front, &second, (ROOM, 2), given);
             listing_case(&mut group, front, &listing(&file), LISTING, given);
         }
     }
-    // Any bytes, and few.
+    // Few bytes, and any, for the most part after a place count of 2.
     for _ in 0..2_000 {
-        let file: Vec<u8> = (0..random.below(40)).map(|i| if i < 4 && !random.one_in(9) { [2, 0, 0, 0][i as usize] } else { random.byte() & random.byte() & random.byte() }).collect();
+        let mut file: Vec<u8> = (0..random.below(40)).map(|_| random.byte() & random.byte() & random.byte()).collect();
+        if file.len() >= 4 && !random.one_in(9) {
+            file[..4].copy_from_slice(&[2, 0, 0, 0]);
+        }
         let second = read_cells(&file);
-        let room = random.below(40) as usize;
-        cells_case(&mut group, &file, &second, room, random.below(4) as usize, || format!("{file:02X?}"));
+        let rooms = (random.below(40) as usize, random.below(4) as usize);
+        cells_case(&mut group, &file, &second, rooms, || format!("{file:02X?}"));
     }
     group.close(report);
 }

@@ -260,8 +260,8 @@ fn program_that_may_fail() -> Command {
     command
 }
 
-/// Inputs through stream sockets that end, and inputs that fail once and then end: of these nothing is listed, however much was read, unless
-/// a count was refused, after which nothing more is read.
+/// Inputs through stream sockets that end, and inputs that fail once and then end: of these nothing is listed, however much was read,
+/// unless a count was refused, after which nothing more is read.
 pub fn failing_inputs(report: &mut Report) {
     let mut group = Group::new("the program on inputs that fail");
     sockets_as_expected(&mut group);
