@@ -9,7 +9,7 @@ use lib.ListN.{getD}
 use lib.Pow.{pow-add, low, split, field, mod-mod-pow}
 use Rattle.basis.specs.Search.{least}
 use Rattle.basis.proofs.Search.{least-step}
-use Rattle.cells.specs.CellsAndBytes.{cellAt, cell, word, wordAt, stands, leastPlace}
+use Rattle.cells.specs.CellsAndBytes.{cellAt, cell, word, stands, leastPlace}
 use Rattle.cells.specs.PrivateContracts.{Skipped}
 use Rattle.cells.proofs.InBytes.{word-of-byte, word-middle}
 use Rattle.cells.proofs.Places.{cell-lt, cell-is, after-low}

@@ -6,13 +6,14 @@ use mir.Val.{Val}
 use denote.RattleType.{RattleType}
 use denote.Struct.Laws as LL
 use denote.Enum.Laws as EL
-use Rattle.findings.specs.Calls.{foundAnswer, findingsAnswer}
-use Rattle.findings.specs.declared.Finding.{Finding}
-use Rattle.findings.specs.declared.Found.{Found}
-use Rattle.findings.proofs.Finding as T
-use Rattle.findings.proofs.Finding.Laws as T′
-use Rattle.findings.proofs.Found as N
-use Rattle.findings.proofs.Found.Laws as N′
+use Rattle.findings.specs.Calls.{findingsAnswer}
+use Rattle.finding_list.specs.declared.Finding.{Finding}
+use Rattle.finding_list.proofs.Finding as T
+use Rattle.finding_list.proofs.Finding.Laws as T′
+use Rattle.refusals.specs.RefusedCalls.{countedAnswer}
+use Rattle.refusals.specs.declared.Counted.{Counted}
+use Rattle.refusals.proofs.Counted as N
+use Rattle.refusals.proofs.Counted.Laws as N′
 
 -- a finding as the machine has it
 abbrev pub R : RattleType
@@ -21,9 +22,9 @@ R = T.the-row
 abbrev pub r-vals : Finding → List Val
 r-vals = LL.vals T.the-type T′.the-laws
 
-abbrev pub found-vals : Found → List Val
-found-vals = EL.vals N.the-type N′.the-laws
+abbrev pub counted-vals : Counted → List Val
+counted-vals = EL.vals N.the-type N′.the-laws
 
 -- the promise on the answer of the call, for a list with room for `room` findings
-abbrev pub Answers : List ℕ → (cells track side room : ℕ) → Found → Type 0
-Answers bytes cells track side room r = foundAnswer r ≡ findingsAnswer bytes cells track side room
+abbrev pub Answers : List ℕ → (cells track side room : ℕ) → Counted → Type 0
+Answers bytes cells track side room r = countedAnswer r ≡ findingsAnswer bytes cells track side room

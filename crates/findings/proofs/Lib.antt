@@ -1,13 +1,3 @@
-pub mod Bounds
-pub mod MostFindings
-pub mod Laws
 pub mod Lending
-pub mod Members
-pub mod Numbers
-pub mod Others
 pub mod Outcome
 pub mod Records
-pub mod Rows
-pub mod Runs
-pub mod Syncs
-pub mod Table

@@ -1,92 +1,85 @@
--- From the sectors of a track to the answer of the call and what goes to the list. Assumes nothing.
+-- From the survey of a track to the answer of the call and what goes to the list. Assumes nothing.
 use Prim.Native.Nat.{ℕ, _*_, _<_, _≤_}
 use mathlib.Core.Path.{_≡_, refl, sym, ap, _∙_}
 use mathlib.Core.Bool.{Bool, true, false, cond, _||_}
-use mathlib.Core.List.{List, [], _++_}
+use mathlib.Core.List.{List, _++_}
 use native.Mathlib.Omega.{arith}
 use borrow.Author.Tests.{lt-ltb, le-ltb}
 use lib.Dec.{ltb}
 use lib.ListN.{length, take, drop, length-take}
-use lib.Seq.{take-all}
-use Rattle.basis.specs.Lists.{joined}
-use Rattle.cells.specs.CellsAndBytes.{cell, bytesFor}
-use Rattle.findings.specs.Calls.{findingsAnswer, numbersOf}
-use Rattle.findings.specs.Findings.{levels, found, ofKind, findingsOf}
-use Rattle.findings.specs.PrivateContracts.{countWritten, kinds, sectorsIn, Added}
-use Rattle.findings.specs.declared.Finding.{Finding}
-use Rattle.findings.proofs.Bounds.{sectors-kept}
-use Rattle.findings.proofs.MostFindings.{few-findings}
-use Rattle.findings.proofs.Numbers.{length-numbers}
+use lib.Seq.{take-all, take-at}
+use Rattle.cells.specs.CellsAndBytes.{bytesFor}
+use Rattle.finding_list.specs.Calls.{surveyAnswer, sectorsGiven, numbersOf, arrayAfter}
+use Rattle.finding_list.specs.Findings.{findingsOf}
+use Rattle.finding_list.specs.declared.Finding.{Finding}
+use Rattle.finding_list.proofs.Numbers.{length-numbers}
+use Rattle.finding_list.proofs.Outcome.{findings-few, survey-accepted}
+use Rattle.findings.specs.Calls.{findingsAnswer}
+use Rattle.findings.specs.PrivateContracts.{countWritten}
 use Rattle.refusals.specs.RefusedCalls.{Answer, bufferAfter}
 use Rattle.refusals.specs.RefusedCalls.Answer.{gives, refused}
-use Rattle.sectors.specs.Calls.{trackJudged, countJudged, sectorsAnswer}
-use Rattle.sectors.specs.Sectors.{sectorsOf, kept}
-use Rattle.sectors.specs.declared.Sectors.{Sectors}
-use Rattle.sectors.proofs.Calls.{most-cells, Follows, follows-given, follows-track, follows-count}
+use Rattle.sectors.specs.Calls.{trackJudged, countJudged}
+use Rattle.sector_records.specs.Sectors.{sectorsOf}
+use Rattle.sectors.proofs.Calls.{judged-accepted, Follows, follows-given, follows-track, follows-count}
 
-module _ (bytes : List ℕ) (N T H : ℕ) where
-  -- the findings are judged after the sectors
-  pub findings-follow : (room : ℕ)
-      → Follows (sectorsAnswer bytes N T H) (findingsAnswer bytes N T H room)
-      (cond (ltb room (length (findingsOf bytes N T))) (refused 5 (length (findingsOf bytes N T))) (gives (length (findingsOf bytes N T))))
-  unfolding sectorsAnswer findingsAnswer
-  findings-follow room =
-      follows-track _ _ _ (follows-count _ _ _ (follows-given (length (sectorsOf bytes N)) _) (length (sectorsOf bytes N))) bytes N T H
+-- what the call answers where the survey is accepted
+abbrev pub judgedRoom : (room findings : ℕ) → Answer ℕ
+judgedRoom room findings = cond (ltb room findings) (refused 5 findings) (gives findings)
 
-  -- an accepted track has at most 131,072 cells
-  pub cells-accepted : (m : ℕ) → sectorsAnswer bytes N T H ≡ gives m → N ≤ 131072
-  unfolding sectorsAnswer trackJudged
-  cells-accepted m e = go _ (ltb 83 T || ltb 1 H) (ltb N 20000 || ltb 131072 N) refl e
-    where
-      go : (next : Answer ℕ) (b c : Bool) → (ltb N 20000 || ltb 131072 N) ≡ c → cond b (refused 1 0) (cond c (refused 2 N) next) ≡ gives m → N ≤ 131072
-      go next true c f g = let z : _≡_ {A = ℕ} 0 1 = cc in absurd (omega arith)
-      go next false true f g = let z : _≡_ {A = ℕ} 0 1 = cc in absurd (omega arith)
-      go next false false f g = most-cells N f
+-- what `plan` promises of a plan
+abbrev pub Plans : List ℕ → (N T H room : ℕ) → Answer ℕ → (count sectors : ℕ) → (numbers : List ℕ) → Type 0
+Plans bytes N T H room answer count sectors numbers =
+    (answer ≡ findingsAnswer bytes N T H room)
+    × (((count ≡ countWritten (findingsAnswer bytes N T H room)) × (sectors ≡ sectorsGiven (findingsAnswer bytes N T H room) (length (sectorsOf bytes N))))
+    × ((take (4 * count) numbers ≡ numbersOf (take count (findingsOf bytes N T))) × ((count ≤ 901) × (count ≤ room))))
 
-  -- refusal 5, and acceptance
-  module _ (m : ℕ) (e : sectorsAnswer bytes N T H ≡ gives m) (room : ℕ) where
-    pub list-too-short : room < length (findingsOf bytes N T) → refused 5 (length (findingsOf bytes N T)) ≡ findingsAnswer bytes N T H room
-    list-too-short h = rw (findings-follow room .accepted m e, lt-ltb room (length (findingsOf bytes N T)) h)
-
-    pub list-in-room : length (findingsOf bytes N T) ≤ room → gives (length (findingsOf bytes N T)) ≡ findingsAnswer bytes N T H room
-    list-in-room h = rw (findings-follow room .accepted m e, le-ltb room (length (findingsOf bytes N T)) h)
-
--- the survey of a track's sectors gives its findings
-module _ (bytes : List ℕ) (N T : ℕ) (ss : Sectors) (are : ss ≡ kept (sectorsOf bytes N)) (few : length (sectorsOf bytes N) ≤ 64) where
-  pub surveyed : (numbers : List ℕ) (count : ℕ) → Added [] 0 (joined (ofKind (found (cell bytes N) N T (sectorsIn ss))) kinds) numbers count
-      → Added [] 0 (findingsOf bytes N T) numbers count
-  unfolding findingsOf levels
-  surveyed numbers count added = rw (sectors-kept bytes N ss are few) at added
-
-pub findings-few : (bytes : List ℕ) (N T : ℕ) → length (sectorsOf bytes N) ≤ 64 → length (findingsOf bytes N T) ≤ 901
-unfolding findingsOf levels
-findings-few bytes N T few = few-findings (cell bytes N) N T (sectorsOf bytes N) few
-
--- what `plan` promises: beside a refusal nothing is to be written, else all findings
 module _ (bytes : List ℕ) (N T H room : ℕ) where
-  pub plan-refused : (number value : ℕ) → refused number value ≡ findingsAnswer bytes N T H room
-      → (refused number value ≡ findingsAnswer bytes N T H room)
-      × ((0 ≡ countWritten (findingsAnswer bytes N T H room)) × ((_≡_ {A = List ℕ} [] (numbersOf [])) × ((0 ≤ 901) × (0 ≤ room))))
+  -- the room is judged after the survey
+  pub findings-follow : Follows (surveyAnswer bytes N T H) (findingsAnswer bytes N T H room) (judgedRoom room (length (findingsOf bytes N T)))
+  unfolding surveyAnswer findingsAnswer
+  findings-follow =
+      follows-track _ _ _ (follows-count _ _ _ (follows-given (length (findingsOf bytes N T)) _) (length (sectorsOf bytes N))) bytes N T H
+
+  -- beside a refusal nothing is to be written
+  pub plan-refused : (number value : ℕ) → refused number value ≡ findingsAnswer bytes N T H room → (answer : Answer ℕ) (count sectors : ℕ) (numbers : List ℕ)
+      → answer ≡ refused number value → count ≡ 0 → sectors ≡ 0 → Plans bytes N T H room answer count sectors numbers
   unfolding numbersOf
-  plan-refused number value e = (e, (ap countWritten e, (refl, (omega arith, omega arith))))
+  plan-refused number value e answer count sectors numbers a c s = rw (← e, a, c, s) (refl, ((refl, refl), (refl, (omega arith, omega arith))))
 
-  module _ (m : ℕ) (e : sectorsAnswer bytes N T H ≡ gives m) (few : length (sectorsOf bytes N) ≤ 64) (numbers : List ℕ) (count : ℕ) (added : Added [] 0 (findingsOf bytes N T) numbers count) where
-    pub plan-too-short : room < count
-        → (refused 5 count ≡ findingsAnswer bytes N T H room)
-        × ((0 ≡ countWritten (findingsAnswer bytes N T H room)) × ((_≡_ {A = List ℕ} [] (numbersOf [])) × ((0 ≤ 901) × (0 ≤ room))))
-    plan-too-short h =
-        let is : count ≡ length (findingsOf bytes N T) = omega (arith, added .count) in
-        plan-refused 5 count (rw is (list-too-short bytes N T H m e room (omega arith)))
+  -- else all findings, or refusal 5
+  module _ (m : ℕ) (e : surveyAnswer bytes N T H ≡ gives m) where
+    all-there : m ≡ length (findingsOf bytes N T)
+    all-there = survey-accepted bytes N T H m e .0
 
-    pub plan-in-room : count ≤ room
-        → (gives count ≡ findingsAnswer bytes N T H room)
-        × ((count ≡ countWritten (findingsAnswer bytes N T H room))
-        × ((take (4 * count) numbers ≡ numbersOf (take count (findingsOf bytes N T))) × ((count ≤ 901) × (count ≤ room))))
-    plan-in-room h =
+    pub list-too-short : room < m → refused 5 m ≡ findingsAnswer bytes N T H room
+    list-too-short h = rw (findings-follow .accepted m e, ← all-there, lt-ltb room m h)
+
+    pub list-in-room : m ≤ room → gives m ≡ findingsAnswer bytes N T H room
+    list-in-room h = rw (findings-follow .accepted m e, ← all-there, le-ltb room m h)
+
+    pub plan-in-room : m ≤ room → (sectors : ℕ) → sectors ≡ sectorsGiven (surveyAnswer bytes N T H) (length (sectorsOf bytes N))
+        → (array numbers : List ℕ) → numbers ≡ arrayAfter (surveyAnswer bytes N T H) (findingsOf bytes N T) array
+        → Plans bytes N T H room (gives m) m sectors numbers
+    plan-in-room h sectors s array numbers n =
         let fs = findingsOf bytes N T in
-        let is : count ≡ length fs = omega (arith, added .count) in
-        let g : gives count ≡ findingsAnswer bytes N T H room = rw is (list-in-room bytes N T H m e room (omega arith)) in
-        (g, (ap countWritten g, (added .front ∙ ap numbersOf (sym (take-all count fs (omega arith))), (omega (arith, findings-few bytes N T few), h))))
+        let g = list-in-room h in
+        let long : length (numbersOf fs) ≡ 4 * m = length-numbers fs ∙ rw (← all-there) in
+        let front : take (4 * m) numbers ≡ numbersOf fs = rw (n, e) (take-at (numbersOf fs) _ (4 * m) long) in
+        rw (← g) (refl, ((refl, s ∙ rw e), (front ∙ ap numbersOf (sym (take-all m fs (omega (arith, all-there)))), (survey-accepted bytes N T H m e .1, h))))
+
+-- an accepted call gives the number of findings, at most 901, of a track of at most 131,072 cells with at most 64 sectors
+pub findings-accepted : (bytes : List ℕ) (N T H room m : ℕ) → findingsAnswer bytes N T H room ≡ gives m
+    → (m ≡ length (findingsOf bytes N T)) × (m ≤ 901) × (length (sectorsOf bytes N) ≤ 64) × (N ≤ 131072)
+unfolding findingsAnswer
+findings-accepted bytes N T H room m e =
+    let k = length (findingsOf bytes N T) in
+    let j = judged-accepted bytes N T H (length (sectorsOf bytes N)) m (judgedRoom room k) e in
+    let s = given (ltb room k) (j .0) in
+    (s, rw s (findings-few bytes N T (j .1)), j .1, j .2)
+  where
+    given : (b : Bool) → cond b (refused 5 (length (findingsOf bytes N T))) (gives (length (findingsOf bytes N T))) ≡ gives m → m ≡ length (findingsOf bytes N T)
+    given true g = let z : _≡_ {A = ℕ} 0 1 = cc in absurd (omega arith)
+    given false g = cc
 
 -- an answer gives k or refuses
 data Judged (k : ℕ) : Answer ℕ → Type 0 where

@@ -2,23 +2,16 @@
 -- rest stays". Assumes nothing.
 use Prim.Native.Nat.{ℕ, _/_}
 use mathlib.Core.Bool.{cond}
-use mathlib.Core.List.{List, [], _∷_, _++_}
+use mathlib.Core.List.{List}
 use lib.Dec.{ltb}
 use lib.ListN.{length}
-use Rattle.refusals.specs.RefusedCalls.{Answer, refusedWith, bufferAfter}
+use Rattle.refusals.specs.RefusedCalls.{Answer, bufferAfter}
 use Rattle.refusals.specs.RefusedCalls.Answer.{gives, refused}
-use Rattle.findings.specs.Findings.{findingsOf}
-use Rattle.findings.specs.declared.Finding.{Finding}
-use Rattle.findings.specs.declared.Found.{Found}
-use Rattle.findings.specs.declared.Found.the-variants.{Count}
-use Rattle.findings.specs.declared.Found.the-variants.{Refused as FoundRefused}
+use Rattle.finding_list.specs.Calls.{numbersOf}
+use Rattle.finding_list.specs.Findings.{findingsOf}
+use Rattle.finding_list.specs.declared.Finding.{Finding}
 use Rattle.sectors.specs.Calls.{trackJudged, countJudged}
-use Rattle.sectors.specs.Sectors.{sectorsOf}
-
--- an answer of the call, in 01's numbers
-abbrev pub foundAnswer : Found → Answer ℕ
-foundAnswer (Count count) = gives count
-foundAnswer (FoundRefused refusal) = refusedWith refusal
+use Rattle.sector_records.specs.Sectors.{sectorsOf}
 
 -- refusals 1 to 5, for a list with room for `room` findings, and else their number
 unfoldable pub findingsAnswer : List ℕ → (N T H room : ℕ) → Answer ℕ
@@ -30,11 +23,6 @@ findingsAnswer bytes N T H room =
 -- the caller's list of finding records afterwards
 abbrev pub listAfter : List ℕ → (N T H : ℕ) → List Finding → List Finding
 listAfter bytes N T H list = bufferAfter (findingsAnswer bytes N T H (length list)) (findingsOf bytes N T) list
-
--- findings as numbers, four for each: kind, level, place, detail
-unfoldable pub numbersOf : List Finding → List ℕ
-numbersOf [] = []
-numbersOf (x ∷ xs) = (x .kind ∷ x .level ∷ x .place ∷ x .detail ∷ []) ++ numbersOf xs
 
 -- a list of numbers afterwards, with room for a quarter as many findings
 abbrev pub numbersAfter : List ℕ → (N T H : ℕ) → List ℕ → List ℕ

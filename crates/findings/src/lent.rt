@@ -1,17 +1,18 @@
 // The findings of a track in the caller's list of finding records.
-use crate::Finding;
-use crate::Found;
 use crate::finding_at;
 use crate::plan;
-use crate::survey::NUMBERS;
+use finding_list::Finding;
+use finding_list::NUMBERS;
+use refusals::Counted;
 ghost use mathlib.Core.Path.{_≡_};
 ghost use lib.ListN.{length};
-ghost use Rattle.findings.specs.Calls.{foundAnswer, findingsAnswer, listAfter};
+ghost use Rattle.findings.specs.Calls.{findingsAnswer, listAfter};
+ghost use Rattle.refusals.specs.RefusedCalls.{countedAnswer};
 
 // The findings of a track of n cells, packed in `bytes`, at the front of the list; the rest stays. `track` and `side` are the
 // drive's. All is decided by `plan`, on numbers: what a finding is never stands in this function.
-pub fn findings(bytes: &[u8], n: usize, track: u32, side: u32, list: &mut [Finding]) -> Found
-    ensures answer { λ r. ⌜ foundAnswer r ≡ findingsAnswer (now (bytes .entry)) n track side (length (now (list .entry))) ⌝ }
+pub fn findings(bytes: &[u8], n: usize, track: u32, side: u32, list: &mut [Finding]) -> Counted
+    ensures answer { λ r. ⌜ countedAnswer r ≡ findingsAnswer (now (bytes .entry)) n track side (length (now (list .entry))) ⌝ }
     ensures list { λ _. ⌜ now (list .exit) ≡ listAfter (now (bytes .entry)) n track side (now (list .entry)) ⌝ }
 {
     let mut numbers: [u32; NUMBERS] = [0; NUMBERS];

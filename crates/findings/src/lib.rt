@@ -1,54 +1,44 @@
-// The copy-protection findings of a track: 01's 21 kinds, ordered by kind, then place.
-mod cell_rules;
+// The copy-protection findings of a track in the caller's list: 01's 21 kinds, ordered by kind, then place.
 mod lent;
-mod rules;
-mod survey;
 
+pub use finding_list::Finding;
+pub use finding_list::Found;
+use finding_list::NUMBERS;
 pub use lent::findings;
+use refusals::Counted;
 use refusals::Refusal;
-use sectors::Listed;
-use survey::NUMBERS;
 ghost use mathlib.Core.Path.{_≡_};
 ghost use Prim.Native.Nat.{_+_, _*_, _/_, _%_, _<_, _≤_};
-ghost use mathlib.Core.List.{_++_};
-ghost use lib.ListN.{length, take, drop};
-ghost use Rattle.findings.specs.Calls.{foundAnswer, findingsAnswer, numbersOf, numbersAfter};
-ghost use Rattle.findings.specs.Findings.{findingsOf};
+ghost use lib.ListN.{length, take};
+ghost use Rattle.finding_list.specs.Calls.{sectorsGiven, numbersOf};
+ghost use Rattle.finding_list.specs.Findings.{findingsOf};
+ghost use Rattle.findings.specs.Calls.{findingsAnswer, numbersAfter};
 ghost use Rattle.findings.specs.PrivateContracts.{countWritten, findingAt};
-
-// A finding: its kind from 1 to 21, the kind's level, its place in cells, and its detail.
-#[repr(C)]
-pub struct Finding {
-    pub kind: u8,
-    pub level: u8,
-    pub place: u32,
-    pub detail: u32,
-}
-
-// The number of findings, or a refusal.
-pub enum Found {
-    Count(usize),
-    Refused(Refusal),
-}
+ghost use Rattle.refusals.specs.RefusedCalls.{refusedWith, countedAnswer};
+ghost use Rattle.sector_records.specs.Sectors.{sectorsOf};
 
 // The findings of a track of n cells, packed in `bytes`, as numbers at the front of the list: kind, level, place and detail of each.
 // `track` and `side` are the drive's.
 pub fn findings_as_numbers(bytes: &[u8], n: usize, track: u32, side: u32, list: &mut [u32]) -> Found
-    ensures answer { λ r. ⌜ foundAnswer r ≡ findingsAnswer (now (bytes .entry)) n track side (length (now (list .entry)) / 4) ⌝ }
+    ensures answer { λ r. ⌜ countedAnswer (r .answer) ≡ findingsAnswer (now (bytes .entry)) n track side (length (now (list .entry)) / 4) ⌝ }
+    ensures sectors { λ r. ⌜ r .sectors ≡ sectorsGiven (findingsAnswer (now (bytes .entry)) n track side (length (now (list .entry)) / 4)) (length (sectorsOf (now (bytes .entry)) n)) ⌝ }
     ensures list { λ _. ⌜ now (list .exit) ≡ numbersAfter (now (bytes .entry)) n track side (now (list .entry)) ⌝ }
 {
     let mut numbers: [u32; NUMBERS] = [0; NUMBERS];
     let room = list.len() / 4;
     let planned = plan(&mut numbers, bytes, n, track, side, room);
     basis::copy_numbers(&numbers[..4 * planned.count], list);
-    planned.answer
+    let sectors = planned.sectors;
+    let answer = planned.answer;
+    Found { sectors, answer }
 }
 
-// What is to be done with a list that has room for so many findings: how many of the numbers go there, none beside a refusal, and the
-// answer.
+// What is to be done with a list that has room for so many findings: how many of the numbers go there, none beside a refusal, the
+// answer, and the number of sectors.
 struct Planned {
     pub count: usize,
-    pub answer: Found,
+    pub answer: Counted,
+    pub sectors: usize,
 }
 
 // The findings as numbers, and the plan for a list with room for `room` findings. 3,604 numbers are enough: with 64 sectors there are at
@@ -61,32 +51,37 @@ fn plan(
     side: u32,
     room: usize,
 ) -> Planned
-    ensures answer { λ r. ⌜ foundAnswer (r .answer) ≡ findingsAnswer (now (bytes .entry)) n track side room ⌝ }
-    ensures count { λ r. ⌜ r .count ≡ countWritten (findingsAnswer (now (bytes .entry)) n track side room) ⌝ }
+    ensures answer { λ r. ⌜ countedAnswer (r .answer) ≡ findingsAnswer (now (bytes .entry)) n track side room ⌝ }
+    ensures counts { λ r. ⌜ (r .count ≡ countWritten (findingsAnswer (now (bytes .entry)) n track side room)) × (r .sectors ≡ sectorsGiven (findingsAnswer (now (bytes .entry)) n track side room) (length (sectorsOf (now (bytes .entry)) n))) ⌝ }
     ensures numbers { λ r. ⌜ take (4 * r .count) (now (numbers .exit)) ≡ numbersOf (take (r .count) (findingsOf (now (bytes .entry)) n track)) ⌝ }
     ensures bounds { λ r. ⌜ (r .count ≤ 901) × (r .count ≤ room) ⌝ }
 {
-    let listed = sectors::sectors_of(bytes, n, track, side);
-    let ss = listed.sectors;
-    let answer = listed.answer;
+    let found = finding_list::survey(numbers, bytes, n, track, side);
+    let sectors = found.sectors;
+    let answer = found.answer;
     match answer {
-        Listed::Refused(refusal) => Planned {
-            count: 0,
-            answer: Found::Refused(refusal),
-        },
-        Listed::Count(_) => {
-            let count = survey::survey(numbers, bytes, n, track, ss);
+        Counted::Refused(refusal) => nothing_planned(refusal),
+        Counted::Count(count) => {
             if room < count {
-                return Planned {
-                    count: 0,
-                    answer: Found::Refused(Refusal::ListTooShort(count)),
-                };
+                return nothing_planned(Refusal::ListTooShort(count));
             }
             Planned {
                 count,
-                answer: Found::Count(count),
+                answer: Counted::Count(count),
+                sectors,
             }
         }
+    }
+}
+
+// Nothing goes to the list beside a refusal.
+fn nothing_planned(refusal: Refusal) -> Planned
+    ensures { λ r. ⌜ (countedAnswer (r .answer) ≡ refusedWith refusal) × (r .count ≡ 0) × (r .sectors ≡ 0) ⌝ }
+{
+    Planned {
+        count: 0,
+        answer: Counted::Refused(refusal),
+        sectors: 0,
     }
 }
 

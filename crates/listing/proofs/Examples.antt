@@ -2,9 +2,10 @@
 use mathlib.Core.Path.{_≡_, refl}
 use mathlib.Core.List.{[], _∷_, _++_}
 use Rattle.findings.specs.Calls.{findingsAnswer}
-use Rattle.findings.specs.declared.Finding.{Finding}
+use Rattle.finding_list.specs.declared.Finding.{Finding}
 use Rattle.sectors.specs.Calls.{trackJudged}
-use Rattle.listing.specs.Listing.{bytesOf, digit, digitsWithin, decimalOf, twoDigits, names, nameOf, headerOf, findingLine, refusedLine, linesOf, printed, listingOf}
+use Rattle.lines.specs.Lines.{bytesOf, digit, digitsWithin, decimalOf, twoDigits, names, nameOf, headerOf, findingLine, refusedLine}
+use Rattle.listing.specs.Listing.{linesOf, printed, listingOf}
 
 -- the findings of 01's examples
 abbrev nos : Finding

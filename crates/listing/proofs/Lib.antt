@@ -1,9 +1,4 @@
-pub mod Digits
 pub mod Examples
 pub mod Laws
-pub mod Lengths
 pub mod Lines
-pub mod Names
 pub mod Track
-pub mod Whole
-pub mod Writing

@@ -6,11 +6,12 @@ use native.Mathlib.Omega.{arith}
 use lib.ListN.{length}
 use Rattle.basis.specs.Lists.{joined}
 use Rattle.basis.proofs.Joined.{joined-more}
-use Rattle.findings.specs.Calls.{numbersOf}
-use Rattle.findings.specs.declared.Finding.{Finding}
+use Rattle.finding_list.specs.Calls.{numbersOf}
+use Rattle.finding_list.specs.declared.Finding.{Finding}
 use Rattle.listing.specs.Listing.{linesOf}
-use Rattle.listing.specs.PrivateContracts.{Wrote, lineAt}
-use Rattle.listing.proofs.Writing.{_then_}
+use Rattle.lines.specs.Writing.{Wrote}
+use Rattle.listing.specs.PrivateContracts.{lineAt}
+use Rattle.lines.proofs.Writing.{_then_}
 
 -- a joined list from its first part on
 joined-first : {A : Type 0} (f g : ℕ → List A) → ((i : ℕ) → f (suc i) ≡ g i) → (n : ℕ) → joined f (suc n) ≡ f 0 ++ joined g n

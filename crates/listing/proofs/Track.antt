@@ -1,76 +1,69 @@
--- The listing of a track, from its sectors and findings. Assumes nothing.
-use Prim.Native.Nat.{ℕ, _*_, _/_, _<_, _≤_}
-use mathlib.Core.Path.{_≡_, sym, _∙_}
-use mathlib.Core.List.{List}
+-- The listing of a track, from what its findings' call gives. Assumes nothing.
+use Prim.Native.Nat.{ℕ, _+_, _*_, _<_, _≤_}
+use mathlib.Core.Path.{_≡_, ap, _∙_}
+use mathlib.Core.List.{List, _++_}
 use native.Mathlib.Omega.{arith}
 use lib.ListN.{length, drop}
 use Rattle.basis.specs.Lists.{joined}
-use Rattle.findings.specs.Calls.{foundAnswer, findingsAnswer, numbersOf, numbersAfter}
-use Rattle.findings.specs.Findings.{findingsOf}
-use Rattle.findings.specs.declared.Found.{Found}
-use Rattle.findings.proofs.Outcome.{findings-follow, cells-accepted, list-in-room, findings-few}
-use Rattle.refusals.specs.RefusedCalls.{bufferAfter}
+use Rattle.findings.specs.Calls.{findingsAnswer, numbersAfter}
+use Rattle.finding_list.specs.Calls.{sectorsGiven, numbersOf}
+use Rattle.finding_list.specs.Findings.{findingsOf}
+use Rattle.refusals.specs.RefusedCalls.{Answer, bufferAfter}
 use Rattle.refusals.specs.RefusedCalls.Answer.{gives, refused}
-use Rattle.sectors.specs.Calls.{sectorsAnswer}
-use Rattle.sectors.specs.Sectors.{sectorsOf}
-use Rattle.sectors.proofs.Calls.{list-accepted}
-use Rattle.listing.specs.Listing.{headerOf, refusedLine, linesOf, printed, listingOf, outAfter}
-use Rattle.listing.specs.PrivateContracts.{Wrote, lineAt}
-use Rattle.listing.proofs.Lengths.{header-few, refused-few}
+use Rattle.sector_records.specs.Sectors.{sectorsOf}
+use Rattle.findings.proofs.Outcome.{findings-accepted}
+use Rattle.lines.specs.Lines.{headerOf, refusedLine, outAfter}
+use Rattle.lines.specs.Writing.{Wrote}
+use Rattle.lines.proofs.Lengths.{header-few, refused-few}
+use Rattle.lines.proofs.Writing.{_then_, wrote-few, wrote-front, answer-is, answer-few, out-is}
+use Rattle.listing.specs.Listing.{linesOf, printed, listingOf}
+use Rattle.listing.specs.PrivateContracts.{lineAt}
 use Rattle.listing.proofs.Lines.{lines-are}
-use Rattle.listing.proofs.Writing.{_then_, wrote-few, wrote-front}
+
+-- what the call promises of a listing: its length, that it is short enough, and the buffer
+abbrev pub Told : (made before after : List ℕ) → ℕ → Type 0
+Told made before after r = (r ≡ length made) × ((r ≤ 65536) × (after ≡ outAfter made before))
+
+told : {after : List ℕ} {r : ℕ} (made before : List ℕ) → Wrote before 0 made 65536 after r → Told made before after r
+told made before w = (answer-is w, (answer-few w, out-is w))
 
 module _ (bytes : List ℕ) (N T H : ℕ) where
   -- a track that is refused
-  refused-listing : (number value : ℕ) → sectorsAnswer bytes N T H ≡ refused number value → listingOf bytes N T H ≡ refusedLine number
+  pub told-refusal : {after : List ℕ} {next k : ℕ} (out : List ℕ) (number value : ℕ) → findingsAnswer bytes N T H 901 ≡ refused number value → k ≡ number
+      → k < 0x1_0000_0000 → (next ≡ length (refusedLine k)) × (after ≡ outAfter (refusedLine k) out) → Told (listingOf bytes N T H) out after next
   unfolding listingOf printed
-  refused-listing number value e = rw (findings-follow bytes N T H 901 .refusals number value e)
+  told-refusal {k = k} out number value e is fits line =
+      rw (e, ← is) (told (refusedLine k) out (wrote-few (omega arith) (wrote-front 19 (refused-few k fits) (line .0) (line .1))))
 
-  pub wrote-refusal : {after : List ℕ} {next : ℕ} (out : List ℕ) (number k value : ℕ) → sectorsAnswer bytes N T H ≡ refused number value → k ≡ number
-      → k < 0x1_0000_0000 → (next ≡ length (refusedLine k)) × (after ≡ outAfter (refusedLine k) out)
-      → Wrote out 0 (listingOf bytes N T H) 65536 after next
-  wrote-refusal out number k value e is fits line =
-      rw (refused-listing number value e, ← is) (wrote-few (omega arith) (wrote-front 19 (refused-few k fits) (line .0) (line .1)))
-
-  -- a track that is accepted, with m sectors
-  module _ (m : ℕ) (e : sectorsAnswer bytes N T H ≡ gives m) where
-    pub sectors-are : m ≡ length (sectorsOf bytes N)
-    sectors-are = list-accepted bytes N T H m e .0
-
-    pub few-sectors : m ≤ 64
-    few-sectors = list-accepted bytes N T H m e .1
-
+  -- one that is accepted, with so many findings
+  module _ (count : ℕ) (e : findingsAnswer bytes N T H 901 ≡ gives count) where
     pub few-cells : N ≤ 131072
-    few-cells = cells-accepted bytes N T H m e
+    few-cells = findings-accepted bytes N T H 901 count e .3
 
-    pub few-lines : length (findingsOf bytes N T) ≤ 901
-    few-lines = findings-few bytes N T (omega (arith, sectors-are, few-sectors))
+    pub count-is : count ≡ length (findingsOf bytes N T)
+    count-is = findings-accepted bytes N T H 901 count e .0
 
-    accepted : findingsAnswer bytes N T H 901 ≡ gives (length (findingsOf bytes N T))
-    accepted = sym (list-in-room bytes N T H m e 901 few-lines)
+    pub few-findings : count ≤ 901
+    few-findings = findings-accepted bytes N T H 901 count e .1
 
-    -- what the findings' call gives with a list of 3,604 numbers
-    module _ (list : List ℕ) (long : length list ≡ 3604) where
-      pub count-given : (found : Found) → foundAnswer found ≡ findingsAnswer bytes N T H (length list / 4) → foundAnswer found ≡ gives (length (findingsOf bytes N T))
-      count-given found answer = answer ∙ rw long accepted
+    module _ (sectors : ℕ) (given : sectors ≡ sectorsGiven (findingsAnswer bytes N T H 901) (length (sectorsOf bytes N))) where
+      pub sectors-are : sectors ≡ length (sectorsOf bytes N)
+      sectors-are = given ∙ ap (λ (a : Answer ℕ). sectorsGiven a (length (sectorsOf bytes N))) e
 
-      pub lines-given : (numbers : List ℕ) → numbers ≡ numbersAfter bytes N T H list
-          → joined (lineAt numbers) (length (findingsOf bytes N T)) ≡ linesOf (findingsOf bytes N T)
-      unfolding bufferAfter
-      lines-given numbers is = rw (is, long, accepted) (lines-are (drop (length (numbersOf (findingsOf bytes N T))) list) (findingsOf bytes N T))
+      pub few-sectors : sectors ≤ 64
+      few-sectors = omega (arith, sectors-are, findings-accepted bytes N T H 901 count e .2)
 
-    -- the header
-    pub wrote-header : {after : List ℕ} {next : ℕ} (out : List ℕ) (count : ℕ) → H < 0x1_0000_0000 → count ≤ 901
-        → (next ≡ length (headerOf T H N m count)) × (after ≡ outAfter (headerOf T H N m count) out) → Wrote out 0 (headerOf T H N m count) 72 after next
-    wrote-header out count fits few line =
-        wrote-front 72 (header-few T H N m count fits (omega (arith, few-cells)) (omega (arith, few-sectors)) (omega arith)) (line .0) (line .1)
+      pub few-header : H < 0x1_0000_0000 → length (headerOf T H N sectors count) ≤ 72
+      few-header h = header-few T H N sectors count h (omega (arith, few-cells)) (omega (arith, few-sectors)) (omega (arith, few-findings))
 
-    -- the header and the lines
-    pub wrote-track : {out mid after : List ℕ} {at next : ℕ} (numbers : List ℕ) (count : ℕ) → count ≡ length (findingsOf bytes N T)
-        → joined (lineAt numbers) (length (findingsOf bytes N T)) ≡ linesOf (findingsOf bytes N T)
-        → Wrote out 0 (headerOf T H N m count) 72 mid at → Wrote mid at (joined (lineAt numbers) count) (67 * count) after next
-        → Wrote out 0 (listingOf bytes N T H) 65536 after next
-    unfolding listingOf printed
-    wrote-track numbers count is lines first second =
-        let w = rw (sectors-are, is, lines) at (first then second) in
-        rw accepted (wrote-few (omega (arith, few-lines)) w)
+      -- the header, and a line for each finding that stands in the numbers
+      pub told-listing : {middle after : List ℕ} {at next : ℕ} (out list numbers : List ℕ) → H < 0x1_0000_0000 → length list ≡ 3604
+          → numbers ≡ numbersAfter bytes N T H list → (at ≡ length (headerOf T H N sectors count)) × (middle ≡ outAfter (headerOf T H N sectors count) out)
+          → Wrote middle at (joined (lineAt numbers) count) (67 * count) after next → Told (listingOf bytes N T H) out after next
+      unfolding listingOf printed bufferAfter
+      told-listing out list numbers h long is head lines =
+          let fs = findingsOf bytes N T in
+          let whole : joined (lineAt numbers) count ≡ linesOf fs = rw (is, long, e, count-is) (lines-are (drop (length (numbersOf fs)) list) fs) in
+          let few : 72 + 67 * count ≤ 65536 = omega (arith, few-findings) in
+          let all = wrote-few few (wrote-front 72 (few-header h) (head .0) (head .1) then lines) in
+          rw (e, ← whole, ← count-is, ← sectors-are) (told (headerOf T H N sectors count ++ joined (lineAt numbers) count) out all)

@@ -1,20 +1,14 @@
-// The listing of a track, as bytes: a header and a line for each finding, or "refused" and a number. Each public function writes to the
-// front of the lent buffer. What there is no room for is not written; the answer is the number of bytes of the whole.
-mod whole_file;
-
-use findings::Found;
-use sectors::Listed;
-pub use whole_file::list_file;
+// The listing of a track, as bytes: a header and a line for each finding, or "refused" and a number, at the front of a lent buffer. What
+// there is no room for is not written; the answer is the number of bytes of the whole.
+use refusals::Counted;
 ghost use mathlib.Core.Path.{_≡_};
-ghost use mathlib.Core.List.{_∷_, [], _++_};
-ghost use Prim.Native.Nat.{ℕ, _+_, _*_, _<_, _≤_};
+ghost use Prim.Native.Nat.{_*_, _≤_};
 ghost use lib.ListN.{length};
 ghost use Rattle.basis.specs.Lists.{joined};
-ghost use Rattle.findings.specs.Calls.{foundAnswer};
-ghost use Rattle.refusals.specs.RefusedCalls.Answer.{gives};
-ghost use Rattle.sectors.specs.Calls.{sectorsAnswer};
-ghost use Rattle.listing.specs.Listing.{digit, decimalOf, twoDigits, nameOf, headerOf, findingLine, refusedLine, listingOf, outAfter};
-ghost use Rattle.listing.specs.PrivateContracts.{Wrote, lineAt};
+ghost use Rattle.lines.specs.Lines.{outAfter};
+ghost use Rattle.lines.specs.Writing.{Wrote};
+ghost use Rattle.listing.specs.Listing.{listingOf};
+ghost use Rattle.listing.specs.PrivateContracts.{lineAt};
 
 // The whole listing of a track of n cells, packed in `bytes`; `track` and `side` are the drive's. A buffer of 65,536 bytes holds any.
 pub fn list_track(bytes: &[u8], n: usize, track: u32, side: u32, out: &mut [u8]) -> usize
@@ -22,95 +16,21 @@ pub fn list_track(bytes: &[u8], n: usize, track: u32, side: u32, out: &mut [u8])
     ensures few { λ r. ⌜ r ≤ 65536 ⌝ }
     ensures out { λ _. ⌜ now (out .exit) ≡ outAfter (listingOf (now (bytes .entry)) n track side) (now (out .entry)) ⌝ }
 {
-    let listed = sectors::sectors_of(bytes, n, track, side);
-    let answer = listed.answer;
+    let mut numbers: [u32; NUMBERS] = [0; NUMBERS];
+    let found = findings::findings_as_numbers(bytes, n, track, side, &mut numbers);
+    let answer = found.answer;
     match answer {
-        Listed::Refused(refusal) => refused_line(out, refusal.number()),
-        Listed::Count(sectors) => list_accepted(bytes, n, track, side, sectors, out),
+        Counted::Refused(refusal) => lines::refused_line(out, refusal.number()),
+        Counted::Count(count) => {
+            let sectors = found.sectors as u32;
+            let at = lines::header(out, track, side, n as u32, sectors, count as u32);
+            write_lines(out, at, &numbers, count)
+        }
     }
 }
-
-// The header line.
-pub fn header(
-    out: &mut [u8],
-    track: u32,
-    side: u32,
-    cells: u32,
-    sectors: u32,
-    findings: u32,
-) -> usize
-    ensures answer { λ r. ⌜ r ≡ length (headerOf track side cells sectors findings) ⌝ }
-    ensures out { λ _. ⌜ now (out .exit) ≡ outAfter (headerOf track side cells sectors findings) (now (out .entry)) ⌝ }
-{
-    let next = write_byte(out, 0, b'T');
-    let next = write_two_digits(out, next, track);
-    let next = write_field(out, next, b" H", side);
-    let next = write_field(out, next, b" cells ", cells);
-    let next = write_field(out, next, b" sectors ", sectors);
-    let next = write_field(out, next, b" findings ", findings);
-    write_byte(out, next, b'\n')
-}
-
-// The line of a finding, without anything before it. A number that is no kind has no name.
-pub fn finding_line(out: &mut [u8], kind: u32, level: u32, place: u32, detail: u32) -> usize
-    ensures answer { λ r. ⌜ r ≡ length (findingLine kind level place detail) ⌝ }
-    ensures out { λ _. ⌜ now (out .exit) ≡ outAfter (findingLine kind level place detail) (now (out .entry)) ⌝ }
-{
-    write_line(out, 0, kind, level, place, detail)
-}
-
-// The line of a refusal's number.
-pub fn refused_line(out: &mut [u8], number: u32) -> usize
-    ensures answer { λ r. ⌜ r ≡ length (refusedLine number) ⌝ }
-    ensures out { λ _. ⌜ now (out .exit) ≡ outAfter (refusedLine number) (now (out .entry)) ⌝ }
-{
-    let next = write_field(out, 0, b"refused ", number);
-    write_byte(out, next, b'\n')
-}
-
-// A track in two digits, without anything before or after them; of a number above 99, the last two.
-pub fn two_digits(out: &mut [u8], track: u32) -> usize
-    ensures answer { λ r. ⌜ r ≡ 2 ⌝ }
-    ensures out { λ _. ⌜ now (out .exit) ≡ outAfter (twoDigits track) (now (out .entry)) ⌝ }
-{
-    write_two_digits(out, 0, track)
-}
-
-// The names of the kinds, from kind 1 on, each with a space after it.
-const NAMES: [u8; 84] =
-    *b"LGT SHT NOS TNF EXT DSN ISN ITN IIF SSZ NSI NSD SBI SND SBD DOI DBI SWS SID MTV NFA ";
 
 // The most numbers: four for each of the 901 findings that 64 sectors can bring.
 const NUMBERS: usize = 3604;
-
-// The listing of a track that is accepted.
-fn list_accepted(
-    bytes: &[u8],
-    n: usize,
-    track: u32,
-    side: u32,
-    sectors: usize,
-    out: &mut [u8],
-) -> usize
-    requires { ⌜ sectorsAnswer (now bytes) n track side ≡ gives sectors ⌝ }
-    ensures { λ r. ⌜ Wrote (now (out .entry)) 0 (listingOf (now (bytes .entry)) n track side) 65536 (now (out .exit)) r ⌝ }
-{
-    let mut numbers: [u32; NUMBERS] = [0; NUMBERS];
-    let found = findings::findings_as_numbers(bytes, n, track, side, &mut numbers);
-    let count = count_of(found);
-    let at = header(out, track, side, n as u32, sectors as u32, count as u32);
-    write_lines(out, at, &numbers, count)
-}
-
-// The number of findings, where they are accepted.
-fn count_of(found: Found) -> usize
-    ensures { λ r. ⌜ ((count : ℕ) → foundAnswer found ≡ gives count → r ≡ count) ⌝ }
-{
-    match found {
-        Found::Count(count) => count,
-        Found::Refused(_) => 0,
-    }
-}
 
 // A line for each of the findings that stand in the numbers.
 fn write_lines(out: &mut [u8], at: usize, numbers: &[u32; NUMBERS], count: usize) -> usize
@@ -121,9 +41,9 @@ fn write_lines(out: &mut [u8], at: usize, numbers: &[u32; NUMBERS], count: usize
     let mut index: usize = 0;
     while index < count {
         let k = 4 * index;
-        next = write_line(
+        next = lines::finding_line_at(
             out,
-            next,
+            next as u32,
             numbers[k],
             numbers[k + 1],
             numbers[k + 2],
@@ -132,101 +52,4 @@ fn write_lines(out: &mut [u8], at: usize, numbers: &[u32; NUMBERS], count: usize
         index += 1;
     }
     next
-}
-
-// The functions below write from place `at` on and answer the place after what they wrote. All places have 32 bits, so that no sum can
-// overflow.
-
-// The line of a finding.
-fn write_line(out: &mut [u8], at: usize, kind: u32, level: u32, place: u32, detail: u32) -> usize
-    requires { ⌜ at + 67 ≤ 0xFFFF_FFFF ⌝ }
-    ensures { λ r. ⌜ Wrote (now (out .entry)) at (findingLine kind level place detail) 67 (now (out .exit)) r ⌝ }
-{
-    let next = write_decimal(out, at, kind);
-    let next = write_byte(out, next, b' ');
-    let next = write_name(out, next, kind);
-    let next = write_field(out, next, b" level ", level);
-    let next = write_field(out, next, b" place ", place);
-    let next = write_field(out, next, b" detail ", detail);
-    write_byte(out, next, b'\n')
-}
-
-// A kind's name: three letters, or none for a number that is no kind.
-fn write_name(out: &mut [u8], at: usize, kind: u32) -> usize
-    requires { ⌜ at + 3 ≤ 0xFFFF_FFFF ⌝ }
-    ensures { λ r. ⌜ Wrote (now (out .entry)) at (nameOf kind) 3 (now (out .exit)) r ⌝ }
-{
-    if kind < 1 {
-        return at;
-    }
-    if kind > 21 {
-        return at;
-    }
-    let names: &[u8] = &NAMES;
-    let i = 4 * (kind as usize - 1);
-    write_word(out, at, &names[i..i + 3])
-}
-
-// A word and a number.
-fn write_field(out: &mut [u8], at: usize, bytes: &[u8], n: u32) -> usize
-    requires { ⌜ at + (length (now bytes) + 10) ≤ 0xFFFF_FFFF ⌝ }
-    ensures { λ r. ⌜ Wrote (now (out .entry)) at (now (bytes .entry) ++ decimalOf n) (length (now (bytes .entry)) + 10) (now (out .exit)) r ⌝ }
-{
-    let next = write_word(out, at, bytes);
-    write_decimal(out, next, n)
-}
-
-// The last two digits of a number.
-fn write_two_digits(out: &mut [u8], at: usize, n: u32) -> usize
-    requires { ⌜ at + 2 ≤ 0xFFFF_FFFF ⌝ }
-    ensures { λ r. ⌜ Wrote (now (out .entry)) at (twoDigits n) 2 (now (out .exit)) r ⌝ }
-{
-    let next = write_byte(out, at, last_digit(n / 10));
-    write_byte(out, next, last_digit(n))
-}
-
-// A number in decimal.
-fn write_decimal(out: &mut [u8], at: usize, n: u32) -> usize
-    requires { ⌜ at + 10 ≤ 0xFFFF_FFFF ⌝ }
-    ensures { λ r. ⌜ Wrote (now (out .entry)) at (decimalOf n) 10 (now (out .exit)) r ⌝ }
-{
-    if n < 10 {
-        write_byte(out, at, last_digit(n))
-    } else {
-        let next = write_decimal(out, at, n / 10);
-        write_byte(out, next, last_digit(n))
-    }
-}
-
-// The last decimal digit of a number, as a character.
-fn last_digit(n: u32) -> u8
-    ensures { λ r. ⌜ r ≡ digit n ⌝ }
-{
-    b'0' + (n % 10) as u8
-}
-
-// The bytes of a word.
-fn write_word(out: &mut [u8], at: usize, bytes: &[u8]) -> usize
-    requires { ⌜ at + length (now bytes) ≤ 0xFFFF_FFFF ⌝ }
-    ensures { λ r. ⌜ Wrote (now (out .entry)) at (now (bytes .entry)) (length (now (bytes .entry))) (now (out .exit)) r ⌝ }
-{
-    let mut next = at;
-    let mut i: usize = 0;
-    while i < bytes.len() {
-        next = write_byte(out, next, bytes[i]);
-        i += 1;
-    }
-    next
-}
-
-// A byte, where there is room for it.
-fn write_byte(out: &mut [u8], at: usize, byte: u8) -> usize
-    requires { ⌜ at < 0xFFFF_FFFF ⌝ }
-    ensures { λ r. ⌜ Wrote (now (out .entry)) at (byte ∷ []) 1 (now (out .exit)) r ⌝ }
-{
-    if at < out.len() {
-        out[at] = byte;
-        return at + 1;
-    }
-    at + 1
 }

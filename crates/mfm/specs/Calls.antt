@@ -6,16 +6,9 @@ use mathlib.Core.Bool.{cond}
 use mathlib.Core.List.{List}
 use lib.Dec.{ltb}
 use lib.ListN.{length}
-use Rattle.refusals.specs.RefusedCalls.{Answer, refusedWith, bufferAfter}
+use Rattle.refusals.specs.RefusedCalls.{Answer, bufferAfter}
 use Rattle.refusals.specs.RefusedCalls.Answer.{gives, refused}
 use Rattle.mfm.specs.Coding.{encoded, decoded}
-use Rattle.mfm.specs.declared.Written.{Written}
-use Rattle.mfm.specs.declared.Written.the-variants.{Bytes, Refused}
-
--- an answer of the calls, in 01's numbers
-abbrev pub answerOf : Written → Answer ℕ
-answerOf (Bytes count) = gives count
-answerOf (Refused refusal) = refusedWith refusal
 
 -- 14 for more than `most` bytes given, with the bytes given; then 13 where `room` is too little, with the bytes needed; else the bytes written
 unfoldable pub judged : (most given needed room : ℕ) → Answer ℕ

@@ -1,57 +1,54 @@
 // MFM coding and decoding.
+use refusals::Counted;
 use refusals::Refusal;
 ghost use mathlib.Core.Path.{_≡_};
 ghost use mathlib.Core.Bool.{cond};
 ghost use Prim.Native.Nat.{_<_, _≤_, _*_, _+_, _/_, _%_, _^_};
 ghost use lib.ListN.{length};
 ghost use Rattle.basis.specs.Lists.{writtenOver};
+ghost use Rattle.refusals.specs.RefusedCalls.{countedAnswer};
 ghost use Rattle.cells.specs.CellsAndBytes.{cell, word};
 ghost use Rattle.mfm.specs.Coding.{clock, byteCells, byteOn, encoded, decoded};
-ghost use Rattle.mfm.specs.Calls.{answerOf, codingAnswer, decodingAnswer, encodedAfter, decodedAfter};
+ghost use Rattle.mfm.specs.Calls.{codingAnswer, decodingAnswer, encodedAfter, decodedAfter};
 
 // The most bytes that one call codes, and the most bytes of cells that one call decodes.
 pub const MOST_TO_CODE: usize = 8192;
 
 pub const MOST_TO_DECODE: usize = 16384;
 
-// What a call answers: the bytes written at the front of the lent buffer, or a refusal.
-pub enum Written {
-    Bytes(usize),
-    Refused(Refusal),
-}
-
-// Coding: two bytes of cells for each byte, at the front of `cells`. `before` is the data bit before the bytes.
-pub fn encode(bytes: &[u8], before: bool, cells: &mut [u8]) -> Written
-    ensures answer { λ r. ⌜ answerOf r ≡ codingAnswer (now (bytes .entry)) (now (cells .entry)) ⌝ }
+// Coding: two bytes of cells for each byte, at the front of `cells`; they are counted. `before` is the data bit before the bytes.
+pub fn encode(bytes: &[u8], before: bool, cells: &mut [u8]) -> Counted
+    ensures answer { λ r. ⌜ countedAnswer r ≡ codingAnswer (now (bytes .entry)) (now (cells .entry)) ⌝ }
     ensures buffer { λ _. ⌜ now (cells .exit) ≡ encodedAfter (cond before 1 0) (now (bytes .entry)) (now (cells .entry)) ⌝ }
 {
     let given = bytes.len();
     if MOST_TO_CODE < given {
-        return Written::Refused(Refusal::TooManyBytes(given));
+        return Counted::Refused(Refusal::TooManyBytes(given));
     }
     let needed = 2 * given;
     if cells.len() < needed {
-        return Written::Refused(Refusal::NoRoomForBytes(needed));
+        return Counted::Refused(Refusal::NoRoomForBytes(needed));
     }
     write_cells(bytes, before, cells);
-    Written::Bytes(needed)
+    Counted::Count(needed)
 }
 
 // Decoding: one byte for each two bytes of cells, at the front of `bytes`; an odd last byte of cells is not read.
-pub fn decode(cells: &[u8], bytes: &mut [u8]) -> Written
-    ensures answer { λ r. ⌜ answerOf r ≡ decodingAnswer (now (cells .entry)) (now (bytes .entry)) ⌝ }
+// The bytes written are counted.
+pub fn decode(cells: &[u8], bytes: &mut [u8]) -> Counted
+    ensures answer { λ r. ⌜ countedAnswer r ≡ decodingAnswer (now (cells .entry)) (now (bytes .entry)) ⌝ }
     ensures buffer { λ _. ⌜ now (bytes .exit) ≡ decodedAfter (now (cells .entry)) (now (bytes .entry)) ⌝ }
 {
     let given = cells.len();
     if MOST_TO_DECODE < given {
-        return Written::Refused(Refusal::TooManyBytes(given));
+        return Counted::Refused(Refusal::TooManyBytes(given));
     }
     let needed = given / 2;
     if bytes.len() < needed {
-        return Written::Refused(Refusal::NoRoomForBytes(needed));
+        return Counted::Refused(Refusal::NoRoomForBytes(needed));
     }
     write_bytes(cells, bytes);
-    Written::Bytes(needed)
+    Counted::Count(needed)
 }
 
 // The sixteen cells of a byte after a data bit, as a number: the clock rule, bit by bit.

@@ -1,9 +1,10 @@
--- 01, "Refused calls": the number of each refusal, what it gives also, and what a call leaves in a lent buffer. A refused call leaves
--- it as it was; the reader of a track file clears its cell buffer instead. 16 and 17 are those of 02, ticket 3, which gives 10 also "for
--- room, with the timings needed". Assumes nothing.
+-- 01, "Refused calls": the number of each refusal, what it gives also, and what a call leaves in a lent buffer: a refused call leaves it as
+-- it was. 16 and 17 are those of 02, ticket 3, which has 10 also for the room of timings. Assumes nothing.
 use Prim.Native.Nat.{ℕ}
 use mathlib.Core.List.{List}
 use Rattle.basis.specs.Lists.{writtenOver}
+use Rattle.refusals.specs.declared.Counted.{Counted}
+use Rattle.refusals.specs.declared.Counted.the-variants.{Count, Refused}
 use Rattle.refusals.specs.declared.Refusal.{Refusal}
 use Rattle.refusals.specs.declared.Refusal.the-variants.{TrackOrSide, CellCount, TooFewBytes, TooManySectors, ListTooShort, NoTimings, TooManyTimings, TimingOutOfRange, TooManyCells, NoRoom, NoSuchSector, NoDataRead, NoRoomForBytes, TooManyBytes, NotATrackFile, NotATrackBlock, NoSuchRevolution}
 
@@ -55,6 +56,11 @@ pub data Answer (A : Type 0) : Type 0 where
 -- the answer of a refusal
 abbrev pub refusedWith : {A : Type 0} → Refusal → Answer A
 refusedWith refusal = refused (numberOf refusal) (valueOf refusal)
+
+-- what a call answers that counts something: the number that it gives, or its refusal
+abbrev pub countedAnswer : Counted → Answer ℕ
+countedAnswer (Count count) = gives count
+countedAnswer (Refused refusal) = refusedWith refusal
 
 -- "each writes nothing": a lent buffer after a call. Where the call is accepted, what it made stands at the front and the rest is kept
 unfoldable pub bufferAfter : {A B : Type 0} → Answer A → List B → List B → List B

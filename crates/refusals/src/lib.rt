@@ -40,6 +40,12 @@ pub enum Refusal {
     NoSuchRevolution,
 }
 
+// What a call answers that counts something, as bytes written or findings: their number, or a refusal.
+pub enum Counted {
+    Count(usize),
+    Refused(Refusal),
+}
+
 impl Refusal {
     // The refusal's number in 01's table.
     pub fn number(self) -> u32

@@ -1,3 +1,2 @@
-pub mod Listed
-pub mod Words
-pub mod Fronts
+pub mod Inputs
+pub mod Reading

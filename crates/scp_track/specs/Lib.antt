@@ -1,2 +1,3 @@
-pub mod BlockListing
 pub mod Arguments
+pub mod InputRead
+pub mod InputListing

@@ -11,10 +11,10 @@ use Rattle.basis.proofs.Bools.{or-right}
 use Rattle.cells.specs.CellsAndBytes.{cell, bytesFor}
 use Rattle.refusals.specs.RefusedCalls.{Answer, bufferAfter}
 use Rattle.refusals.specs.RefusedCalls.Answer.{gives, refused}
-use Rattle.sectors.specs.Sectors.{noSector, sectorsOf, kept, dataBytes}
+use Rattle.sector_records.specs.Sectors.{noSector, sectorsOf, kept, dataBytes}
 use Rattle.sectors.specs.Calls.{trackJudged, countJudged, indexJudged, sectorsAnswer, sectorsBeside, indexAnswer, recordBeside, sectorOf, DataRead, dataJudged, dataAnswer, dataAfter}
-use Rattle.sectors.specs.declared.Sector.{Sector}
-use Rattle.sectors.specs.declared.Sectors.{Sectors}
+use Rattle.sector_records.specs.declared.Sector.{Sector}
+use Rattle.sector_records.specs.declared.Sectors.{Sectors}
 
 pub most-cells : (n : ℕ) → (ltb n 20000 || ltb 131072 n) ≡ false → n ≤ 131072
 most-cells n e = ltb-false 131072 n (or-right (ltb n 20000) (ltb 131072 n) e)
@@ -107,18 +107,34 @@ few-accepted count m next e = go (ltb 64 count) refl e
     go true t g = let z : _≡_ {A = ℕ} 0 1 = cc in absurd (omega arith)
     go false t g = ltb-false 64 count t
 
+few-cells : (bytes : List ℕ) (N T H m : ℕ) (next : Answer ℕ) → trackJudged bytes N T H next ≡ gives m → N ≤ 131072
+unfolding trackJudged
+few-cells bytes N T H m next e = go _ (ltb 83 T || ltb 1 H) (ltb N 20000 || ltb 131072 N) refl e
+  where
+    go : (rest : Answer ℕ) (b c : Bool) → (ltb N 20000 || ltb 131072 N) ≡ c → cond b (refused 1 0) (cond c (refused 2 N) rest) ≡ gives m → N ≤ 131072
+    go rest true c f g = let z : _≡_ {A = ℕ} 0 1 = cc in absurd (omega arith)
+    go rest false true f g = let z : _≡_ {A = ℕ} 0 1 = cc in absurd (omega arith)
+    go rest false false f g = most-cells N f
+
+-- what is judged after 1 to 4 gives what was accepted, on a track of at most 131,072 cells with at most 64 sectors
+pub judged-accepted : (bytes : List ℕ) (N T H sectors m : ℕ) (next : Answer ℕ) → trackJudged bytes N T H (countJudged sectors next) ≡ gives m
+    → (next ≡ gives m) × (sectors ≤ 64) × (N ≤ 131072)
+judged-accepted bytes N T H sectors m next e =
+    let j = sym (follows-track _ _ _ (follows-self (countJudged sectors next)) bytes N T H .accepted m e) ∙ e in
+    (sym (follows-count _ _ _ (follows-self next) sectors .accepted m j) ∙ j, few-accepted sectors m next j, few-cells bytes N T H m (countJudged sectors next) e)
+
 module _ (bytes : List ℕ) (N T H : ℕ) where
   abbrev count : ℕ
   count = length (sectorsOf bytes N)
 
-  -- an accepted list has the track's sectors, and at most 64
-  pub list-accepted : (m : ℕ) → sectorsAnswer bytes N T H ≡ gives m → (m ≡ length (sectorsOf bytes N)) × (m ≤ 64)
+  -- an accepted list has the track's sectors, and at most 64, on at most 131,072 cells
+  pub list-accepted : (m : ℕ) → sectorsAnswer bytes N T H ≡ gives m → (m ≡ length (sectorsOf bytes N)) × (m ≤ 64) × (N ≤ 131072)
   unfolding sectorsAnswer
   list-accepted m e =
-      let j = sym (follows-track _ _ _ (follows-self (countJudged count (gives count))) bytes N T H .accepted m e) ∙ e in
-      let g = sym (follows-count _ _ _ (follows-self (gives count)) count .accepted m j) ∙ j in
+      let j = judged-accepted bytes N T H count m (gives count) e in
+      let g = j .0 in
       let s : m ≡ count = cc in
-      (s, rw s (few-accepted count m (gives count) j))
+      (s, rw s (j .1), j .2)
 
   -- a sector by index is judged after the list, and reading out after the sector by index
   pub index-follows : (index : ℕ) → Follows (sectorsAnswer bytes N T H) (indexAnswer bytes N T H index) (indexJudged (length (sectorsOf bytes N)) index (gives (length (sectorsOf bytes N))))

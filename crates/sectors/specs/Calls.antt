@@ -9,15 +9,11 @@ use lib.ListN.{length, getD}
 use Rattle.cells.specs.CellsAndBytes.{cell, bytesFor}
 use Rattle.refusals.specs.RefusedCalls.{Answer, refusedWith, bufferAfter}
 use Rattle.refusals.specs.RefusedCalls.Answer.{gives, refused}
-use Rattle.sectors.specs.Sectors.{noSector, sectorsOf, kept, dataBytes}
-use Rattle.sectors.specs.declared.Sector.{Sector}
-use Rattle.sectors.specs.declared.Sectors.{Sectors}
-use Rattle.sectors.specs.declared.Listed.{Listed}
-use Rattle.sectors.specs.declared.Listed.the-variants.{Count}
-use Rattle.sectors.specs.declared.Listed.the-variants.{Refused as ListRefused}
+use Rattle.sector_records.specs.Sectors.{noSector, sectorsOf, kept, dataBytes}
+use Rattle.sector_records.specs.declared.Sector.{Sector}
+use Rattle.sector_records.specs.declared.Sectors.{Sectors}
 use Rattle.sectors.specs.declared.ReadOut.{ReadOut}
-use Rattle.sectors.specs.declared.ReadOut.the-variants.{Data}
-use Rattle.sectors.specs.declared.ReadOut.the-variants.{Refused as ReadRefused}
+use Rattle.sectors.specs.declared.ReadOut.the-variants.{Data, Refused}
 
 -- refusals 1, 2 and 3, in that order, and else what `next` answers
 unfoldable pub trackJudged : {A : Type 0} → List ℕ → (N T H : ℕ) → Answer A → Answer A
@@ -33,11 +29,6 @@ countJudged count next = cond (ltb 64 count) (refused 4 count) next
 -- refusal 11 of an index, and else what `next` answers
 unfoldable pub indexJudged : {A : Type 0} → (count index : ℕ) → Answer A → Answer A
 indexJudged count index next = cond (leb count index) (refused 11 count) next
-
--- an answer that is a number of sectors, in 01's numbers
-abbrev pub listedAnswer : Listed → Answer ℕ
-listedAnswer (Count count) = gives count
-listedAnswer (ListRefused refusal) = refusedWith refusal
 
 -- the sectors of a track: refusals 1 to 4, and else their number
 unfoldable pub sectorsAnswer : List ℕ → (N T H : ℕ) → Answer ℕ
@@ -71,7 +62,7 @@ pub record DataRead : Type 0 where
 -- an answer of reading out, in 01's numbers
 abbrev pub readOutAnswer : ReadOut → Answer DataRead
 readOutAnswer (Data size good) = gives (record { size = size; good = good })
-readOutAnswer (ReadRefused refusal) = refusedWith refusal
+readOutAnswer (Refused refusal) = refusedWith refusal
 
 -- reading out a sector, with room for `room` bytes: 12 where no data is read, 13 for room, and else L and the check result
 unfoldable pub dataJudged : Sector → ℕ → Answer DataRead

@@ -12,15 +12,16 @@ use lib.Seq.{length-take-le}
 use Rattle.basis.specs.Search.{least}
 use Rattle.basis.proofs.Bools.{or-left, or-right}
 use Rattle.basis.proofs.Search.{least-before}
-use Rattle.flux.specs.Separation.{firstOut, timingsJudged}
-use Rattle.flux.proofs.Judging.{no-timings}
+use Rattle.flux_timings.specs.Timings.{firstOut, timingsJudged}
+use Rattle.flux_timings.proofs.Judging.{no-timings}
 use Rattle.refusals.specs.RefusedCalls.{Answer, bufferAfter}
 use Rattle.refusals.specs.RefusedCalls.Answer.{gives, refused}
-use Rattle.supercard_pro.specs.TrackBlock.{valueCount, valueOffset, tableEnd, valueBytes, valuesOf, timingsFrom, timingsIn, revolutionTimings, endsInZero, otherLetters, tableShort, badRevolution, someBad, notATrackBlock, blockJudged, roomJudged, blockAnswer, blockTimings}
-use Rattle.supercard_pro.specs.Portions.{freshReader, isLeftByCalls, usableReader, portionJudged, portionTimings, portionAnswer, portionList}
-use Rattle.supercard_pro.specs.declared.RevolutionReader.{RevolutionReader}
-use Rattle.supercard_pro.proofs.Judging.{accepted}
-use Rattle.supercard_pro.proofs.Timings.{Alike, alike-length, alike-out, alike-same, from-start}
+use Rattle.supercard_pro.specs.TrackBlock.{valueCount, valueOffset, tableEnd, valueBytes, revolutionTimings, endsInZero, otherLetters, tableShort, badRevolution, someBad, notATrackBlock, blockJudged, blockAnswer, blockTimings}
+use Rattle.revolution_portions.specs.Timings.{valuesOf, timingsFrom, timingsIn}
+use Rattle.revolution_portions.specs.Portions.{roomJudged, freshReader, isLeftByCalls, usableReader, portionJudged, portionTimings, portionAnswer, portionList}
+use Rattle.revolution_portions.specs.declared.RevolutionReader.{RevolutionReader}
+use Rattle.revolution_portions.proofs.Judging.{accepted}
+use Rattle.revolution_portions.proofs.Timings.{Alike, alike-length, alike-out, alike-same, from-start}
 
 -- what holds of each revolution of a block that is not refused with 16
 pub record Sound (block : List ℕ) (revolutions k : ℕ) : Type 0 where

@@ -1,22 +1,14 @@
--- One track block, worked by computation: what it gives, what is refused of it, and that demand 3's premises can be met by a block.
--- Assumes nothing.
+-- One track block, worked by computation: what it gives, and what is refused of it. Assumes nothing.
 use Prim.Native.Nat.{ℕ}
 use mathlib.Core.Path.{_≡_, refl}
 use mathlib.Core.Bool.{false}
 use mathlib.Core.List.{List, [], _∷_, _++_}
-use lib.Dec.{lit≤}
-use lib.IntN.{pos}
-use lib.ListN.{length}
-use lib.Signed.{leZ-yes}
 use Rattle.basis.specs.Search.{least}
-use Rattle.cells.specs.CellsAndBytes.{packed}
-use Rattle.flux.specs.Rule.{inRange}
-use Rattle.flux.specs.Separation.{cellsFor, firstOut, timingsJudged}
-use Rattle.flux.specs.Demand3.{Reversal, Fair, last, more, shortestCell, longestCell, mostJitter, Tolerable, cellsWritten, cellsInAll, refusalTable}
-use Rattle.refusals.specs.RefusedCalls.{Answer, bufferAfter}
+use Rattle.flux_timings.specs.Timings.{inRange}
+use Rattle.flux_timings.specs.Timings.{firstOut, timingsJudged}
 use Rattle.refusals.specs.RefusedCalls.Answer.{gives, refused}
-use Rattle.supercard_pro.specs.TrackBlock.{valuesOf, timingsFrom, revolutionTimings, endsInZero, badRevolution, notATrackBlock, blockJudged, blockAnswer}
-use Rattle.supercard_pro.specs.BlockToCells.{BlockDemand3}
+use Rattle.revolution_portions.specs.Timings.{valuesOf, timingsFrom}
+use Rattle.supercard_pro.specs.TrackBlock.{revolutionTimings, endsInZero, badRevolution, notATrackBlock, blockJudged, blockAnswer}
 
 -- TRK, track 0; of each of two revolutions the index time (200 ms, in units of 25 ns), the number of values and their offset; the values
 -- 160, 240 and 320, and then 0 and `final`
@@ -61,31 +53,3 @@ third-revolution room = refl
 pub last-a-zero : (k room : ℕ) → blockAnswer (blockWith 0) 2 k room ≡ refused 16 0
 unfolding blockJudged notATrackBlock badRevolution least valuesOf endsInZero
 last-a-zero k room = refl
-
--- reversals two, three and four cells of 2,000 ns apart, each reported at its place: the first revolution's timings are theirs
-abbrev reversal : ℕ → ℕ → Reversal
-reversal gap place = record { gap = gap; place = pos place; pulse = pos place }
-
-abbrev pub reversals : List Reversal
-reversals = reversal 2 4000 ∷ reversal 3 10000 ∷ reversal 4 18000 ∷ []
-
-two : Fair shortestCell longestCell mostJitter (pos 0) (pos 0) (reversal 2 4000) 4000
-two = record { least = lit≤ tt; most = lit≤ tt; short = leZ-yes tt; long = leZ-yes tt; near = lit≤ tt; timing = refl }
-
-three : Fair shortestCell longestCell mostJitter (pos 4000) (pos 4000) (reversal 3 10000) 6000
-three = record { least = lit≤ tt; most = lit≤ tt; short = leZ-yes tt; long = leZ-yes tt; near = lit≤ tt; timing = refl }
-
-four : Fair shortestCell longestCell mostJitter (pos 10000) (pos 10000) (reversal 4 18000) 8000
-four = record { least = lit≤ tt; most = lit≤ tt; short = leZ-yes tt; long = leZ-yes tt; near = lit≤ tt; timing = refl }
-
-pub met : Tolerable (pos 0) (pos 0) reversals (revolutionTimings block 0)
-unfolding valuesOf timingsFrom
-met = (lit≤ tt, more two (more three (more four last)))
-
--- so demand 3 recovers their nine cells from the block
-pub recovered : (answer : Answer ℕ) (before after : List ℕ) → BlockDemand3 block 2 0 answer before after
-    → (answer ≡ refusalTable 3 9 (length before)) × (after ≡ bufferAfter answer (packed (0 ∷ 1 ∷ 0 ∷ 0 ∷ 1 ∷ 0 ∷ 0 ∷ 0 ∷ 1 ∷ [])) before)
-unfolding valuesOf timingsFrom cellsWritten cellsInAll cellsFor
-recovered answer before after demand =
-    let r = demand .recovers is-block refl .recovers (pos 0) (pos 0) reversals met in
-    (r .refusal, r .cells)

@@ -1,12 +1,4 @@
-pub mod Passing
 pub mod Table
-pub mod Judging
-pub mod NoZeros
-pub mod Timings
-pub mod History
-pub mod Taking
 pub mod Block
-pub mod BlockCells
-pub mod ByNumbers
 pub mod Laws
 pub mod Examples

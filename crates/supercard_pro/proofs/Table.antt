@@ -11,7 +11,8 @@ use lib.Seq.{getD-drop, getD-take, length-take-le}
 use Rattle.basis.specs.Bytes.{fourBytes, number}
 use Rattle.basis.specs.Search.{least}
 use Rattle.basis.proofs.Search.{least-step, least-hit, least-end}
-use Rattle.supercard_pro.specs.TrackBlock.{valueCount, valueOffset, tableEnd, valuesOf, endsInZero, otherLetters, badRevolution, someBad, notATrackBlock}
+use Rattle.supercard_pro.specs.TrackBlock.{valueCount, valueOffset, tableEnd, endsInZero, otherLetters, badRevolution, someBad, notATrackBlock}
+use Rattle.revolution_portions.specs.Timings.{valuesOf}
 
 -- a number at a place of the block
 pub number-here : (block : List ℕ) (at : ℕ)

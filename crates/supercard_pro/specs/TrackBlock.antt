@@ -13,11 +13,11 @@ use lib.Dec.{eqb, ltb}
 use lib.ListN.{length, getD, take, drop}
 use Rattle.basis.specs.Bytes.{number}
 use Rattle.basis.specs.Search.{least}
-use Rattle.flux.specs.Separation.{timingsJudged}
-use Rattle.refusals.specs.RefusedCalls.{Answer, refusedWith, bufferAfter}
-use Rattle.refusals.specs.RefusedCalls.Answer.{gives, refused}
-use Rattle.supercard_pro.specs.declared.Given.{Given}
-use Rattle.supercard_pro.specs.declared.Given.the-variants.{Timings, Refused}
+use Rattle.flux_timings.specs.Timings.{timingsJudged}
+use Rattle.refusals.specs.RefusedCalls.{Answer, bufferAfter}
+use Rattle.refusals.specs.RefusedCalls.Answer.{refused}
+use Rattle.revolution_portions.specs.Portions.{roomJudged}
+use Rattle.revolution_portions.specs.Timings.{valuesOf, timingsIn}
 
 -- "twelve bytes for each revolution (index time, number of values, offset from the block's start, each 32 bits, low byte first)", of
 -- revolution k from byte 4 + 12k on. The index time is not used
@@ -35,22 +35,7 @@ tableEnd revolutions = 4 + 12 * revolutions
 abbrev pub valueBytes : List ℕ → ℕ → List ℕ
 valueBytes block k = take (2 * valueCount block k) (drop (valueOffset block k) block)
 
--- "then 16-bit values, high byte first". A byte without its second makes no value
-unfoldable pub valuesOf : List ℕ → List ℕ
-valuesOf [] = []
-valuesOf (high ∷ []) = []
-valuesOf (high ∷ low ∷ bytes) = (256 * high + low) ∷ valuesOf bytes
-
--- "in units of 25 ns, where a 0 adds 65,536 to the next value": the timings of values in nanoseconds, where zeros before them have added
--- so many units
-unfoldable pub timingsFrom : ℕ → List ℕ → List ℕ
-timingsFrom units [] = []
-timingsFrom units (value ∷ values) = cond (eqb value 0) (timingsFrom (units + 65536) values) (25 * (units + value) ∷ timingsFrom 0 values)
-
--- the timings of a revolution's bytes. "The first values of a later revolution are not joined to the one before": nothing is added first
-abbrev pub timingsIn : List ℕ → List ℕ
-timingsIn bytes = timingsFrom 0 (valuesOf bytes)
-
+-- the timings of a revolution
 abbrev pub revolutionTimings : List ℕ → ℕ → List ℕ
 revolutionTimings block k = timingsIn (valueBytes block k)
 
@@ -86,19 +71,10 @@ notATrackBlock block revolutions = otherLetters block || (tableShort block revol
 unfoldable pub blockJudged : {A : Type 0} → List ℕ → ℕ → ℕ → Answer A → Answer A
 blockJudged block revolutions k next = cond (notATrackBlock block revolutions) (refused 16 0) (cond (ltb k revolutions) next (refused 17 0))
 
--- refusal 10 of so many timings and a list with this room: "10 for room, with the timings needed"
-abbrev pub roomJudged : ℕ → ℕ → Answer ℕ
-roomJudged count room = cond (ltb room count) (refused 10 count) (gives count)
-
 -- "Order: 16, 17, 6, 7, 8, 10", of which 6 to 8 are "as for the separator"; else the number of timings
 abbrev pub blockAnswer : List ℕ → ℕ → ℕ → ℕ → Answer ℕ
 blockAnswer block revolutions k room =
     blockJudged block revolutions k (timingsJudged (revolutionTimings block k) (roomJudged (length (revolutionTimings block k)) room))
-
--- an answer of a call, in the papers' numbers
-abbrev pub givenAnswer : Given → Answer ℕ
-givenAnswer (Timings count) = gives count
-givenAnswer (Refused refusal) = refusedWith refusal
 
 -- "Give the timings of one chosen revolution, counted from 0, into a lent list": at its front, the rest kept
 abbrev pub blockTimings : List ℕ → ℕ → ℕ → List ℕ → List ℕ

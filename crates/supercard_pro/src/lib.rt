@@ -1,49 +1,17 @@
-// Track blocks of SuperCard Pro images: the timings of one revolution, from a whole block or from its values in portions, and the cells
-// that the separator makes of them.
+// Track blocks of SuperCard Pro images: the timings of one revolution, from a whole block.
 //
 // A block is the letters TRK, the track number, a table with twelve bytes for each revolution, and the values of the revolutions, which
 // stand where the table says.
-mod numbers;
-mod portions;
-mod separating;
-
+use refusals::Counted;
 use refusals::Refusal;
-pub use separating::separate_revolution;
+use revolution_portions::RevolutionReader;
+use revolution_values::two_bytes;
 ghost use mathlib.Core.Path.{_≡_};
 ghost use Prim.Native.Nat.{_+_, _*_, _≤_, _<_};
 ghost use lib.ListN.{length, drop};
 ghost use Rattle.basis.specs.Bytes.{number};
-ghost use Rattle.supercard_pro.specs.TrackBlock.{valueCount, valueOffset, tableEnd, otherLetters, badRevolution, someBad, notATrackBlock, givenAnswer, blockAnswer, blockTimings};
-
-// What a call gives: the number of timings, or a refusal.
-pub enum Given {
-    Timings(usize),
-    Refused(Refusal),
-}
-
-// The first byte of a value, where a portion ended between its two.
-pub enum Held {
-    Nothing,
-    High(u8),
-}
-
-// The timing that has not ended: the zeros before its value, counted up to 7, and what is held of the value.
-pub struct Unfinished {
-    pub held: Held,
-    pub zeros: u32,
-}
-
-// Where the reading of a revolution's values stands: the timing that has not ended, and how many have.
-pub struct RevolutionReader {
-    pub unfinished: Unfinished,
-    pub timings: u32,
-}
-
-// A portion taken: what the call gives, and the next state, which is the same beside a refusal.
-pub struct TakenPortion {
-    pub given: Given,
-    pub next: RevolutionReader,
-}
+ghost use Rattle.refusals.specs.RefusedCalls.{countedAnswer};
+ghost use Rattle.supercard_pro.specs.TrackBlock.{valueCount, valueOffset, tableEnd, otherLetters, badRevolution, someBad, notATrackBlock, blockAnswer, blockTimings};
 
 // The timings of one revolution of a block, counted from 0, in nanoseconds, to the front of a list. `revolutions` is their number in the
 // image's header.
@@ -52,24 +20,24 @@ pub fn revolution_timings(
     revolutions: u32,
     revolution: u32,
     timings: &mut [u32],
-) -> Given
-    ensures answer { λ r. ⌜ givenAnswer r ≡ blockAnswer (now (block .entry)) revolutions revolution (length (now (timings .entry))) ⌝ }
+) -> Counted
+    ensures answer { λ r. ⌜ countedAnswer r ≡ blockAnswer (now (block .entry)) revolutions revolution (length (now (timings .entry))) ⌝ }
     ensures list { λ _. ⌜ now (timings .exit) ≡ blockTimings (now (block .entry)) revolutions revolution (now (timings .entry)) ⌝ }
 {
     if not_a_block(block, revolutions) {
-        return Given::Refused(Refusal::NotATrackBlock);
+        return Counted::Refused(Refusal::NotATrackBlock);
     }
     if revolutions <= revolution {
-        return Given::Refused(Refusal::NoSuchRevolution);
+        return Counted::Refused(Refusal::NoSuchRevolution);
     }
     let count = value_count(block, revolution);
     if count == 0 {
-        return Given::Refused(Refusal::NoTimings);
+        return Counted::Refused(Refusal::NoTimings);
     }
     let from = value_offset(block, revolution);
     let to = from + 2 * count;
     let taken = RevolutionReader::new().take(&block[from..to], timings);
-    taken.given
+    taken.answer
 }
 
 // Whether a block is refused with 16.
@@ -132,13 +100,6 @@ fn bad_revolution(block: &[u8], revolutions: u32, k: u32) -> bool
         return false;
     }
     two_bytes(block[to - 2], block[to - 1]) == 0
-}
-
-// A value, high byte first.
-fn two_bytes(high: u8, low: u8) -> u32
-    ensures { λ r. ⌜ r ≡ 256 * high + low ⌝ }
-{
-    256 * (high as u32) + (low as u32)
 }
 
 // The number of a revolution's values, and where they start.

@@ -1,3 +1,1 @@
-mod Portions
-pub mod Laws
 mod RevolutionCalls

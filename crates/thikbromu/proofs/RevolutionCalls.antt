@@ -4,11 +4,11 @@ use mathlib.Core.Path.{_≡_, _∙_, ap, subst}
 use mathlib.Core.List.{List}
 use lib.ListN.{length}
 use Rattle.refusals.specs.RefusedCalls.{Answer}
-use Rattle.supercard_pro.specs.Portions.{portionAnswer, portionReader, portionList, AllTimings}
-use Rattle.supercard_pro.specs.Numbers.{readerOfNumber, numberKept, AllByNumber}
-use Rattle.supercard_pro.proofs.ByNumbers.{all-by-number}
-use Rattle.supercard_pro.specs.declared.RevolutionReader.{RevolutionReader}
-use Rattle.thikbromu.specs.Numbers.{numberIn, valueIn}
+use Rattle.revolution_portions.specs.Portions.{portionAnswer, portionReader, portionList, AllTimings}
+use Rattle.reader_as_number.specs.Numbers.{readerOfNumber, numberKept, AllByNumber}
+use Rattle.reader_as_number.proofs.ByNumbers.{all-by-number}
+use Rattle.revolution_portions.specs.declared.RevolutionReader.{RevolutionReader}
+use Rattle.telling.specs.Numbers.{numberIn, valueIn}
 
 -- what `take` promises of a reader
 abbrev Taken : RevolutionReader → List ℕ → List ℕ → Answer ℕ → RevolutionReader → List ℕ → Type 0

@@ -1,48 +1,40 @@
 // The library for C and Rust: each routine on numbers and slices, which pass as an address and a length.
 //
-// A routine that 01 refuses some calls of returns a number: 0 where the call is accepted, else the refusal's number in
-// 01's table. What the call gives, or what the refusal gives also, is stored at `value`; beside a refusal nothing else is written,
-// but that a record or a count table is set to zeros, as 01 says, and that the cells of a file which `thikbromu_file_finish` refuses are
-// cleared.
+// A routine that 01 refuses some calls of returns a number: 0 where the call is accepted, else the refusal's number in 01's table. What the
+// call gives, or what the refusal gives also, is stored at `value`; beside a refusal nothing else is written, but that a record or a count
+// table is set to zeros, as 01 says.
 //
-// What the boundary asks of a caller in another language: each address is valid for its length, lent memory does not
-// overlap what else is passed, and a bool is 0 or 1. The routines ask nothing of the values.
+// What the boundary asks of a caller in another language: each address is valid for its length, lent memory does not overlap what else is
+// passed, and a bool is 0 or 1. The routines ask nothing of the values.
 mod blocks;
 mod files;
 
 pub use blocks::thikbromu_revolution_cells;
 pub use blocks::thikbromu_revolution_portion;
 pub use blocks::thikbromu_revolution_timings;
-pub use files::thikbromu_file_feed;
-pub use files::thikbromu_file_finish;
+pub use files::thikbromu_file_cells;
 pub use files::thikbromu_file_listing;
-pub use files::thikbromu_file_start;
 pub use files::thikbromu_listing;
 use findings::Finding;
-use findings::Found;
-use flux::Counted;
-use flux::Separated;
-use flux::Separator;
-use flux::Taken;
-use mfm::Written;
-use sectors::Listed;
-use sectors::ReadOut;
-use sectors::Sector;
+use telling::sector_numbers;
+use telling::told;
+use telling::told_read;
+use telling::told_taken;
 ghost use mathlib.Core.Path.{_≡_};
 ghost use mathlib.Core.Bool.{cond};
 ghost use Prim.Native.Nat.{_/_};
-ghost use lib.ListN.{length, take};
-ghost use Rattle.basis.specs.Lists.{writtenOver};
+ghost use lib.ListN.{length};
 ghost use Rattle.cells.specs.CellsAndBytes.{cell, wordAt, leastPlace, cleared, withOne};
 ghost use Rattle.crc.specs.CheckWord.{checkWordFrom, checkWord};
-ghost use Rattle.mfm.specs.Calls.{answerOf, codingAnswer, decodingAnswer, encodedAfter, decodedAfter};
-ghost use Rattle.flux.specs.Rule.{takenAnswer, stepAnswer, stepResidual};
-ghost use Rattle.flux.specs.Separation.{separatedAnswer, separation, separatedCells};
-ghost use Rattle.flux.specs.Demand3.{Demand3};
-ghost use Rattle.flux.specs.Histogram.{countedAnswer, counting};
-ghost use Rattle.sectors.specs.Calls.{listedAnswer, indexAnswer, readOutAnswer, dataAnswer, dataAfter};
-ghost use Rattle.findings.specs.Calls.{foundAnswer, findingsAnswer, listAfter, numbersAfter};
-ghost use Rattle.thikbromu.specs.Numbers.{numberIn, valueIn, countsLent, sectorNumbers, recordLent, numberRead, valueRead, checkRead};
+ghost use Rattle.mfm.specs.Calls.{codingAnswer, decodingAnswer, encodedAfter, decodedAfter};
+ghost use Rattle.separator.specs.Rule.{stepAnswer, stepResidual};
+ghost use Rattle.separation.specs.Separation.{separation, separatedCells};
+ghost use Rattle.separation.specs.Demand3.{Demand3};
+ghost use Rattle.histogram.specs.Histogram.{counting};
+ghost use Rattle.sectors.specs.Calls.{indexAnswer, dataAnswer, dataAfter};
+ghost use Rattle.findings.specs.Calls.{findingsAnswer, listAfter, numbersAfter};
+ghost use Rattle.telling.specs.Numbers.{numberIn, valueIn, valueRead, checkRead};
+ghost use Rattle.thikbromu.specs.Lent.{countsLent, recordLent};
 
 // Cell p of a track of n cells, counted on past n.
 #[no_mangle]
@@ -108,22 +100,6 @@ pub extern "C" fn thikbromu_check_word_from(word: u16, bytes: &[u8]) -> u16
     crc::check_word_from(word, bytes)
 }
 
-// Stores what a call gives, or what its refusal gives also, and returns 0 or the refusal's number.
-fn told(written: Written, value: &mut usize) -> u32
-    ensures { λ r. ⌜ (r ≡ numberIn (answerOf written)) × (now (value .exit) ≡ valueIn (answerOf written)) ⌝ }
-{
-    match written {
-        Written::Bytes(count) => {
-            *value = count;
-            0
-        }
-        Written::Refused(refusal) => {
-            *value = refusal.value();
-            refusal.number()
-        }
-    }
-}
-
 // Coding; `value` is the bytes of cells written.
 #[no_mangle]
 pub extern "C" fn thikbromu_encode(
@@ -149,63 +125,20 @@ pub extern "C" fn thikbromu_decode(cells: &[u8], bytes: &mut [u8], value: &mut u
     told(mfm::decode(cells, bytes), value)
 }
 
-// One step of the separator from a residual, its state; `value` is the number of cells.
+// One step of the separator, on a state that the caller lends: its residual is advanced in its place, and kept beside a refusal. `value` is
+// the number of cells.
 #[no_mangle]
-pub extern "C" fn thikbromu_step(residual: i32, timing: u32, value: &mut usize) -> u32
-    ensures number { λ r. ⌜ r ≡ numberIn (stepAnswer residual timing) ⌝ }
-    ensures value { λ _. ⌜ now (value .exit) ≡ valueIn (stepAnswer residual timing) ⌝ }
+pub extern "C" fn thikbromu_step(residual: &mut i32, timing: u32, value: &mut usize) -> u32
+    ensures number { λ r. ⌜ r ≡ numberIn (stepAnswer (now (residual .entry)) timing) ⌝ }
+    ensures value { λ _. ⌜ now (value .exit) ≡ valueIn (stepAnswer (now (residual .entry)) timing) ⌝ }
+    ensures residual { λ _. ⌜ now (residual .exit) ≡ stepResidual (now (residual .entry)) timing ⌝ }
 {
-    let state = Separator { residual: residual };
-    let stepped = state.step(timing);
+    let stepped = separator::step_lent(*residual, timing);
+    let next = stepped.next;
+    let advanced = next.residual;
+    *residual = advanced;
     let taken = stepped.taken;
     told_taken(taken, value)
-}
-
-// The residual after that step, which is the same beside a refusal.
-#[no_mangle]
-pub extern "C" fn thikbromu_residual_after(residual: i32, timing: u32) -> i32
-    ensures { λ r. ⌜ r ≡ stepResidual residual timing ⌝ }
-{
-    let state = Separator { residual: residual };
-    let after = state.step(timing);
-    let next = after.next;
-    next.residual
-}
-
-// As thikbromu_step, by way of a state that is lent.
-#[no_mangle]
-pub extern "C" fn thikbromu_step_lent(residual: i32, timing: u32, value: &mut usize) -> u32
-    ensures number { λ r. ⌜ r ≡ numberIn (stepAnswer residual timing) ⌝ }
-    ensures value { λ _. ⌜ now (value .exit) ≡ valueIn (stepAnswer residual timing) ⌝ }
-{
-    let stepped = flux::step_lent(residual, timing);
-    let taken = stepped.taken;
-    told_taken(taken, value)
-}
-
-// As thikbromu_residual_after, by way of a state that is lent.
-#[no_mangle]
-pub extern "C" fn thikbromu_residual_after_lent(residual: i32, timing: u32) -> i32
-    ensures { λ r. ⌜ r ≡ stepResidual residual timing ⌝ }
-{
-    let after = flux::step_lent(residual, timing);
-    let next = after.next;
-    next.residual
-}
-
-fn told_taken(taken: Taken, value: &mut usize) -> u32
-    ensures { λ r. ⌜ (r ≡ numberIn (takenAnswer taken)) × (now (value .exit) ≡ valueIn (takenAnswer taken)) ⌝ }
-{
-    match taken {
-        Taken::Cells(count) => {
-            *value = count as usize;
-            0
-        }
-        Taken::Refused(refusal) => {
-            *value = refusal.value();
-            refusal.number()
-        }
-    }
 }
 
 // The separator on a list of timings; `value` is the number of cells, packed at the front of `cells`.
@@ -216,22 +149,7 @@ pub extern "C" fn thikbromu_separate(timings: &[u32], cells: &mut [u8], value: &
     ensures buffer { λ _. ⌜ now (cells .exit) ≡ separatedCells (now (timings .entry)) (now (cells .entry)) ⌝ }
     ensures demand3 { λ _. ⌜ Demand3 (now (timings .entry)) (separation (now (timings .entry)) (length (now (cells .entry)))) (now (cells .entry)) (now (cells .exit)) ⌝ }
 {
-    told_separated(flux::separate(timings, cells), value)
-}
-
-fn told_separated(separated: Separated, value: &mut usize) -> u32
-    ensures { λ r. ⌜ (r ≡ numberIn (separatedAnswer separated)) × (now (value .exit) ≡ valueIn (separatedAnswer separated)) ⌝ }
-{
-    match separated {
-        Separated::Cells(count) => {
-            *value = count;
-            0
-        }
-        Separated::Refused(refusal) => {
-            *value = refusal.value();
-            refusal.number()
-        }
-    }
+    told(separation::separate(timings, cells), value)
 }
 
 // The histogram of timings: 256 counts to the front of `counts`, or as many as it has room for; `value` is the number of
@@ -242,26 +160,11 @@ pub extern "C" fn thikbromu_histogram(timings: &[u32], counts: &mut [u32], value
     ensures value { λ _. ⌜ now (value .exit) ≡ valueIn (counting (now (timings .entry))) ⌝ }
     ensures counts { λ _. ⌜ now (counts .exit) ≡ countsLent (now (timings .entry)) (now (counts .entry)) ⌝ }
 {
-    let histogram = flux::histogram_of(timings);
+    let histogram = histogram::histogram_of(timings);
     let made = histogram.counts;
     basis::copy_numbers(&made, counts);
     let answer = histogram.answer;
-    told_counted(answer, value)
-}
-
-fn told_counted(counted: Counted, value: &mut usize) -> u32
-    ensures { λ r. ⌜ (r ≡ numberIn (countedAnswer counted)) × (now (value .exit) ≡ valueIn (countedAnswer counted)) ⌝ }
-{
-    match counted {
-        Counted::Timings(count) => {
-            *value = count;
-            0
-        }
-        Counted::Refused(refusal) => {
-            *value = refusal.value();
-            refusal.number()
-        }
-    }
+    told(answer, value)
 }
 
 // Sector `index` of a track, from 0: its record as eleven numbers at the front of `numbers` (place, mark, track, side,
@@ -286,40 +189,7 @@ pub extern "C" fn thikbromu_sector(
     let made = sector_numbers(sector);
     basis::copy_numbers(&made, numbers);
     let answer = found.answer;
-    told_listed(answer, value)
-}
-
-fn sector_numbers(sector: Sector) -> [u32; 11]
-    ensures { λ r. ⌜ r ≡ sectorNumbers sector ⌝ }
-{
-    [
-        sector.place,
-        sector.mark as u32,
-        sector.track as u32,
-        sector.side as u32,
-        sector.number as u32,
-        sector.size_code as u32,
-        sector.id_check_good as u32,
-        sector.data_place,
-        sector.data_mark as u32,
-        sector.data_length,
-        sector.data_check_good as u32,
-    ]
-}
-
-fn told_listed(listed: Listed, value: &mut usize) -> u32
-    ensures { λ r. ⌜ (r ≡ numberIn (listedAnswer listed)) × (now (value .exit) ≡ valueIn (listedAnswer listed)) ⌝ }
-{
-    match listed {
-        Listed::Count(count) => {
-            *value = count;
-            0
-        }
-        Listed::Refused(refusal) => {
-            *value = refusal.value();
-            refusal.number()
-        }
-    }
+    told(answer, value)
 }
 
 // Reads out sector `index` of a track to the front of `buffer`; `value` is the number of bytes, and `good` is 1 where their
@@ -335,7 +205,7 @@ pub extern "C" fn thikbromu_read_out(
     good: &mut u32,
     value: &mut usize,
 ) -> u32
-    ensures number { λ r. ⌜ r ≡ numberRead (dataAnswer (now (bytes .entry)) n track side index (length (now (buffer .entry)))) ⌝ }
+    ensures number { λ r. ⌜ r ≡ numberIn (dataAnswer (now (bytes .entry)) n track side index (length (now (buffer .entry)))) ⌝ }
     ensures value { λ _. ⌜ now (value .exit) ≡ valueRead (dataAnswer (now (bytes .entry)) n track side index (length (now (buffer .entry)))) ⌝ }
     ensures good { λ _. ⌜ now (good .exit) ≡ checkRead (dataAnswer (now (bytes .entry)) n track side index (length (now (buffer .entry)))) (now (good .entry)) ⌝ }
     ensures buffer { λ _. ⌜ now (buffer .exit) ≡ dataAfter (now (bytes .entry)) n track side index (now (buffer .entry)) ⌝ }
@@ -345,29 +215,6 @@ pub extern "C" fn thikbromu_read_out(
         good,
         value,
     )
-}
-
-// 1 for yes and 0 for no.
-fn one_if(yes: bool) -> u32
-    ensures { λ r. ⌜ r ≡ cond yes 1 0 ⌝ }
-{
-    if yes { 1 } else { 0 }
-}
-
-fn told_read(read: ReadOut, good: &mut u32, value: &mut usize) -> u32
-    ensures { λ r. ⌜ (r ≡ numberRead (readOutAnswer read)) × (now (value .exit) ≡ valueRead (readOutAnswer read)) × (now (good .exit) ≡ checkRead (readOutAnswer read) (now (good .entry))) ⌝ }
-{
-    match read {
-        ReadOut::Data(size, check_good) => {
-            *value = size;
-            *good = one_if(check_good);
-            0
-        }
-        ReadOut::Refused(refusal) => {
-            *value = refusal.value();
-            refusal.number()
-        }
-    }
 }
 
 // The findings of a track, at the front of the list: four numbers for each, its kind, level, place and detail; `value` is the number of
@@ -385,10 +232,9 @@ pub extern "C" fn thikbromu_findings(
     ensures value { λ _. ⌜ now (value .exit) ≡ valueIn (findingsAnswer (now (bytes .entry)) n track side (length (now (list .entry)) / 4)) ⌝ }
     ensures list { λ _. ⌜ now (list .exit) ≡ numbersAfter (now (bytes .entry)) n track side (now (list .entry)) ⌝ }
 {
-    told_found(
-        findings::findings_as_numbers(bytes, n, track, side, list),
-        value,
-    )
+    let found = findings::findings_as_numbers(bytes, n, track, side, list);
+    let answer = found.answer;
+    told(answer, value)
 }
 
 // As thikbromu_findings, on a list of records as C lays them out: kind and level take a byte each, place and detail four. A list
@@ -406,20 +252,5 @@ pub extern "C" fn thikbromu_finding_records(
     ensures value { λ _. ⌜ now (value .exit) ≡ valueIn (findingsAnswer (now (bytes .entry)) n track side (length (now (list .entry)))) ⌝ }
     ensures list { λ _. ⌜ now (list .exit) ≡ listAfter (now (bytes .entry)) n track side (now (list .entry)) ⌝ }
 {
-    told_found(findings::findings(bytes, n, track, side, list), value)
-}
-
-fn told_found(found: Found, value: &mut usize) -> u32
-    ensures { λ r. ⌜ (r ≡ numberIn (foundAnswer found)) × (now (value .exit) ≡ valueIn (foundAnswer found)) ⌝ }
-{
-    match found {
-        Found::Count(count) => {
-            *value = count;
-            0
-        }
-        Found::Refused(refusal) => {
-            *value = refusal.value();
-            refusal.number()
-        }
-    }
+    told(findings::findings(bytes, n, track, side, list), value)
 }

@@ -1,96 +1,101 @@
 -- The beginning and the end of a file: each branch of the code. Assumes nothing.
 use Prim.Native.Nat.{ℕ, _≤_, _<_}
 use mathlib.Core.Path.{_≡_, refl, _∙_}
+use mathlib.Core.Bool.{false}
 use mathlib.Core.List.{List, [], _∷_, append-nil}
 use native.Mathlib.Nat.{min-eq-left}
 use native.Mathlib.Omega.{arith}
 use borrow.Author.Tests.{lt-ltb, le-ltb}
+use denote.Enum.Declared.{tagOf}
 use lib.ListN.{length, replicate, length-replicate, drop-of-length-le}
+use types.Run.{OneOf, miss}
 use Rattle.cells.specs.CellsAndBytes.{cleared}
-use Rattle.flux.specs.declared.Separator.{Separator}
-use Rattle.refusals.specs.RefusedCalls.{refusedWith}
+use Rattle.refusals.specs.RefusedCalls.{refusedWith, countedAnswer}
+use Rattle.refusals.specs.declared.Counted.{Counted}
+use Rattle.refusals.specs.declared.Counted.the-variants.{Count, Refused as CountRefused}
 use Rattle.refusals.specs.RefusedCalls.Answer.{refused}
 use Rattle.refusals.specs.declared.Refusal.{Refusal}
 use Rattle.refusals.specs.declared.Refusal.the-variants.{NoRoom}
-use Rattle.track_file.specs.Portions.{startOf, startCells, readerAfterByte, cellsAfterByte, readerAfter, cellsAfter, readAnswer, timingsAnswer, finishAnswer, leftAfter}
-use Rattle.track_file.specs.declared.Place.{Place}
-use Rattle.track_file.specs.declared.Number.the-variants.{Empty}
-use Rattle.track_file.specs.declared.TakenTimings.{TakenTimings}
-use Rattle.track_file.specs.declared.TakenTimings.the-variants.{InRange, OutOfRange}
-use Rattle.track_file.specs.declared.Reader.{Reader}
-use Rattle.track_file.specs.declared.Reader.the-variants.{PlaceCount, AllCells, AllTimings, Stopped}
-use Rattle.track_file.specs.declared.Read.{Read}
-use Rattle.track_file.specs.declared.Read.the-variants.{Cells, Refused}
+use Rattle.taken_timings.specs.Timings.{timingsAnswer}
+use Rattle.file_reader.specs.Bytes.{readerAfterByte}
+use Rattle.track_file.specs.Portions.{startOf, startCells, readerAfter, isStopped, readAnswer, finishAnswer}
+use Rattle.file_reader.specs.declared.Place.{Place}
+use Rattle.file_reader.specs.declared.Number.the-variants.{Empty}
+use Rattle.taken_timings.specs.declared.TakenTimings.{TakenTimings}
+use Rattle.file_reader.specs.declared.Reader.{Reader}
+use Rattle.file_reader.specs.declared.Reader.the-variants.{PlaceCount, Track, Side, CellCount, PackedCells, FluxCount, Timings, AllCells, AllTimings, NotATrackFile, Stopped}
+use Rattle.file_reader.proofs.Reader.{the-type}
+use Rattle.track_file.specs.declared.Read.the-variants.{Cells}
 
 -- a buffer cleared whole
-pub cleared-whole : (buffer : List ℕ) → cleared (length buffer) buffer ≡ replicate (length buffer) 0
+cleared-whole : (buffer : List ℕ) → cleared (length buffer) buffer ≡ replicate (length buffer) 0
 unfolding cleared
 cleared-whole buffer =
     let k : length buffer ≤ length buffer = omega arith in
     rw (min-eq-left k, length-replicate, drop-of-length-le buffer k) (append-nil (replicate (length buffer) 0))
 
-module _ (buffer : List ℕ) where
-  pub too-little-room : length buffer < 16384 → buffer ≡ startCells buffer
-  unfolding startCells
-  too-little-room h = rw (lt-ltb (length buffer) 16384 h)
-
-  pub room-enough : {after : List ℕ} → 16384 ≤ length buffer → after ≡ cleared (length buffer) buffer → after ≡ startCells buffer
-  unfolding startCells
-  room-enough h e = rw (le-ltb (length buffer) 16384 h) (e ∙ cleared-whole buffer)
-
 -- the beginning
-pub start-refused : (buffer : List ℕ) → length buffer < 16384 → (Stopped (NoRoom 16384) ≡ startOf (length buffer)) × (buffer ≡ startCells buffer)
-unfolding startOf
-start-refused buffer h = (rw (lt-ltb (length buffer) 16384 h), too-little-room buffer h)
+module _ (buffer : List ℕ) where
+  pub start-refused : length buffer < 16384 → (Stopped (NoRoom 16384) ≡ startOf (length buffer)) × (buffer ≡ startCells buffer)
+  unfolding startOf startCells
+  start-refused h = (rw (lt-ltb (length buffer) 16384 h), rw (lt-ltb (length buffer) 16384 h))
 
-pub start-cleared : (buffer : List ℕ) {after : List ℕ} → 16384 ≤ length buffer → after ≡ cleared (length buffer) buffer
-    → (PlaceCount Empty ≡ startOf (length buffer)) × (after ≡ startCells buffer)
-unfolding startOf
-start-cleared buffer h e = (rw (le-ltb (length buffer) 16384 h), room-enough buffer h e)
+  pub start-cleared : {after : List ℕ} → 16384 ≤ length buffer → after ≡ cleared (length buffer) buffer
+      → (PlaceCount Empty ≡ startOf (length buffer)) × (after ≡ startCells buffer)
+  unfolding startOf startCells
+  start-cleared h e = (rw (le-ltb (length buffer) 16384 h), rw (le-ltb (length buffer) 16384 h) (e ∙ cleared-whole buffer))
 
--- no byte changes a reader that is stopped, nor the buffer
+-- no byte changes a reader that is stopped
 pub reader-stays : (refusal : Refusal) (bytes : List ℕ) → readerAfter (Stopped refusal) bytes ≡ Stopped refusal
 unfolding readerAfter readerAfterByte
 reader-stays refusal [] = refl
 reader-stays refusal (byte ∷ bytes) = reader-stays refusal bytes
 
-pub cells-stay : (refusal : Refusal) (bytes buffer : List ℕ) → cellsAfter (Stopped refusal) bytes buffer ≡ buffer
-unfolding cellsAfter readerAfterByte cellsAfterByte
-cells-stay refusal [] buffer = refl
-cells-stay refusal (byte ∷ bytes) buffer = cells-stay refusal bytes buffer
-
 -- the end
 module _ (reader : Reader) where
-  pub given-short : (a : Reader) → reader ≡ a → refused 15 0 ≡ finishAnswer a → refused 15 0 ≡ finishAnswer reader
-  given-short a e f = rw e f
-
   pub given-cells : {place : Place} {count : ℕ} → reader ≡ AllCells place count → readAnswer (Cells (place .track) (place .side) count) ≡ finishAnswer reader
   unfolding finishAnswer
   given-cells e = rw e
 
-  module _ {place : Place} {taken : TakenTimings} (e : reader ≡ AllTimings place taken) where
-    pub given-too-many : {timings cells : ℕ} {s : Separator} → taken ≡ InRange timings cells s → 131072 < cells → refused 9 cells ≡ finishAnswer reader
-    unfolding finishAnswer timingsAnswer
-    given-too-many {timings} {cells} f h = rw (e, f, lt-ltb 131072 cells h)
+  module _ {place : Place} {taken : TakenTimings} (e : reader ≡ AllTimings place taken) {counted : Counted} (is : countedAnswer counted ≡ timingsAnswer taken) where
+    pub given-timings : {count : ℕ} → counted ≡ Count count → readAnswer (Cells (place .track) (place .side) count) ≡ finishAnswer reader
+    unfolding finishAnswer
+    given-timings f = rw (e, ← is, f)
 
-    pub given-timings : {timings cells : ℕ} {s : Separator} → taken ≡ InRange timings cells s → cells ≤ 131072
-        → readAnswer (Cells (place .track) (place .side) cells) ≡ finishAnswer reader
-    unfolding finishAnswer timingsAnswer
-    given-timings {timings} {cells} f h = rw (e, f, le-ltb 131072 cells h)
-
-    pub given-out-of-range : {index : ℕ} → taken ≡ OutOfRange index → refused 8 index ≡ finishAnswer reader
-    unfolding finishAnswer timingsAnswer
-    given-out-of-range f = rw (e, f)
+    pub given-refusal : {refusal : Refusal} → counted ≡ CountRefused refusal → refusedWith refusal ≡ finishAnswer reader
+    unfolding finishAnswer
+    given-refusal f = rw (e, ← is, f)
 
   pub given-stopped : {refusal : Refusal} → reader ≡ Stopped refusal → refusedWith refusal ≡ finishAnswer reader
   unfolding finishAnswer
   given-stopped e = rw e
 
-module _ (read : Read) (buffer : List ℕ) where
-  pub accepted-kept : {track side count : ℕ} → read ≡ Cells track side count → buffer ≡ leftAfter (readAnswer read) buffer
-  unfolding leftAfter
-  accepted-kept e = rw e
+-- anywhere else, by the number of the state, the file is short
+pub given-elsewhere : (reader : Reader) → OneOf (0 ∷ 1 ∷ 2 ∷ 3 ∷ 4 ∷ 5 ∷ 6 ∷ 9 ∷ []) (tagOf the-type reader) → refused 15 0 ≡ finishAnswer reader
+unfolding finishAnswer
+given-elsewhere (PlaceCount number) h = refl
+given-elsewhere Track h = refl
+given-elsewhere (Side track) h = refl
+given-elsewhere (CellCount place number) h = refl
+given-elsewhere (PackedCells place count at) h = refl
+given-elsewhere (FluxCount place cells number) h = refl
+given-elsewhere (Timings place left number taken) h = refl
+given-elsewhere (AllCells place count) h = absurd (miss (0 ∷ 1 ∷ 2 ∷ 3 ∷ 4 ∷ 5 ∷ 6 ∷ 9 ∷ []) 7 tt h)
+given-elsewhere (AllTimings place taken) h = absurd (miss (0 ∷ 1 ∷ 2 ∷ 3 ∷ 4 ∷ 5 ∷ 6 ∷ 9 ∷ []) 8 tt h)
+given-elsewhere NotATrackFile h = refl
+given-elsewhere (Stopped refusal) h = absurd (miss (0 ∷ 1 ∷ 2 ∷ 3 ∷ 4 ∷ 5 ∷ 6 ∷ 9 ∷ []) 10 tt h)
 
-  pub refused-left : {refusal : Refusal} {after : List ℕ} → read ≡ Refused refusal → after ≡ startCells buffer → after ≡ leftAfter (readAnswer read) buffer
-  unfolding leftAfter
-  refused-left e f = rw e f
+-- any state but the last goes on
+pub goes-on : (reader : Reader) → OneOf (0 ∷ 1 ∷ 2 ∷ 3 ∷ 4 ∷ 5 ∷ 6 ∷ 7 ∷ 8 ∷ 9 ∷ []) (tagOf the-type reader) → false ≡ isStopped reader
+unfolding isStopped
+goes-on (PlaceCount number) h = refl
+goes-on Track h = refl
+goes-on (Side track) h = refl
+goes-on (CellCount place number) h = refl
+goes-on (PackedCells place count at) h = refl
+goes-on (FluxCount place cells number) h = refl
+goes-on (Timings place left number taken) h = refl
+goes-on (AllCells place count) h = refl
+goes-on (AllTimings place taken) h = refl
+goes-on NotATrackFile h = refl
+goes-on (Stopped refusal) h = absurd (miss (0 ∷ 1 ∷ 2 ∷ 3 ∷ 4 ∷ 5 ∷ 6 ∷ 7 ∷ 8 ∷ 9 ∷ []) 10 tt h)

@@ -13,20 +13,23 @@ use lib.ListN.{length, set, take, drop, replicate, length-drop, length-replicate
 use lib.Seq.{sets, sets-eq, length-take-le}
 use Rattle.basis.specs.Lists.{writtenOver}
 use Rattle.cells.specs.CellsAndBytes.{bytesFor, packed}
-use Rattle.refusals.specs.RefusedCalls.Answer.{gives}
+use Rattle.refusals.specs.RefusedCalls.{Answer}
+use Rattle.refusals.specs.RefusedCalls.Answer.{gives, refused}
 use Rattle.refusals.specs.declared.Refusal.the-variants.{CellCount as CellsRefused, TooManyTimings, NotATrackFile as NoTrackFile}
-use Rattle.flux.specs.Separation.{cellsOf}
+use Rattle.separation.specs.Separation.{cellsOf, separation}
 use Rattle.basis.specs.Bytes.{fourBytes, number}
 use Rattle.track_file.specs.TrackFile.{numbers, Content, placed, fileCells}
-use Rattle.track_file.specs.Portions.{numberAfter, takenAfter, takenCells, afterPlaceCount, afterCellCount, afterFluxCount, inPlaceCount, inCellCount, inFluxCount, inTiming, inTimingCells, readerAfterByte, cellsAfterByte, readerAfter, cellsAfter, finishAnswer}
-use Rattle.track_file.specs.declared.Place.{Place}
-use Rattle.track_file.specs.declared.Number.the-variants.{Empty}
-use Rattle.track_file.specs.declared.TakenTimings.{TakenTimings}
-use Rattle.track_file.specs.declared.Reader.{Reader}
-use Rattle.track_file.specs.declared.Reader.the-variants.{PlaceCount, Track, CellCount, PackedCells, FluxCount, Timings, AllCells, NotATrackFile, Stopped}
-use Rattle.track_file.proofs.Sections.{more-bytes, last-byte}
-use Rattle.track_file.proofs.Taking.{cellsOver, tookWith, taken-answer}
-use Rattle.track_file.proofs.TimingCells.{never, zeros, accepted, timings-filled}
+use Rattle.taken_timings.specs.Timings.{takenAfter, takenCells}
+use Rattle.file_reader.specs.Bytes.{numberAfter, afterPlaceCount, afterCellCount, afterFluxCount, inPlaceCount, inCellCount, inFluxCount, inTiming, inTimingCells, readerAfterByte, cellsAfterByte}
+use Rattle.track_file.specs.Portions.{readerAfter, cellsAfter, finishAnswer}
+use Rattle.file_reader.specs.declared.Place.{Place}
+use Rattle.file_reader.specs.declared.Number.the-variants.{Empty}
+use Rattle.taken_timings.specs.declared.TakenTimings.{TakenTimings}
+use Rattle.file_reader.specs.declared.Reader.{Reader}
+use Rattle.file_reader.specs.declared.Reader.the-variants.{PlaceCount, Track, CellCount, PackedCells, FluxCount, Timings, AllCells, NotATrackFile, Stopped}
+use Rattle.file_reader.proofs.Sections.{more-bytes, last-byte}
+use Rattle.taken_timings.proofs.Taking.{cellsOver, tookWith, taken-answer}
+use Rattle.taken_timings.proofs.TimingCells.{never, zeros, accepted, timings-filled}
 use Rattle.track_file.proofs.Staged.{ends, ends-stopped, ends-no-file, length-numbers, some-of, next-timing, timings-whole, timings-not-whole, packed-end}
 
 no-file-stays : (bytes buffer : List ℕ) → cellsAfter NotATrackFile bytes buffer ≡ buffer
@@ -54,6 +57,18 @@ timings-cells place (suc k) taken (a ∷ b ∷ c ∷ d ∷ ys) buffer e =
     ap (λ (s : Reader). cellsAfter s ys (takenCells taken t buffer)) (next-timing place k (takenAfter taken t))
     ∙ timings-cells place k (takenAfter taken t) ys (takenCells taken t buffer) (omega arith)
 
+-- an answer that is accepted at a place is accepted
+pub placed-gives : (track side : ℕ) (answer : Answer ℕ) {content : Content} → placed track side answer ≡ gives content → answer ≡ gives (content .cells)
+placed-gives track side answer e = go answer e
+  where
+    counted : Answer Content → Answer ℕ
+    counted (gives content) = gives (content .cells)
+    counted (refused number value) = refused number value
+
+    go : (answer : Answer ℕ) {content : Content} → placed track side answer ≡ gives content → answer ≡ gives (content .cells)
+    go (gives cells) e = ap counted e
+    go (refused number value) e = ap counted e
+
 module _ (place : Place) (room : ℕ) (big : 16384 ≤ room) (content : Content) where
   timings-buffer : (k : ℕ) (ys : List ℕ) → suc k ≤ 65536 → ends (Timings place (suc k) Empty (tookWith 0 0 (pos 0))) ys ≡ gives content
       → cellsAfter (Timings place (suc k) Empty (tookWith 0 0 (pos 0))) ys (zeros room) ≡ writtenOver (packed (cellsOf (numbers (suc k) ys))) (zeros room)
@@ -67,8 +82,8 @@ module _ (place : Place) (room : ℕ) (big : 16384 ≤ room) (content : Content)
           let l : length ts ≡ suc k = length-numbers (suc k) ys in
           let some : length ts ≡ 0 → ⊥ = λ z. omega arith in
           let few : length ts ≤ 65536 = omega arith in
-          let ok = accepted (place .track) (place .side) ts some few
-          (sym (ap finishAnswer (timings-whole place k (tookWith 0 0 (pos 0)) ys w) ∙ ap (placed (place .track) (place .side)) (taken-answer ts some few)) ∙ e) in
+          let ok = accepted ts some few
+          (placed-gives (place .track) (place .side) (separation ts 16384) (sym (ap finishAnswer (timings-whole place k (tookWith 0 0 (pos 0)) ys w) ∙ ap (placed (place .track) (place .side)) (taken-answer ts some few)) ∙ e)) in
           timings-cells place k (tookWith 0 0 (pos 0)) ys (zeros room) w ∙ timings-filled room big ts few ok
       go (no f) = never (sym (timings-not-whole place k (tookWith 0 0 (pos 0)) ys f) ∙ e)
 

@@ -13,12 +13,13 @@ use Rattle.cells.specs.CellsAndBytes.{bytesFor}
 use Rattle.refusals.specs.RefusedCalls.{Answer}
 use Rattle.refusals.specs.RefusedCalls.Answer.{gives, refused}
 use Rattle.refusals.specs.declared.Refusal.the-variants.{NotATrackFile as NoTrackFile}
-use Rattle.flux.specs.Separation.{separation}
+use Rattle.separation.specs.Separation.{separation}
 use Rattle.basis.specs.Bytes.{fourBytes, number}
 use Rattle.track_file.specs.TrackFile.{Content, placed, trackOf, sideOf, placeCount, cellSection, cellCount, fluxSection, fluxCount, timings, bothOrNeither, givenAtOnce, notATrackFile, fileAnswer}
-use Rattle.track_file.specs.Portions.{numberAfter, afterPlaceCount, inPlaceCount, readerAfterByte, readerAfter, finishAnswer}
-use Rattle.track_file.specs.declared.Number.the-variants.{Empty}
-use Rattle.track_file.specs.declared.Reader.the-variants.{PlaceCount, Track, Stopped}
+use Rattle.file_reader.specs.Bytes.{numberAfter, afterPlaceCount, inPlaceCount, readerAfterByte}
+use Rattle.track_file.specs.Portions.{readerAfter, finishAnswer}
+use Rattle.file_reader.specs.declared.Number.the-variants.{Empty}
+use Rattle.file_reader.specs.declared.Reader.the-variants.{PlaceCount, Track, Stopped}
 use Rattle.track_file.proofs.Staged.{ends, short, ends-stopped, fluxStage, cellStage, cell-end}
 
 or-true : (x : Bool) → (x || true) ≡ true

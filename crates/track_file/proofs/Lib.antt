@@ -1,15 +1,8 @@
-pub mod Numbers
-pub mod Sections
-pub mod Bytes
 pub mod Endings
 pub mod Portions
-pub mod Taking
-pub mod TimingCells
 pub mod Staged
 pub mod Judged
-pub mod Lengths
 pub mod Filling
 pub mod Whole
 pub mod Stopping
 pub mod Settling
-pub mod Laws

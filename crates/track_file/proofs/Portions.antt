@@ -2,20 +2,22 @@
 -- nothing.
 use Prim.Native.Nat.{ℕ, _+_, _-_, _≤_, _<_}
 use mathlib.Core.Path.{_≡_, refl, sym, _∙_, ap}
-use mathlib.Core.List.{List, [], _∷_, _++_, append-assoc, append-nil}
+use mathlib.Core.List.{List, [], _∷_, _++_, append-nil}
 use native.Mathlib.Numerals.{add-one}
 use native.Mathlib.Omega.{arith}
 use lib.ListN.{length, getD, drop, drop-of-length-le}
 use lib.Seq.{drop-cons}
 use Rattle.basis.specs.Bytes.{fourBytes}
-use Rattle.track_file.specs.Portions.{numberAfter, takenAfter, takenCells, inTiming, inTimingCells, readerAfterByte, cellsAfterByte, readerAfter, cellsAfter, readerAfterAll, cellsAfterAll, wholeOf}
-use Rattle.track_file.specs.declared.Place.{Place}
-use Rattle.track_file.specs.declared.Number.{Number}
-use Rattle.track_file.specs.declared.Number.the-variants.{Empty}
-use Rattle.track_file.specs.declared.TakenTimings.{TakenTimings}
-use Rattle.track_file.specs.declared.Reader.{Reader}
-use Rattle.track_file.specs.declared.Reader.the-variants.{Timings}
-use Rattle.track_file.proofs.Sections.{more-timings}
+use Rattle.taken_timings.specs.Timings.{takenAfter, takenCells}
+use Rattle.file_reader.specs.Bytes.{numberAfter, inTiming, inTimingCells, readerAfterByte, cellsAfterByte}
+use Rattle.track_file.specs.Portions.{startOf, startCells, readerAfter, cellsAfter, readerAfterAll, cellsAfterAll, readerThrough, cellsThrough, wholeOf}
+use Rattle.file_reader.specs.declared.Place.{Place}
+use Rattle.file_reader.specs.declared.Number.{Number}
+use Rattle.file_reader.specs.declared.Number.the-variants.{Empty}
+use Rattle.taken_timings.specs.declared.TakenTimings.{TakenTimings}
+use Rattle.file_reader.specs.declared.Reader.{Reader}
+use Rattle.file_reader.specs.declared.Reader.the-variants.{Timings}
+use Rattle.file_reader.proofs.Sections.{more-timings}
 
 -- a portion cut in two
 pub reader-cut : (reader : Reader) (a b : List ℕ) → readerAfter reader (a ++ b) ≡ readerAfter (readerAfter reader a) b
@@ -41,22 +43,19 @@ cells-joined reader (portion ∷ portions) buffer =
     cells-joined (readerAfter reader portion) portions (cellsAfter reader portion buffer) ∙ sym (cells-cut reader portion (wholeOf portions) buffer)
 
 -- one portion more, for a caller that feeds them in a loop
-module _ (portion : List ℕ) where
-  pub reader-then : (reader : Reader) (portions : List (List ℕ)) → readerAfterAll reader (portions ++ (portion ∷ [])) ≡ readerAfter (readerAfterAll reader portions) portion
-  unfolding readerAfterAll
-  reader-then reader [] = refl
-  reader-then reader (first ∷ portions) = reader-then (readerAfter reader first) portions
+pub cells-then : (portion : List ℕ) (reader : Reader) (portions : List (List ℕ)) (buffer : List ℕ)
+    → cellsAfterAll reader (portions ++ (portion ∷ [])) buffer ≡ cellsAfter (readerAfterAll reader portions) portion (cellsAfterAll reader portions buffer)
+unfolding readerAfterAll cellsAfterAll
+cells-then portion reader [] buffer = refl
+cells-then portion reader (first ∷ portions) buffer = cells-then portion (readerAfter reader first) portions (cellsAfter reader first buffer)
 
-  pub cells-then : (reader : Reader) (portions : List (List ℕ)) (buffer : List ℕ)
-      → cellsAfterAll reader (portions ++ (portion ∷ [])) buffer ≡ cellsAfter (readerAfterAll reader portions) portion (cellsAfterAll reader portions buffer)
-  unfolding readerAfterAll cellsAfterAll
-  cells-then reader [] buffer = refl
-  cells-then reader (first ∷ portions) buffer = cells-then (readerAfter reader first) portions (cellsAfter reader first buffer)
-
-  pub whole-then : (portions : List (List ℕ)) → wholeOf (portions ++ (portion ∷ [])) ≡ wholeOf portions ++ portion
-  unfolding wholeOf
-  whole-then [] = append-nil portion
-  whole-then (first ∷ portions) = ap (λ (x : List ℕ). first ++ x) (whole-then portions) ∙ sym (append-assoc first (wholeOf portions) portion)
+-- a file in one portion
+pub in-one-portion : (buffer file : List ℕ) {start reader : Reader} {cleared cells : List ℕ} → (start ≡ startOf (length buffer)) × (cleared ≡ startCells buffer)
+    → (reader ≡ readerAfter start file) × (cells ≡ cellsAfter start file cleared)
+    → (reader ≡ readerThrough buffer (file ∷ [])) × ((cells ≡ cellsThrough buffer (file ∷ [])) × (wholeOf (file ∷ []) ≡ file))
+unfolding readerAfterAll cellsAfterAll wholeOf
+in-one-portion buffer file started fed =
+    (rw (← started .0) (fed .0), (rw (← started .0, ← started .1) (fed .1), append-nil file))
 
 -- the bytes of a portion from `from` to i are fed
 pub record Fed (portion cells₀ : List ℕ) (reader₀ : Reader) (from : ℕ) (cells : List ℕ) (reader : Reader) (i : ℕ) : Type 0 where

@@ -7,35 +7,22 @@ use native.Mathlib.Omega.{arith}
 use lib.Dec.{ltb}
 use lib.ListN.{length}
 use Rattle.refusals.specs.declared.Refusal.{Refusal}
-use Rattle.track_file.specs.TrackFile.{refusedAtOnce, fileAnswerIn, fileBuffer}
-use Rattle.track_file.specs.Portions.{startOf, startCells, readerAfter, cellsAfter, readerThrough, wholeOf, isStopped, finishAnswer, leftAfter, AtOnce}
-use Rattle.track_file.specs.declared.Reader.{Reader}
-use Rattle.track_file.specs.declared.Reader.the-variants.{Stopped}
-use Rattle.track_file.proofs.Endings.{reader-stays, cells-stay}
-use Rattle.track_file.proofs.Portions.{reader-cut, cells-cut, reader-joined}
-use Rattle.track_file.proofs.Staged.{ends}
-use Rattle.track_file.proofs.Whole.{whole-answer, whole-buffer}
+use Rattle.track_file.specs.TrackFile.{refusedAtOnce, fileAnswerIn}
+use Rattle.track_file.specs.Portions.{startOf, readerAfter, readerThrough, wholeOf, isStopped, finishAnswer, AtOnce}
+use Rattle.file_reader.specs.declared.Reader.{Reader}
+use Rattle.file_reader.specs.declared.Reader.the-variants.{Stopped}
+use Rattle.track_file.proofs.Endings.{reader-stays}
+use Rattle.track_file.proofs.Portions.{reader-cut, reader-joined}
+use Rattle.track_file.proofs.Whole.{whole-answer}
 use Rattle.track_file.proofs.Stopping.{from-start}
 
 -- after a reader that is stopped nothing matters
-module _ (buffer file : List ℕ) (refusal : Refusal) (is : readerAfter (startOf (length buffer)) file ≡ Stopped refusal) (rest : List ℕ) where
-  abbrev start : Reader
-  start = startOf (length buffer)
-
-  still : readerAfter start (file ++ rest) ≡ readerAfter start file
-  still = reader-cut start file rest ∙ ap (λ (s : Reader). readerAfter s rest) is ∙ reader-stays refusal rest ∙ sym is
-
-  same-answer : fileAnswerIn (length buffer) (file ++ rest) ≡ fileAnswerIn (length buffer) file
-  same-answer = sym (whole-answer (length buffer) (file ++ rest)) ∙ ap finishAnswer still ∙ whole-answer (length buffer) file
-
-  same-buffer : fileBuffer buffer (file ++ rest) ≡ fileBuffer buffer file
-  same-buffer =
-      sym (whole-buffer buffer (file ++ rest))
-      ∙ ap (λ (s : Reader). leftAfter (finishAnswer s) (cellsAfter start (file ++ rest) (startCells buffer))) still
-      ∙ ap (leftAfter (ends start file))
-      (cells-cut start file rest (startCells buffer) ∙ ap (λ (s : Reader). cellsAfter s rest (cellsAfter start file (startCells buffer))) is
-      ∙ cells-stay refusal rest (cellsAfter start file (startCells buffer)))
-      ∙ whole-buffer buffer file
+same-answer : (room : ℕ) (file : List ℕ) (refusal : Refusal) → readerAfter (startOf room) file ≡ Stopped refusal → (rest : List ℕ)
+    → fileAnswerIn room (file ++ rest) ≡ fileAnswerIn room file
+same-answer room file refusal is rest =
+    let start = startOf room in
+    let still : readerAfter start (file ++ rest) ≡ readerAfter start file = reader-cut start file rest ∙ ap (λ (s : Reader). readerAfter s rest) is ∙ reader-stays refusal rest ∙ sym is in
+    sym (whole-answer room (file ++ rest)) ∙ ap finishAnswer still ∙ whole-answer room file
 
 -- all that `stopped` promises
 exactly-at-once : (reader : Reader) {answer : Bool} → answer ≡ isStopped reader → (buffer : List ℕ) (portions : List (List ℕ)) → reader ≡ readerThrough buffer portions
@@ -51,15 +38,13 @@ is-stopped reader {refusal} e =
       record {
         exactly = exactly-at-once reader yes;
         settled = λ t buffer portions is rest.
-            let r = sym (reader-joined (startOf (length buffer)) portions) ∙ sym is ∙ e in
-            (same-answer buffer (wholeOf portions) refusal r rest, same-buffer buffer (wholeOf portions) refusal r rest);
+            same-answer (length buffer) (wholeOf portions) refusal (sym (reader-joined (startOf (length buffer)) portions) ∙ sym is ∙ e) rest;
       },
     )
 
-pub not-stopped : (reader a : Reader) → reader ≡ a → false ≡ isStopped a → (false ≡ isStopped reader) × AtOnce reader false
-not-stopped reader a e f =
-    let no = f ∙ ap isStopped (sym e) in
-    (no, record { exactly = exactly-at-once reader no; settled = λ t buffer portions is rest. absurd (differ t) })
+pub not-stopped : (reader : Reader) → false ≡ isStopped reader → (false ≡ isStopped reader) × AtOnce reader false
+not-stopped reader is-not =
+    (is-not, record { exactly = exactly-at-once reader is-not; settled = λ t buffer portions is rest. absurd (differ t) })
   where
     differ : false ≡ true → ⊥
     differ t = let z : _≡_ {A = ℕ} 0 1 = cc in omega arith

@@ -14,18 +14,20 @@ use Rattle.refusals.specs.RefusedCalls.{Answer, refusedWith}
 use Rattle.refusals.specs.RefusedCalls.Answer.{gives, refused}
 use Rattle.refusals.specs.declared.Refusal.{Refusal}
 use Rattle.refusals.specs.declared.Refusal.the-variants.{CellCount as CellsRefused, TooManyTimings}
-use Rattle.flux.specs.Separation.{separation}
+use Rattle.separation.specs.Separation.{separation}
 use Rattle.basis.specs.Bytes.{fourBytes, number}
 use Rattle.track_file.specs.TrackFile.{numbers, Content, placed}
-use Rattle.track_file.specs.Portions.{numberAfter, takenAfter, afterCellCount, afterFluxCount, afterTiming, inCellCount, inFluxCount, inTiming, readerAfterByte, readerAfter, finishAnswer}
-use Rattle.track_file.specs.declared.Place.{Place}
-use Rattle.track_file.specs.declared.Number.the-variants.{Empty}
-use Rattle.track_file.specs.declared.TakenTimings.{TakenTimings}
-use Rattle.track_file.specs.declared.Reader.{Reader}
-use Rattle.track_file.specs.declared.Reader.the-variants.{CellCount, PackedCells, FluxCount, Timings, AllCells, AllTimings, NotATrackFile, Stopped}
-use Rattle.track_file.proofs.Sections.{more-bytes, last-byte, more-timings, last-timing}
+use Rattle.taken_timings.specs.Timings.{takenAfter}
+use Rattle.file_reader.specs.Bytes.{numberAfter, afterCellCount, afterFluxCount, afterTiming, inCellCount, inFluxCount, inTiming, readerAfterByte}
+use Rattle.track_file.specs.Portions.{readerAfter, finishAnswer}
+use Rattle.file_reader.specs.declared.Place.{Place}
+use Rattle.file_reader.specs.declared.Number.the-variants.{Empty}
+use Rattle.taken_timings.specs.declared.TakenTimings.{TakenTimings}
+use Rattle.file_reader.specs.declared.Reader.{Reader}
+use Rattle.file_reader.specs.declared.Reader.the-variants.{CellCount, PackedCells, FluxCount, Timings, AllCells, AllTimings, NotATrackFile, Stopped}
+use Rattle.file_reader.proofs.Sections.{more-bytes, last-byte, more-timings, last-timing}
 use Rattle.track_file.proofs.Endings.{reader-stays}
-use Rattle.track_file.proofs.Taking.{takenOver, tookWith, taken-answer}
+use Rattle.taken_timings.proofs.Taking.{takenOver, tookWith, taken-answer}
 
 -- what the file gives that has these bytes left where the reader stands so
 abbrev pub ends : Reader → List ℕ → Answer Content

@@ -13,16 +13,18 @@ use Rattle.refusals.specs.declared.Refusal.{Refusal}
 use Rattle.refusals.specs.declared.Refusal.the-variants.{CellCount as CellsRefused, TooManyTimings, NoRoom, NotATrackFile as NoTrackFile}
 use Rattle.basis.specs.Bytes.{fourBytes, number}
 use Rattle.track_file.specs.TrackFile.{hasCount, refusedAtOnce}
-use Rattle.track_file.specs.Portions.{startOf, numberAfter, takenAfter, afterPlaceCount, afterCellCount, afterFluxCount, afterTiming, inPlaceCount, inCellCount, inFluxCount, inTiming, readerAfterByte, readerAfter, isStopped}
-use Rattle.track_file.specs.declared.Place.{Place}
-use Rattle.track_file.specs.declared.Number.{Number}
-use Rattle.track_file.specs.declared.Number.the-variants.{Empty, One, Two, Three}
-use Rattle.track_file.specs.declared.TakenTimings.{TakenTimings}
-use Rattle.track_file.specs.declared.Reader.{Reader}
-use Rattle.track_file.specs.declared.Reader.the-variants.{PlaceCount, Track, CellCount, PackedCells, FluxCount, Timings, AllCells, AllTimings, NotATrackFile, Stopped}
-use Rattle.track_file.proofs.Sections.{more-bytes, last-byte}
+use Rattle.taken_timings.specs.Timings.{takenAfter}
+use Rattle.file_reader.specs.Bytes.{numberAfter, afterPlaceCount, afterCellCount, afterFluxCount, afterTiming, inPlaceCount, inCellCount, inFluxCount, inTiming, readerAfterByte}
+use Rattle.track_file.specs.Portions.{startOf, readerAfter, isStopped}
+use Rattle.file_reader.specs.declared.Place.{Place}
+use Rattle.file_reader.specs.declared.Number.{Number}
+use Rattle.file_reader.specs.declared.Number.the-variants.{Empty, One, Two, Three}
+use Rattle.taken_timings.specs.declared.TakenTimings.{TakenTimings}
+use Rattle.file_reader.specs.declared.Reader.{Reader}
+use Rattle.file_reader.specs.declared.Reader.the-variants.{PlaceCount, Track, CellCount, PackedCells, FluxCount, Timings, AllCells, AllTimings, NotATrackFile, Stopped}
+use Rattle.file_reader.proofs.Sections.{more-bytes, last-byte}
 use Rattle.track_file.proofs.Endings.{reader-stays}
-use Rattle.track_file.proofs.Taking.{tookWith}
+use Rattle.taken_timings.proofs.Taking.{tookWith}
 use Rattle.track_file.proofs.Staged.{no-file-stays, some-of}
 
 -- whether the reader is stopped after these bytes

@@ -1,24 +1,24 @@
 -- However a file is cut into portions, what `finish` promises is what is said of the whole file. Assumes nothing.
-use Prim.Native.Nat.{ℕ, _≤_, _<_}
-use mathlib.Core.Path.{_≡_, refl, _∙_, ap}
+use Prim.Native.Nat.{ℕ}
+use mathlib.Core.Path.{_≡_, refl, sym, _∙_, ap}
 use mathlib.Core.Bool.{Bool, true, false, cond}
 use mathlib.Core.List.{List}
-use borrow.Author.Tests.{lt-ltb, le-ltb, ltb-true, ltb-false}
+use borrow.Author.Tests.{ltb-false}
 use lib.Dec.{ltb}
-use lib.ListN.{length, replicate, length-replicate}
-use Rattle.refusals.specs.RefusedCalls.{Answer, bufferAfter}
+use lib.ListN.{length, replicate}
+use Rattle.basis.specs.Lists.{writtenOver}
+use Rattle.refusals.specs.RefusedCalls.{Answer}
 use Rattle.refusals.specs.RefusedCalls.Answer.{gives, refused}
 use Rattle.refusals.specs.declared.Refusal.the-variants.{NoRoom}
 use Rattle.track_file.specs.TrackFile.{Content, fileAnswer, fileCells, fileAnswerIn, fileBuffer}
-use Rattle.track_file.specs.Portions.{startOf, startCells, cellsAfter, wholeOf, finishAnswer, leftAfter, WholeFile}
-use Rattle.track_file.specs.declared.Number.the-variants.{Empty}
-use Rattle.track_file.specs.declared.Reader.{Reader}
-use Rattle.track_file.specs.declared.Reader.the-variants.{PlaceCount, Stopped}
-use Rattle.track_file.proofs.Endings.{cells-stay}
+use Rattle.track_file.specs.Portions.{startOf, startCells, cellsAfter, wholeOf, finishAnswer, WholeFile}
+use Rattle.file_reader.specs.declared.Number.the-variants.{Empty}
+use Rattle.file_reader.specs.declared.Reader.{Reader}
+use Rattle.file_reader.specs.declared.Reader.the-variants.{PlaceCount, Stopped}
 use Rattle.track_file.proofs.Portions.{reader-joined, cells-joined}
+use Rattle.taken_timings.proofs.TimingCells.{never}
 use Rattle.track_file.proofs.Staged.{ends, ends-stopped}
 use Rattle.track_file.proofs.Judged.{file-answer}
-use Rattle.track_file.proofs.Lengths.{length-after}
 use Rattle.track_file.proofs.Filling.{file-filled}
 
 -- the answer
@@ -30,59 +30,30 @@ whole-answer room file = go (ltb room 16384)
     go true = ends-stopped (NoRoom 16384) file
     go false = file-answer file
 
--- the buffer, where it has room
-blank-kept : (room : ℕ) → 16384 ≤ room → (buffer : List ℕ) → length buffer ≡ room → startCells buffer ≡ replicate room 0
-unfolding startCells
-blank-kept room big buffer e = rw (e, le-ltb room 16384 big)
-
-left-whole : (room : ℕ) → 16384 ≤ room → (file : List ℕ)
-    → leftAfter (ends (PlaceCount Empty) file) (cellsAfter (PlaceCount Empty) file (replicate room 0)) ≡ bufferAfter (fileAnswer file) (fileCells file) (replicate room 0)
-unfolding leftAfter bufferAfter
-left-whole room big file = rw (← file-answer file) (go (ends (PlaceCount Empty) file) refl)
-  where
-    go : (answer : Answer Content) → ends (PlaceCount Empty) file ≡ answer
-        → leftAfter answer (cellsAfter (PlaceCount Empty) file (replicate room 0)) ≡ bufferAfter answer (fileCells file) (replicate room 0)
-    go (gives content) e = file-filled room big content file e
-    go (refused number value) e =
-        blank-kept room big (cellsAfter (PlaceCount Empty) file (replicate room 0))
-        (length-after (PlaceCount Empty) file (replicate room 0) ∙ length-replicate room 0)
-
--- and where it has too little
-left-kept : (buffer : List ℕ) → length buffer < 16384 → (file : List ℕ)
-    → leftAfter (ends (Stopped (NoRoom 16384)) file) (cellsAfter (Stopped (NoRoom 16384)) file buffer) ≡ buffer
-unfolding leftAfter startCells
-left-kept buffer few file =
-    rw (ends-stopped (NoRoom 16384) file, cells-stay (NoRoom 16384) file buffer, lt-ltb (length buffer) 16384 few)
-
-pub whole-buffer : (buffer file : List ℕ)
-    → leftAfter (ends (startOf (length buffer)) file) (cellsAfter (startOf (length buffer)) file (startCells buffer)) ≡ fileBuffer buffer file
+-- and what is left in the buffer, where it is accepted
+pub whole-buffer : (buffer file : List ℕ) (content : Content) → ends (startOf (length buffer)) file ≡ gives content
+    → cellsAfter (startOf (length buffer)) file (startCells buffer) ≡ fileBuffer (length buffer) file
 unfolding startOf startCells fileBuffer
-whole-buffer buffer file = go (ltb (length buffer) 16384) refl
+whole-buffer buffer file content = go (ltb (length buffer) 16384) refl
   where
-    go : (x : Bool) → ltb (length buffer) 16384 ≡ x
-        → leftAfter (ends (cond x (Stopped (NoRoom 16384)) (PlaceCount Empty)) file)
-        (cellsAfter (cond x (Stopped (NoRoom 16384)) (PlaceCount Empty)) file (cond x buffer (replicate (length buffer) 0)))
-        ≡ cond x buffer (bufferAfter (fileAnswer file) (fileCells file) (replicate (length buffer) 0))
-    go true e = left-kept buffer (ltb-true (length buffer) 16384 e) file
-    go false e = left-whole (length buffer) (ltb-false (length buffer) 16384 e) file
+    go : (x : Bool) → ltb (length buffer) 16384 ≡ x → ends (cond x (Stopped (NoRoom 16384)) (PlaceCount Empty)) file ≡ gives content
+        → cellsAfter (cond x (Stopped (NoRoom 16384)) (PlaceCount Empty)) file (cond x buffer (replicate (length buffer) 0))
+        ≡ writtenOver (fileCells file) (replicate (length buffer) 0)
+    go true e accepted = never (sym (ends-stopped (NoRoom 16384) file) ∙ accepted)
+    go false e accepted = file-filled (length buffer) (ltb-false (length buffer) 16384 e) content file accepted
 
--- all that `finish` promises, from its answer and the buffer that the answer leaves
-pub finished : (reader : Reader) (before after : List ℕ) {answer : Answer Content} → answer ≡ finishAnswer reader → after ≡ leftAfter answer before
-    → (answer ≡ finishAnswer reader) × ((after ≡ leftAfter (finishAnswer reader) before) × WholeFile reader before answer after)
-finished reader before after is-answer is-after =
-    let left = is-after ∙ ap (λ (x : Answer Content). leftAfter x before) is-answer in (
-      is-answer,
-      (
-        left,
-        record {
-          whole = λ buffer portions is-reader is-before.
-              let r = is-reader ∙ reader-joined (startOf (length buffer)) portions in
-              let b = is-before ∙ cells-joined (startOf (length buffer)) portions (startCells buffer) in (
-                is-answer ∙ ap finishAnswer r ∙ whole-answer (length buffer) (wholeOf portions),
-                left ∙ ap (λ (x : Reader). leftAfter (finishAnswer x) before) r
-                    ∙ ap (leftAfter (ends (startOf (length buffer)) (wholeOf portions))) b
-                    ∙ whole-buffer buffer (wholeOf portions),
-              );
-        },
-      ),
-    )
+-- all that `finish` promises, from its answer
+pub finished : (reader : Reader) {answer : Answer Content} → answer ≡ finishAnswer reader → (answer ≡ finishAnswer reader) × WholeFile reader answer
+finished reader is-answer = (
+  is-answer,
+  record {
+    whole = λ buffer portions is-reader.
+        let start = startOf (length buffer) in
+        let ended = is-answer ∙ ap finishAnswer (is-reader ∙ reader-joined start portions) in (
+          ended ∙ whole-answer (length buffer) (wholeOf portions),
+          λ content accepted.
+              cells-joined start portions (startCells buffer)
+              ∙ whole-buffer buffer (wholeOf portions) content (sym ended ∙ accepted),
+        );
+  },
+)

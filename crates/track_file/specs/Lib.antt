@@ -1,3 +1,2 @@
 pub mod TrackFile
-pub mod FluxFile
 pub mod Portions

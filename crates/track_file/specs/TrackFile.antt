@@ -12,9 +12,10 @@ use mathlib.Core.List.{List, [], _∷_}
 use lib.Dec.{eqb, leb, ltb}
 use lib.ListN.{length, getD, take, drop, replicate}
 use Rattle.basis.specs.Bytes.{number}
+use Rattle.basis.specs.Lists.{writtenOver}
 use Rattle.cells.specs.CellsAndBytes.{bytesFor, packed}
-use Rattle.flux.specs.Separation.{cellsOf, separation}
-use Rattle.refusals.specs.RefusedCalls.{Answer, bufferAfter}
+use Rattle.separation.specs.Separation.{cellsOf, separation}
+use Rattle.refusals.specs.RefusedCalls.{Answer}
 use Rattle.refusals.specs.RefusedCalls.Answer.{gives, refused}
 
 -- so many counts or timings, one after another
@@ -117,8 +118,6 @@ fileCells file = cond (eqb (fluxCount file) 0) (packedBytes file) (packed (cells
 unfoldable pub fileAnswerIn : ℕ → List ℕ → Answer Content
 fileAnswerIn room file = cond (ltb room 16384) (refused 10 16384) (fileAnswer file)
 
--- the cell buffer afterwards: an accepted file's cells and then zeros. Cells are put there as they are read, before a refusal is known, so
--- that beside a refusal it is not kept but all zeros. One with too little room is not written
-unfoldable pub fileBuffer : List ℕ → List ℕ → List ℕ
-fileBuffer buffer file =
-    cond (ltb (length buffer) 16384) buffer (bufferAfter (fileAnswer file) (fileCells file) (replicate (length buffer) 0))
+-- a cell buffer of `room` bytes after an accepted file: its cells, and then zeros
+unfoldable pub fileBuffer : ℕ → List ℕ → List ℕ
+fileBuffer room file = writtenOver (fileCells file) (replicate room 0)

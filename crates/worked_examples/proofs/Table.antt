@@ -3,8 +3,8 @@ use mathlib.Core.Path.{refl}
 use Rattle.basis.specs.Lists.{listed}
 use Rattle.cells.specs.CellsAndBytes.{word, packedByte, packed}
 use Rattle.crc.specs.CheckWord.{afterBit, afterBits, afterByte, checkWordFrom}
-use Rattle.flux.specs.Rule.{reading, cellsAt, offsetAt, halved, residualAfter}
-use Rattle.flux.specs.Separation.{windowsFrom}
+use Rattle.separator.specs.Rule.{reading, cellsAt, offsetAt, halved, residualAfter}
+use Rattle.separation.specs.Separation.{windowsFrom}
 use Rattle.mfm.specs.Coding.{dataBits, bitCells, encoded}
 use Rattle.worked_examples.specs.WorkedExamples.{AllHold, table}
 

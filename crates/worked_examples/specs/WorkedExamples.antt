@@ -5,8 +5,8 @@ use mathlib.Core.List.{List, [], _∷_, map}
 use mathlib.Core.Path.{_≡_}
 use lib.IntN.{ℤ, pos, negsuc}
 use Rattle.crc.specs.CheckWord.{checkWord}
-use Rattle.flux.specs.Rule.{halved}
-use Rattle.flux.specs.Separation.{Window, windowsOf}
+use Rattle.separator.specs.Rule.{halved}
+use Rattle.separation.specs.Separation.{Window, windowsOf}
 use Rattle.mfm.specs.Coding.{encoded}
 
 -- an example: a row of the separator's table, with n, e and "r after" of each timing; a byte coded after a bit; a check word

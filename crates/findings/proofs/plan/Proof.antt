@@ -1,82 +1,70 @@
 -- `findings::plan` meets its contract. Assumes nothing.
-use Prim.Native.Nat.{ℕ, _≤_}
+use Prim.Native.Nat.{ℕ}
 use mathlib.Core.Path.{_≡_, sym, ap, _∙_}
-use native.Mathlib.Omega.{arith}
 use denote.Ref.{now}
-use lib.ListN.{length}
-use Rattle.findings.proofs.Bounds.{sectors-on}
-use Rattle.findings.proofs.Outcome.{findings-follow, cells-accepted, surveyed, plan-refused, plan-too-short, plan-in-room}
-use Rattle.refusals.specs.RefusedCalls.{numberOf, valueOf}
+use Rattle.finding_list.specs.Calls.{surveyAnswer}
+use Rattle.findings.proofs.Outcome.{findings-follow, list-too-short, plan-refused, plan-in-room}
+use Rattle.refusals.specs.RefusedCalls.{numberOf, valueOf, countedAnswer}
 use Rattle.refusals.specs.RefusedCalls.Answer.{gives}
-use Rattle.sectors.specs.Calls.{listedAnswer, sectorsAnswer}
-use Rattle.sectors.specs.Sectors.{sectorsOf, kept}
-use Rattle.sectors.proofs.Calls.{list-accepted, listed-sectors}
 use borrow.Author.Needs.{needs}
 use Rattle.findings.proofs.plan.Statement.{statement}
 use Rattle.findings.proofs.plan.Tie as tie
 
--- in the second arm the list of sectors was accepted, with this number of sectors
-abbrev count : tie.After-enum-told → ℕ
-count k = k .enum-told .given .0 .0
+-- in the second arm the survey was accepted, with this number of findings
+abbrev count : tie.After-known-told2 → ℕ
+count k = k .before .answer2 .given .0 .0
 
-accepted : (k : tie.After-enum-told) → let a = k .before .before .before .before .before .args in sectorsAnswer (now (a .bytes)) (a .n) (a .track) (a .side) ≡ gives (count k)
-accepted k = sym (k .before .before .before .sectors-of .ensures .0) ∙ ap listedAnswer (k .enum-told .given .1)
+accepted : (k : tie.After-known-told2) → let a = k .before .before .before .before .before .before .args in surveyAnswer (now (a .bytes)) (a .n) (a .track) (a .side) ≡ gives (count k)
+accepted k = sym (k .before .before .before .survey .ensures .0) ∙ ap countedAnswer (k .before .answer2 .given .1)
 
-few : (k : tie.After-enum-told) → let a = k .before .before .before .before .before .args in length (sectorsOf (now (a .bytes)) (a .n)) ≤ 64
-few k =
-    let a = k .before .before .before .before .before .args in
-    let l = list-accepted (now (a .bytes)) (a .n) (a .track) (a .side) (count k) (accepted k) in
-    omega (arith, l .0, l .1)
-
-are : (k : tie.After-enum-told) → let a = k .before .before .before .before .before .args in k .before .before .before .sectors-of .result .sectors ≡ kept (sectorsOf (now (a .bytes)) (a .n))
-are k =
-    let a = k .before .before .before .before .before .args in
-    listed-sectors (now (a .bytes)) (a .n) (a .track) (a .side) (count k) (sym (accepted k)) _ (k .before .before .before .sectors-of .ensures .1)
-
-sectors-of-requires : tie.Need-sectors-of-requires
-sectors-of-requires c κs = search needs
+survey-requires : tie.Need-survey-requires
+survey-requires c κs = search needs
 
 enum-known-answer : tie.Need-enum-known-answer
 enum-known-answer c = search needs
 
-enum-told : tie.Need-enum-told
-enum-told c = search needs
+nothing-planned-requires : tie.Need-nothing-planned-requires
+nothing-planned-requires c κs = search needs
 
-survey-requires : tie.Need-survey-requires
-survey-requires c κs =
-    let k = c .before in
-    let a = k .before .before .before .before .before .args in
-    sectors-on (now (a .bytes)) (a .n) (k .before .before .before .sectors-of .result .sectors) (are k) (few k) (cells-accepted (now (a .bytes)) (a .n) (a .track) (a .side) (count k) (accepted k))
+enum-known-answer-2 : tie.Need-enum-known-answer-2
+enum-known-answer-2 c = search needs
+
+nothing-planned-requires-2 : tie.Need-nothing-planned-requires-2
+nothing-planned-requires-2 c κs = search needs
 
 returns : tie.Need-returns
 returns c =
-    let k = c .before .before .before in
-    let a = k .before .before .before .before .before .args in
-    let added = surveyed (now (a .bytes)) (a .n) (a .track) (k .before .before .before .sectors-of .result .sectors) (are k) (few k) (c .before .survey .last .0) (c .before .survey .result) (c .before .survey .ensures) in
-    plan-too-short (now (a .bytes)) (a .n) (a .track) (a .side) (a .room) (count k) (accepted k) (few k) (c .before .survey .last .0) (c .before .survey .result) added (c .if1 .taken)
+    let k = c .before .before in
+    let a = k .before .before .before .before .before .before .args in
+    let e = c .nothing-planned2 .ensures in
+    plan-refused (now (a .bytes)) (a .n) (a .track) (a .side) (a .room) 5 (count k)
+    (list-too-short (now (a .bytes)) (a .n) (a .track) (a .side) (a .room) (count k) (accepted k) (c .before .if1 .taken)) _ _ _ _ (e .0) (e .1) (e .2)
 
 returns-2 : tie.Need-returns-2
 returns-2 c =
-    let a = c .before .before .before .before .before .before .args in
-    let v = c .before .answer .given in
-    let g = sym (ap listedAnswer (v .1)) ∙ c .before .before .before .before .sectors-of .ensures .0 in
-    plan-refused (now (a .bytes)) (a .n) (a .track) (a .side) (a .room) (numberOf (v .0 .0)) (valueOf (v .0 .0)) (sym (findings-follow (now (a .bytes)) (a .n) (a .track) (a .side) (a .room) .refusals _ _ (sym g)))
+    let a = c .before .before .before .before .before .before .before .args in
+    let v = c .before .before .answer .given in
+    let g = sym (ap countedAnswer (v .1)) ∙ c .before .before .before .before .survey .ensures .0 in
+    let e = c .nothing-planned .ensures in
+    plan-refused (now (a .bytes)) (a .n) (a .track) (a .side) (a .room) (numberOf (v .0 .0)) (valueOf (v .0 .0))
+    (sym (findings-follow (now (a .bytes)) (a .n) (a .track) (a .side) (a .room) .refusals _ _ (sym g))) _ _ _ _ (e .0) (e .1) (e .2)
 
 returns-3 : tie.Need-returns-3
 returns-3 c =
-    let k = c .before .before .before in
-    let a = k .before .before .before .before .before .args in
-    let added = surveyed (now (a .bytes)) (a .n) (a .track) (k .before .before .before .sectors-of .result .sectors) (are k) (few k) (c .before .survey .last .0) (c .before .survey .result) (c .before .survey .ensures) in
-    plan-in-room (now (a .bytes)) (a .n) (a .track) (a .side) (a .room) (count k) (accepted k) (few k) (c .before .survey .last .0) (c .before .survey .result) added (c .if1 .left)
+    let k = c .before in
+    let a = k .before .before .before .before .before .before .args in
+    let survey = k .before .before .before .survey in
+    plan-in-room (now (a .bytes)) (a .n) (a .track) (a .side) (a .room) (count k) (accepted k) (c .if1 .left) _ (survey .ensures .1 .0) (now (a .numbers)) _ (survey .ensures .1 .1)
 
 pub plan-spec : {M : Type 1} → statement M
 plan-spec =
     tie.close
     (tie.spec
-    sectors-of-requires
-    enum-known-answer
-    enum-told
     survey-requires
+    enum-known-answer
+    nothing-planned-requires
+    enum-known-answer-2
+    nothing-planned-requires-2
     returns
     returns-2
     returns-3)

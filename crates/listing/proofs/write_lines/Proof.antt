@@ -6,9 +6,11 @@ use denote.Ref.{now}
 use lib.ListN.{length}
 use Rattle.basis.proofs.Joined.{joined-none}
 use Rattle.basis.specs.Lists.{joined}
-use Rattle.listing.specs.PrivateContracts.{Wrote, lineAt}
+use Rattle.lines.specs.Writing.{Wrote}
+use Rattle.listing.specs.PrivateContracts.{lineAt}
 use Rattle.listing.proofs.Lines.{lines-turn}
-use Rattle.listing.proofs.Writing.{none}
+use Rattle.lines.proofs.Writing.{none}
+use borrow.Author.Needs.{needs}
 use Rattle.listing.proofs.write_lines.Statement.{statement}
 use Rattle.listing.proofs.write_lines.Tie as tie
 
@@ -24,41 +26,44 @@ loop-holds c = (omega arith, refl, rw joined-none (none _ _ _))
 mul-k : tie.Need-mul-k Inv-loop μ-loop
 mul-k c = omega arith
 
-mul-write-line : tie.Need-mul-write-line Inv-loop μ-loop
-mul-write-line c = omega arith
+cast-finding-line-at : tie.Need-cast-finding-line-at Inv-loop μ-loop
+cast-finding-line-at c = search needs
 
-element-copy-out-write-line : tie.Need-element-copy-out-write-line Inv-loop μ-loop
-element-copy-out-write-line c = omega arith
+mul-finding-line-at : tie.Need-mul-finding-line-at Inv-loop μ-loop
+mul-finding-line-at c = omega arith
 
-add-write-line : tie.Need-add-write-line Inv-loop μ-loop
-add-write-line c = omega arith
+element-copy-out-finding-line-at : tie.Need-element-copy-out-finding-line-at Inv-loop μ-loop
+element-copy-out-finding-line-at c = omega arith
 
-mul-write-line-2 : tie.Need-mul-write-line-2 Inv-loop μ-loop
-mul-write-line-2 c = omega arith
+add-finding-line-at : tie.Need-add-finding-line-at Inv-loop μ-loop
+add-finding-line-at c = omega arith
 
-element-copy-out-write-line-2 : tie.Need-element-copy-out-write-line-2 Inv-loop μ-loop
-element-copy-out-write-line-2 c = omega arith
+mul-finding-line-at-2 : tie.Need-mul-finding-line-at-2 Inv-loop μ-loop
+mul-finding-line-at-2 c = omega arith
 
-add-write-line-2 : tie.Need-add-write-line-2 Inv-loop μ-loop
-add-write-line-2 c = omega arith
+element-copy-out-finding-line-at-2 : tie.Need-element-copy-out-finding-line-at-2 Inv-loop μ-loop
+element-copy-out-finding-line-at-2 c = omega arith
 
-mul-write-line-3 : tie.Need-mul-write-line-3 Inv-loop μ-loop
-mul-write-line-3 c = omega arith
+add-finding-line-at-2 : tie.Need-add-finding-line-at-2 Inv-loop μ-loop
+add-finding-line-at-2 c = omega arith
 
-element-copy-out-write-line-3 : tie.Need-element-copy-out-write-line-3 Inv-loop μ-loop
-element-copy-out-write-line-3 c = omega arith
+mul-finding-line-at-3 : tie.Need-mul-finding-line-at-3 Inv-loop μ-loop
+mul-finding-line-at-3 c = omega arith
 
-add-write-line-3 : tie.Need-add-write-line-3 Inv-loop μ-loop
-add-write-line-3 c = omega arith
+element-copy-out-finding-line-at-3 : tie.Need-element-copy-out-finding-line-at-3 Inv-loop μ-loop
+element-copy-out-finding-line-at-3 c = omega arith
 
-mul-write-line-4 : tie.Need-mul-write-line-4 Inv-loop μ-loop
-mul-write-line-4 c = omega arith
+add-finding-line-at-3 : tie.Need-add-finding-line-at-3 Inv-loop μ-loop
+add-finding-line-at-3 c = omega arith
 
-element-copy-out-write-line-4 : tie.Need-element-copy-out-write-line-4 Inv-loop μ-loop
-element-copy-out-write-line-4 c = omega arith
+mul-finding-line-at-4 : tie.Need-mul-finding-line-at-4 Inv-loop μ-loop
+mul-finding-line-at-4 c = omega arith
 
-write-line-requires : tie.Need-write-line-requires Inv-loop μ-loop
-write-line-requires c κs = omega arith
+element-copy-out-finding-line-at-4 : tie.Need-element-copy-out-finding-line-at-4 Inv-loop μ-loop
+element-copy-out-finding-line-at-4 c = omega arith
+
+finding-line-at-requires : tie.Need-finding-line-at-requires Inv-loop μ-loop
+finding-line-at-requires c κs = omega arith
 
 add-index : tie.Need-add-index Inv-loop μ-loop
 add-index c = omega arith
@@ -70,7 +75,7 @@ loop-again : tie.Need-loop-again Inv-loop μ-loop
 unfolding lineAt
 loop-again c =
     let l = c .before .before .before .before .before .before .before .before .before .loop in
-    let w = c .before .before .write-line in
+    let w = c .before .before .finding-line-at in
     (omega arith, w .kept .0 ∙ l .inv .1, lines-turn (now (c .before .before .before .before .before .before .before .before .before .before .before .args .numbers)) (l .index) (l .inv .2) (w .ensures))
 
 same-length : tie.Need-same-length Inv-loop μ-loop
@@ -89,18 +94,19 @@ write-lines-spec =
     μ-loop
     loop-holds
     mul-k
-    mul-write-line
-    element-copy-out-write-line
-    add-write-line
-    mul-write-line-2
-    element-copy-out-write-line-2
-    add-write-line-2
-    mul-write-line-3
-    element-copy-out-write-line-3
-    add-write-line-3
-    mul-write-line-4
-    element-copy-out-write-line-4
-    write-line-requires
+    cast-finding-line-at
+    mul-finding-line-at
+    element-copy-out-finding-line-at
+    add-finding-line-at
+    mul-finding-line-at-2
+    element-copy-out-finding-line-at-2
+    add-finding-line-at-2
+    mul-finding-line-at-3
+    element-copy-out-finding-line-at-3
+    add-finding-line-at-3
+    mul-finding-line-at-4
+    element-copy-out-finding-line-at-4
+    finding-line-at-requires
     add-index
     loop-less
     loop-again

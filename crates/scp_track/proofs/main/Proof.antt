@@ -6,8 +6,32 @@ use borrow.Author.Needs.{needs}
 use Rattle.scp_track.proofs.main.Statement.{statement}
 use Rattle.scp_track.proofs.main.Tie as tie
 
-arguments-requires : tie.Need-arguments-requires
-arguments-requires c κs = search needs
+buffer-requires : tie.Need-buffer-requires
+buffer-requires c κs = search needs
+
+buffer-requires-2 : tie.Need-buffer-requires-2
+buffer-requires-2 c κs = search needs
+
+buffer-requires-3 : tie.Need-buffer-requires-3
+buffer-requires-3 c κs = search needs
+
+buffer-requires-4 : tie.Need-buffer-requires-4
+buffer-requires-4 c κs = search needs
+
+slice-aggregate-read-choice : tie.Need-slice-aggregate-read-choice
+slice-aggregate-read-choice c = search needs
+
+slice-aggregate-read-choice-2 : tie.Need-slice-aggregate-read-choice-2
+slice-aggregate-read-choice-2 c = search needs
+
+slice-aggregate-read-choice-3 : tie.Need-slice-aggregate-read-choice-3
+slice-aggregate-read-choice-3 c = search needs
+
+slice-aggregate-read-choice-4 : tie.Need-slice-aggregate-read-choice-4
+slice-aggregate-read-choice-4 c = search needs
+
+read-choice-requires : tie.Need-read-choice-requires
+read-choice-requires c κs = search needs
 
 slice-aggregate-write-all : tie.Need-slice-aggregate-write-all
 slice-aggregate-write-all c = search needs
@@ -54,7 +78,15 @@ pub main-spec : {M : Type 1} → statement M
 main-spec =
     tie.close
     (tie.spec
-    arguments-requires
+    buffer-requires
+    buffer-requires-2
+    buffer-requires-3
+    buffer-requires-4
+    slice-aggregate-read-choice
+    slice-aggregate-read-choice-2
+    slice-aggregate-read-choice-3
+    slice-aggregate-read-choice-4
+    read-choice-requires
     slice-aggregate-write-all
     write-all-requires
     returns

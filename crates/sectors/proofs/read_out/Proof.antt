@@ -1,9 +1,8 @@
 -- `sectors::read_out` meets its contract. Assumes nothing.
 use mathlib.Core.Path.{refl, sym, ap, _∙_}
 use lib.ListN.{length}
-use Rattle.refusals.specs.RefusedCalls.{bufferAfter}
+use Rattle.refusals.specs.RefusedCalls.{bufferAfter, countedAnswer}
 use Rattle.mfm.proofs.Calls.{answer-and-buffer}
-use Rattle.sectors.specs.Calls.{listedAnswer}
 use Rattle.sectors.proofs.Calls.{read-follows, read-given}
 use borrow.Author.Needs.{needs}
 use Rattle.sectors.proofs.read_out.Statement.{statement}
@@ -27,7 +26,7 @@ returns c =
     let l = c .before .before .before .before in
     let a = l .before .before .before .args in
     let v = c .before .answer .given in
-    let g = sym (ap listedAnswer (v .1)) ∙ l .sector-by-index .ensures .0 in
+    let g = sym (ap countedAnswer (v .1)) ∙ l .sector-by-index .ensures .0 in
     answer-and-buffer _ _ (sym (read-follows (a .bytes .now) (a .n) (a .track) (a .side) (a .index) (length (a .buffer .now)) .refusals _ _ (sym g))) refl
 
 same-length : tie.Need-same-length
@@ -38,7 +37,7 @@ returns-2 c =
     let t = c .before .before .before .before in
     let l = t .before .before .before in
     let a = l .before .before .before .args in
-    let g = sym (ap listedAnswer (t .enum-told .given .1)) ∙ l .sector-by-index .ensures .0 in
+    let g = sym (ap countedAnswer (t .enum-told .given .1)) ∙ l .sector-by-index .ensures .0 in
     read-given (a .bytes .now) (a .n) (a .track) (a .side) (a .index) _ (a .buffer .now) _ _ _ g (l .sector-by-index .ensures .1) (c .before .before .read-sector .ensures .0) (c .before .before .read-sector .ensures .1)
 
 pub read-out-spec : {M : Type 1} → statement M

@@ -2,7 +2,7 @@
 use mathlib.Core.Path.{refl}
 use Rattle.refusals.specs.RefusedCalls.{bufferAfter}
 use Rattle.mfm.proofs.Calls.{answer-and-buffer}
-use Rattle.sectors.specs.Sectors.{dataBytes}
+use Rattle.sector_records.specs.Sectors.{dataBytes}
 use Rattle.sectors.proofs.Calls.{refuses-12, refuses-13, data-accepted}
 use borrow.Author.Needs.{needs}
 use Rattle.sectors.proofs.read_sector.Statement.{statement}

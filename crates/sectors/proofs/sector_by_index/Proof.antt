@@ -4,13 +4,13 @@ use mathlib.Core.Path.{_≡_, refl, sym, ap, _∙_}
 use native.Mathlib.Omega.{arith}
 use denote.Ref.{now}
 use lib.ListN.{getD}
-use Rattle.refusals.specs.RefusedCalls.{numberOf, valueOf}
+use Rattle.refusals.specs.RefusedCalls.{numberOf, valueOf, countedAnswer}
 use Rattle.refusals.specs.RefusedCalls.Answer.{gives}
-use Rattle.sectors.specs.Sectors.{noSector, sectorsOf}
-use Rattle.sectors.specs.Calls.{listedAnswer, sectorsAnswer}
-use Rattle.sectors.specs.declared.Sectors.{Sectors}
+use Rattle.sector_records.specs.Sectors.{noSector, sectorsOf}
+use Rattle.sectors.specs.Calls.{sectorsAnswer}
+use Rattle.sector_records.specs.declared.Sectors.{Sectors}
 use Rattle.sectors.proofs.Calls.{list-accepted, listed-sectors, index-follows, index-refused, index-given, record-refused, record-given}
-use Rattle.sectors.proofs.Kept.{kept-at}
+use Rattle.sector_records.proofs.Kept.{kept-at}
 use borrow.Author.Needs.{needs}
 use Rattle.sectors.proofs.sector_by_index.Statement.{statement}
 use Rattle.sectors.proofs.sector_by_index.Tie as tie
@@ -35,7 +35,7 @@ abbrev count : tie.After-known-told2 → ℕ
 count k = k .before .answer2 .given .0 .0
 
 counted : (k : tie.After-known-told2) → let a = k .before .before .before .before .before .before .args in gives (count k) ≡ sectorsAnswer (now (a .bytes)) (a .n) (a .track) (a .side)
-counted k = sym (ap listedAnswer (k .before .answer2 .given .1)) ∙ k .before .before .before .before .sectors-of .ensures .0
+counted k = sym (ap countedAnswer (k .before .answer2 .given .1)) ∙ k .before .before .before .before .sectors-of .ensures .0
 
 few : (k : tie.After-known-told2) → count k ≤ 64
 few k =
@@ -60,7 +60,7 @@ returns-2 c =
     let l = k .before .before .before .before in
     let a = l .before .before .args in
     let v = k .before .answer .given in
-    let g = sym (ap listedAnswer (v .1)) ∙ l .sectors-of .ensures .0 in
+    let g = sym (ap countedAnswer (v .1)) ∙ l .sectors-of .ensures .0 in
     record-refused _ _ (numberOf (v .0 .0)) (valueOf (v .0 .0)) (c .no-record .ensures .0) (sym (index-follows (a .bytes .now) (a .n) (a .track) (a .side) (a .index) .refusals _ _ (sym g))) _ _ (c .no-record .ensures .1)
 
 returns-3 : tie.Need-returns-3

@@ -1,6 +1,6 @@
 -- `thikbromu::thikbromu_encode` meets its contract. Assumes nothing.
 use mathlib.Core.Path.{ap, _∙_}
-use Rattle.thikbromu.specs.Numbers.{numberIn, valueIn}
+use Rattle.telling.specs.Numbers.{numberIn, valueIn}
 use borrow.Author.Needs.{needs}
 use Rattle.thikbromu.proofs.thikbromu_encode.Statement.{statement}
 use Rattle.thikbromu.proofs.thikbromu_encode.Tie as tie

@@ -1,6 +1,6 @@
 -- `thikbromu::thikbromu_findings` meets its contract. Assumes nothing.
 use mathlib.Core.Path.{ap, _∙_}
-use Rattle.thikbromu.specs.Numbers.{numberIn, valueIn}
+use Rattle.telling.specs.Numbers.{numberIn, valueIn}
 use borrow.Author.Needs.{needs}
 use Rattle.thikbromu.proofs.thikbromu_findings.Statement.{statement}
 use Rattle.thikbromu.proofs.thikbromu_findings.Tie as tie
@@ -8,8 +8,8 @@ use Rattle.thikbromu.proofs.thikbromu_findings.Tie as tie
 findings-as-numbers-requires : tie.Need-findings-as-numbers-requires
 findings-as-numbers-requires c κs = search needs
 
-told-found-requires : tie.Need-told-found-requires
-told-found-requires c κs = search needs
+told-requires : tie.Need-told-requires
+told-requires c κs = search needs
 
 same-length : tie.Need-same-length
 same-length c = search needs
@@ -17,9 +17,9 @@ same-length c = search needs
 returns : tie.Need-returns
 returns c =
     let s = c .before .before .before .before .findings-as-numbers .ensures in
-    let t = c .told-found .ensures in
-    (t .0 ∙ ap numberIn (s .0), (t .1 ∙ ap valueIn (s .0), s .1))
+    let t = c .told .ensures in
+    (t .0 ∙ ap numberIn (s .0), (t .1 ∙ ap valueIn (s .0), s .1 .1))
 
 pub thikbromu-findings-spec : {M : Type 1} → statement M
 thikbromu-findings-spec =
-    tie.close (tie.spec findings-as-numbers-requires told-found-requires same-length returns)
+    tie.close (tie.spec findings-as-numbers-requires told-requires same-length returns)

@@ -4,7 +4,7 @@ use mathlib.Core.List.{List}
 use mathlib.Core.Path.{ap, _∙_}
 use lib.ListN.{length, take}
 use Rattle.basis.specs.Lists.{writtenOver}
-use Rattle.thikbromu.specs.Numbers.{numberIn, valueIn}
+use Rattle.telling.specs.Numbers.{numberIn, valueIn}
 use borrow.Author.Needs.{needs}
 use Rattle.thikbromu.proofs.thikbromu_histogram.Statement.{statement}
 use Rattle.thikbromu.proofs.thikbromu_histogram.Tie as tie
@@ -18,8 +18,8 @@ slice-aggregate-copy-numbers c = search needs
 copy-numbers-requires : tie.Need-copy-numbers-requires
 copy-numbers-requires c κs = search needs
 
-told-counted-requires : tie.Need-told-counted-requires
-told-counted-requires c κs = search needs
+told-requires : tie.Need-told-requires
+told-requires c κs = search needs
 
 same-length : tie.Need-same-length
 same-length c = search needs
@@ -28,9 +28,9 @@ returns : tie.Need-returns
 returns c =
     let a = c .before .before .before .before .before .before .before .before .before .before .before .args in
     let h = c .before .before .before .before .before .before .before .before .histogram-of .ensures in (
-      c .told-counted .ensures .0 ∙ ap numberIn (h .0),
+      c .told .ensures .0 ∙ ap numberIn (h .0),
       (
-        c .told-counted .ensures .1 ∙ ap valueIn (h .0),
+        c .told .ensures .1 ∙ ap valueIn (h .0),
         c .before .before .before .before .copy-numbers .ensures ∙ ap (λ (l : List ℕ). writtenOver (take (length (a .counts .now)) l) (a .counts .now)) (h .1 .0),
       ),
     )
@@ -42,6 +42,6 @@ thikbromu-histogram-spec =
     histogram-of-requires
     slice-aggregate-copy-numbers
     copy-numbers-requires
-    told-counted-requires
+    told-requires
     same-length
     returns)

@@ -1,7 +1,7 @@
 -- `thikbromu::thikbromu_read_out` meets its contract. Assumes nothing.
 use mathlib.Core.Path.{ap, _∙_}
 use denote.Ref.{now}
-use Rattle.thikbromu.specs.Numbers.{numberRead, valueRead, checkRead}
+use Rattle.telling.specs.Numbers.{numberIn, valueRead, checkRead}
 use borrow.Author.Needs.{needs}
 use Rattle.thikbromu.proofs.thikbromu_read_out.Statement.{statement}
 use Rattle.thikbromu.proofs.thikbromu_read_out.Tie as tie
@@ -20,7 +20,7 @@ returns c =
     let s = c .before .before .before .before .before .read-out .ensures in
     let t = c .told-read .ensures in
     let given = c .before .before .before .before .before .before .before .before .before .args in
-    (t .0 ∙ ap numberRead (s .0), (t .1 ∙ ap valueRead (s .0), (t .2 ∙ ap (λ a. checkRead a (now (given .good))) (s .0), s .1)))
+    (t .0 ∙ ap numberIn (s .0), (t .1 ∙ ap valueRead (s .0), (t .2 ∙ ap (λ a. checkRead a (now (given .good))) (s .0), s .1)))
 
 pub thikbromu-read-out-spec : {M : Type 1} → statement M
 thikbromu-read-out-spec =

@@ -4,7 +4,7 @@ use mathlib.Core.List.{List}
 use mathlib.Core.Path.{ap, _∙_}
 use lib.ListN.{length, take}
 use Rattle.basis.specs.Lists.{writtenOver}
-use Rattle.thikbromu.specs.Numbers.{numberIn, valueIn, sectorNumbers}
+use Rattle.telling.specs.Numbers.{numberIn, valueIn, sectorNumbers}
 use borrow.Author.Needs.{needs}
 use Rattle.thikbromu.proofs.thikbromu_sector.Statement.{statement}
 use Rattle.thikbromu.proofs.thikbromu_sector.Tie as tie
@@ -21,8 +21,8 @@ slice-aggregate-copy-numbers c = search needs
 copy-numbers-requires : tie.Need-copy-numbers-requires
 copy-numbers-requires c κs = search needs
 
-told-listed-requires : tie.Need-told-listed-requires
-told-listed-requires c κs = search needs
+told-requires : tie.Need-told-requires
+told-requires c κs = search needs
 
 same-length : tie.Need-same-length
 same-length c = search needs
@@ -32,7 +32,7 @@ returns c =
     let a = c .before .before .before .before .before .before .before .before .before .before .before .before .args in
     let s = c .before .before .before .before .before .before .before .before .before .sector-by-index .ensures in
     let m = c .before .before .before .before .before .before .before .sector-numbers .ensures in
-    let t = c .told-listed .ensures in (
+    let t = c .told .ensures in (
       t .0 ∙ ap numberIn (s .0),
       (
         t .1 ∙ ap valueIn (s .0),
@@ -48,6 +48,6 @@ thikbromu-sector-spec =
     sector-numbers-requires
     slice-aggregate-copy-numbers
     copy-numbers-requires
-    told-listed-requires
+    told-requires
     same-length
     returns)

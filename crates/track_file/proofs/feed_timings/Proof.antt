@@ -4,8 +4,8 @@ use mathlib.Core.Path.{refl}
 use native.Mathlib.Omega.{arith}
 use borrow.Author.Needs.{needs}
 use lib.ListN.{length}
-use Rattle.track_file.specs.declared.Number.the-variants.{Empty}
-use Rattle.track_file.specs.declared.Reader.the-variants.{Timings}
+use Rattle.file_reader.specs.declared.Number.the-variants.{Empty}
+use Rattle.file_reader.specs.declared.Reader.the-variants.{Timings}
 use Rattle.track_file.proofs.Portions.{Fed, none-fed, as-said, at-timing, timing-fed}
 use Rattle.track_file.proofs.feed_timings.Statement.{statement}
 use Rattle.track_file.proofs.feed_timings.Tie as tie

@@ -18,19 +18,28 @@ slice-aggregate-list-input-2 c = search needs
 list-input-requires : tie.Need-list-input-requires
 list-input-requires c κs = search needs
 
-array-share-prefix-buffer : tie.Need-array-share-prefix-buffer
-array-share-prefix-buffer c = search needs
-
 slice-aggregate-write-all : tie.Need-slice-aggregate-write-all
-slice-aggregate-write-all c =
-    let listed = c .before .before .before in
-    sym (length-take-le _ _ (omega (arith, listed .list-input .kept .1 .0, listed .list-input .ensures .0, listed .before .before .before .large-buffer .ensures)))
+slice-aggregate-write-all c = search needs
 
 write-all-requires : tie.Need-write-all-requires
 write-all-requires c κs = search needs
 
 returns : tie.Need-returns
 returns c = search needs
+
+array-share-prefix-buffer : tie.Need-array-share-prefix-buffer
+array-share-prefix-buffer c = search needs
+
+slice-aggregate-write-all-2 : tie.Need-slice-aggregate-write-all-2
+slice-aggregate-write-all-2 c =
+    let listed = c .before .before .before .before in
+    sym (length-take-le _ _ (omega (arith, listed .list-input .kept .1 .0, listed .list-input .ensures .0, listed .before .before .before .large-buffer .ensures)))
+
+write-all-requires-2 : tie.Need-write-all-requires-2
+write-all-requires-2 c κs = search needs
+
+returns-2 : tie.Need-returns-2
+returns-2 c = search needs
 
 pub main-spec : {M : Type 1} → statement M
 main-spec =
@@ -40,7 +49,10 @@ main-spec =
     slice-aggregate-list-input
     slice-aggregate-list-input-2
     list-input-requires
-    array-share-prefix-buffer
     slice-aggregate-write-all
     write-all-requires
-    returns)
+    returns
+    array-share-prefix-buffer
+    slice-aggregate-write-all-2
+    write-all-requires-2
+    returns-2)

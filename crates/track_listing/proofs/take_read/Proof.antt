@@ -14,21 +14,18 @@ slice-aggregate-feed c = search needs
 feed-requires : tie.Need-feed-requires
 feed-requires c κs = search needs
 
-ended-after-requires : tie.Need-ended-after-requires
-ended-after-requires c κs = search needs
-
-failures-after-requires : tie.Need-failures-after-requires
-failures-after-requires c κs = search needs
+input-with-requires : tie.Need-input-with-requires
+input-with-requires c κs = search needs
 
 same-length : tie.Need-same-length
 same-length c = search needs
 
 returns : tie.Need-returns
 returns c =
-    let start = c .before .before .before .before .before .before .before .before .before .before in
-    let fed = c .before .before .before .before in
-    taken (start .args .input) (start .args .got) (start .args .portion .now) (start .args .cells .now) (toZ-ofZ (start .fits .got))
-    (fed .before .before .before .count .ensures .1) (fed .feed .ensures) (c .before .ended-after .ensures) (c .failures-after .ensures)
+    let start = c .before .before .before .before .before .before .before .before .before in
+    let fed = c .before .before .before in
+    taken (start .args .reader) (start .args .got) (start .args .portion .now) (start .args .cells .now) (toZ-ofZ (start .fits .got))
+    (fed .before .before .before .count .ensures .1) (fed .feed .ensures) (c .input-with .ensures)
 
 pub take-read-spec : {M : Type 1} → statement M
 take-read-spec =
@@ -37,7 +34,6 @@ take-read-spec =
     count-requires
     slice-aggregate-feed
     feed-requires
-    ended-after-requires
-    failures-after-requires
+    input-with-requires
     same-length
     returns)

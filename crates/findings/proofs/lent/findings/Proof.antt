@@ -55,19 +55,21 @@ use denote.Triple.Clauses.{ensured, lasts}
 use denote.Triple.Table.{entered, cited}
 use denote.Triple.Walked.{says, Stays, stay-slice, stay-none-slice, stay-none, walkOf, AllGo, goes-slice, goes-none-slice, goes-none, Walks, ends-at, walked, walk-meets}
 use denote.Exit.{yes}
-use Rattle.findings.specs.Calls.{findingsAnswer, numbersOf}
-use Rattle.findings.specs.Findings.{findingsOf}
+use Rattle.findings.specs.Calls.{findingsAnswer}
+use Rattle.finding_list.specs.Calls.{sectorsGiven, numbersOf}
+use Rattle.finding_list.specs.Findings.{findingsOf}
 use Rattle.findings.specs.PrivateContracts.{countWritten, findingAt}
-use Rattle.findings.specs.declared.Finding.{Finding}
+use Rattle.finding_list.specs.declared.Finding.{Finding}
 use Rattle.findings.specs.declared.Planned.{Planned}
-use Rattle.findings.proofs.Finding as T
-use Rattle.findings.proofs.Finding.Laws as T′
+use Rattle.finding_list.proofs.Finding as T
+use Rattle.finding_list.proofs.Finding.Laws as T′
 use Rattle.findings.proofs.Planned as P
 use Rattle.findings.proofs.Planned.Laws as P′
-use Rattle.findings.proofs.Found as N
-use Rattle.findings.proofs.Found.Laws as N′
+use Rattle.refusals.proofs.Counted as N
+use Rattle.refusals.proofs.Counted.Laws as N′
 use Rattle.basis.proofs.Walks.{says-both}
-use Rattle.findings.proofs.Lending.{R, r-vals, found-vals, Answers}
+use Rattle.sector_records.specs.Sectors.{sectorsOf}
+use Rattle.findings.proofs.Lending.{R, r-vals, counted-vals, Answers}
 use Rattle.findings.proofs.Records.{filled, length-filled, list-is}
 use Rattle.findings.proofs.plan as plan
 use Rattle.findings.proofs.plan.Symbol as plan-def
@@ -159,8 +161,10 @@ module _ {M : Type 1} (𝓤 : URA M) (H : Heap 𝓤) (A : Atoms 𝓤) (W : Given
   Post = walkOf 𝓤 H A findings.ended stayed (findings.clauses 𝓤 H A at-mem run) .post (((κ, (κ′, tt)), (q, (q′, tt)), tt, a, vals), tt)
 
   -- what `plan` ensures of the plan p and of the numbers ns
-  abbrev Counted : Planned → Type 0
-  Counted p = p .count ≡ countWritten (findingsAnswer (y .now) n track side (length xs))
+  abbrev Counts : Planned → Type 0
+  Counts p =
+      (p .count ≡ countWritten (findingsAnswer (y .now) n track side (length xs)))
+      × (p .sectors ≡ sectorsGiven (findingsAnswer (y .now) n track side (length xs)) (length (sectorsOf (y .now) n)))
 
   abbrev Listed : Planned → List ℕ → Type 0
   Listed p ns = take (4 * p .count) ns ≡ numbersOf (take (p .count) (findingsOf (y .now) n track))
@@ -189,12 +193,12 @@ module _ {M : Type 1} (𝓤 : URA M) (H : Heap 𝓤) (A : Atoms 𝓤) (W : Given
   abbrev at : List ℕ → ℕ → List Finding
   at ns i = filled (findingAt ns) xs i
 
-  exits : (p : Planned) (ns : List ℕ) → Answers (y .now) n track side (length xs) (p .answer) → Counted p → Listed p ns → Bounded p → Is N.the-row (p .answer) (found-vals (p .answer))
+  exits : (p : Planned) (ns : List ℕ) → Answers (y .now) n track side (length xs) (p .answer) → Counts p → Listed p ns → Bounded p → Is N.the-row (p .answer) (counted-vals (p .answer))
       → ent 𝓤 (⋆ 𝓤 H A (‵ (fobs γ (codedHoleys R .code (heres R (at ns (p .count))))) ∷ ‵ (fbor κ′ (Held R (length (at ns (p .count))) b o γ)) ∷ ‵ (flft κ′ q′) ∷ ‵ (flft κ q) ∷ ‵ Own′ ∷ [])) (Post (EL.val N.the-type N′.the-laws (p .answer)))
   exits p ns answers counted listed bounded is =
       qed W (‵ (fobs γ (codedHoleys R .code (heres R (at ns (p .count))))) ∷ ‵ (fbor κ′ (Held R (length (at ns (p .count))) b o γ)) ∷ ‵ (flft κ′ q′) ∷ ‵ (flft κ q) ∷ ‵ Own′ ∷ []) ∵
       suffices ! _ (ends-at 𝓤 H A findings.ended stayed (findings.clauses 𝓤 H A at-mem run) W (((κ, (κ′, tt)), (q, (q′, tt)), tt, a, vals), tt) (EL.val N.the-type N′.the-laws (p .answer)) (p .answer) (tt, (tt, (tt, (tt, (at ns (p .count), tt))))) (tt, (tt, (tt, (tt, (length-filled (findingAt ns) xs (p .count), tt)))))) $
-      says-both ! answers (list-is (y .now) n track side xs ns (p .count) counted (bounded .1) listed) $
+      says-both ! answers (list-is (y .now) n track side xs ns (p .count) (counted .0) (bounded .1) listed) $
       nothing ! $ move ! (3 ∷ 0 ∷ []) $ join ! $ move ! (3 ∷ 0 ∷ []) $ join ! $ frame ! $
       -- [obs; the borrow; what bytes owns]
       fjoin ! $ pureI ! (at-slice R (x (at ns (p .count))) (s ∷ [])) (tt, (tt, tt)) (ap (λ (m : ℕ). sliceVal (b, o) m ∷ []) (sym (length-filled (findingAt ns) xs (p .count))), subst (Room R) (sym (length-filled (findingAt ns) xs (p .count))) room) $ fjoin ! $
@@ -221,7 +225,7 @@ module _ {M : Type 1} (𝓤 : URA M) (H : Heap 𝓤) (A : Atoms 𝓤) (W : Given
     abbrev E : Env 𝓤 H
     E = (N′.mir, l₀) ∷ (bytes-ty, l₁) ∷ (word, l₂) ∷ (half, l₃) ∷ (half, l₄) ∷ (list-ty, l₅) ∷ (array-ty, l₆) ∷ (P′.mir, l₇) ∷ (word, l₈) ∷ (mut-ty, l₉) ∷ (word, l₁₀) ∷ (tyBool, l₁₁) ∷ (T′.mir, l₁₂) ∷ (shr-ty, l₁₃) ∷ (word, l₁₄) ∷ (tyPtr, l₁₅) ∷ []
 
-    module _ (p : Planned) (ns : List ℕ) (answers : Answers (y .now) n track side (length xs) (p .answer)) (counted : Counted p) (listed : Listed p ns) (bounded : Bounded p) (is-answer : Is N.the-row (p .answer) (found-vals (p .answer))) (ν : ℕ) (δ : GName) where
+    module _ (p : Planned) (ns : List ℕ) (answers : Answers (y .now) n track side (length xs) (p .answer)) (counted : Counts p) (listed : Listed p ns) (bounded : Bounded p) (is-answer : Is N.the-row (p .answer) (counted-vals (p .answer))) (ν : ℕ) (δ : GName) where
       abbrev Ref : Fml
       Ref = ShrRef (named 0) (ν ∷ []) AR .own (xa l₆ δ ns) (vptr l₆ 0 ∷ [])
 
@@ -349,7 +353,7 @@ module _ {M : Type 1} (𝓤 : URA M) (H : Heap 𝓤) (A : Atoms 𝓤) (W : Given
     Ready p ns = ‵ (partAt AR fullShare ns l₆ 0) ∷ Locals (‵ (fat fullShare word l₁₀ 0 (vint w64 (length xs)))) (‵ (fat fullShare mut-ty l₉ 0 (vptr l₆ 0))) (‵ (fat fullShare word l₈ 0 (vint w64 0))) (‵ (fat fullShare P′.mir l₇ 0 (LL.val P.the-type P′.the-laws p))) (‵ (fdies array-ty l₆) ∷ Params)
 
     -- the array is lent as `&`, the list's borrow is opened, and the loop runs
-    begins : (p : Planned) (ns : List ℕ) → Answers (y .now) n track side (length xs) (p .answer) → Counted p → Listed p ns → Bounded p → Is N.the-row (p .answer) (found-vals (p .answer)) → Sq W (Ready p ns) (runs C Λ E body.t-6 (atRet E Post))
+    begins : (p : Planned) (ns : List ℕ) → Answers (y .now) n track side (length xs) (p .answer) → Counts p → Listed p ns → Bounded p → Is N.the-row (p .answer) (counted-vals (p .answer)) → Sq W (Ready p ns) (runs C Λ E body.t-6 (atRet E Post))
     begins p ns answers counted listed bounded is-answer =
         lft-new ! tt (λ ν. move ! (1 ∷ []) $
         use1 W (later (some (λ (δ : GName). ‵ (ShrRef (named 0) (ν ∷ []) AR .own (xa l₆ δ ns) (vptr l₆ 0 ∷ [])) ⊛ ‵ (flent (ν ∷ []) (partAt AR fullShare ns l₆ 0))))) (lends-shr 𝓤 H A W AR (named 0) (ν ∷ []) fullShare ns l₆ 0) $ await ! tt $ pick ! (λ δ. split ! $
@@ -379,8 +383,8 @@ module _ {M : Type 1} (𝓤 : URA M) (H : Heap 𝓤) (A : Atoms 𝓤) (W : Given
         (and-then ! (load ! (from ! (stop !)) (look ! 15 refl)) (and-then ! (load ! (from ! (stop !)) (look ! 30 refl)) (and-then ! (load ! (from ! (stop !)) (look ! 28 refl)) (and-then ! (load ! (from ! (stop !)) (look ! 26 refl)) (and-then ! (load ! (from ! (stop !)) (look ! 24 refl)) (and-then ! (load ! (from ! (stop !)) (look ! 13 refl)) (no-more !))))))) (λ v.
         use1 W (later (some (λ (r : Planned). ((‵ (flft (ν ∷ []) fullShare) ⊛ ‵ (flft κ q) ⊛ ‵ ftrue) ⊛ ‵ (P.the-row .own r (v ∷ []))) ⊛ raw (ensured 𝓤 H A plan.ended (plan.clauses 𝓤 H A at-mem run) (ν ∷ [], (κ, tt)) (xa l₆ δ zeros, (y, (n, (track, (side, (length xs, tt)))))) tt r)))) (id⊢ 𝓤 _) $ await ! tt $ pick ! (λ r.
         split ! $ move ! (1 ∷ []) $ use1 W (some (λ (ws : List ℕ × (Unit {0} × (Unit {0} × (Unit {0} × (Unit {0} × (Unit {0} × Unit {0})))))). ‵ (lasts plan.ended (ν ∷ [], (κ, tt)) (xa l₆ δ zeros, (y, (n, (track, (side, (length xs, tt)))))) ws)
-        ⊛ (raw (fact 𝓤 (Answers (y .now) n track side (length xs) (r .answer))) ⊛ (raw (fact 𝓤 (Counted r)) ⊛ (raw (fact 𝓤 (Listed r (ws .0))) ⊛ raw (fact 𝓤 (Bounded r))))))) (id⊢ 𝓤 _) $ pick ! (λ ws.
-        split ! $ move ! (1 ∷ []) $ split ! $ heard ! (Answers (y .now) n track side (length xs) (r .answer)) (λ answers. split ! $ heard ! (Counted r) (λ counted. split ! $ heard ! (Listed r (ws .0)) (λ listed. heard ! (Bounded r) (λ bounded.
+        ⊛ (raw (fact 𝓤 (Answers (y .now) n track side (length xs) (r .answer))) ⊛ (raw (fact 𝓤 (Counts r)) ⊛ (raw (fact 𝓤 (Listed r (ws .0))) ⊛ raw (fact 𝓤 (Bounded r))))))) (id⊢ 𝓤 _) $ pick ! (λ ws.
+        split ! $ move ! (1 ∷ []) $ split ! $ heard ! (Answers (y .now) n track side (length xs) (r .answer)) (λ answers. split ! $ heard ! (Counts r) (λ counted. split ! $ heard ! (Listed r (ws .0)) (λ listed. heard ! (Bounded r) (λ bounded.
         fsplit ! $ move ! (2 ∷ []) $ split ! $ move ! (1 ∷ []) $ peeks ! P.the-row (Is P.the-row) (shows 𝓤 H A P.the-row) r (v ∷ []) (λ is. drop ! $
         -- [the tokens; the array's last value; …; bytes; the lender's part; _15; …; _14; …; _13; …; _12; …; _11; …; _10; …; _9; …; _8; …; _7; …; …]
         land ! (from ! (stop !)) (init ! 21 refl (LL.lawful P.the-type P′.the-laws 𝓤 H A W .typed r _ is .0)) $ rewrite ! 21 (λ (u : Val). ‵ (fat fullShare P′.mir l₇ 0 u)) (ap only (LL.tells P.the-type P′.the-laws r _ is)) refl $

@@ -4,8 +4,8 @@ use borrow.Author.Needs.{needs}
 use Rattle.thikbromu.proofs.blocks.thikbromu_revolution_portion.Statement.{statement}
 use Rattle.thikbromu.proofs.blocks.thikbromu_revolution_portion.Tie as tie
 
-from-number-requires : tie.Need-from-number-requires
-from-number-requires c κs = search needs
+reader-of-number-requires : tie.Need-reader-of-number-requires
+reader-of-number-requires c κs = search needs
 
 take-requires : tie.Need-take-requires
 take-requires c κs = search needs
@@ -19,9 +19,9 @@ same-length c = search needs
 returns : tie.Need-returns
 returns c =
     let a = c .before .before .before .before .before .before .before .before .before .before .before .args in
-    portion-told (a .state .now) (a .portion .now) (a .timings .now) (c .before .before .before .before .before .before .before .from-number .ensures) (c .before .before .before .before .before .take .ensures) (c .told-portion .ensures)
+    portion-told (a .state .now) (a .portion .now) (a .timings .now) (c .before .before .before .before .before .before .before .reader-of-number .ensures) (c .before .before .before .before .before .take .ensures) (c .told-portion .ensures)
 
 pub thikbromu-revolution-portion-spec : {M : Type 1} → statement M
 thikbromu-revolution-portion-spec =
     tie.close
-    (tie.spec from-number-requires take-requires told-portion-requires same-length returns)
+    (tie.spec reader-of-number-requires take-requires told-portion-requires same-length returns)

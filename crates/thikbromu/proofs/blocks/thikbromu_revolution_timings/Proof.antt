@@ -1,6 +1,6 @@
 -- `thikbromu::blocks::thikbromu_revolution_timings` meets its contract. Assumes nothing.
 use mathlib.Core.Path.{ap, _∙_}
-use Rattle.thikbromu.specs.Numbers.{numberIn, valueIn}
+use Rattle.telling.specs.Numbers.{numberIn, valueIn}
 use borrow.Author.Needs.{needs}
 use Rattle.thikbromu.proofs.blocks.thikbromu_revolution_timings.Statement.{statement}
 use Rattle.thikbromu.proofs.blocks.thikbromu_revolution_timings.Tie as tie
@@ -8,8 +8,8 @@ use Rattle.thikbromu.proofs.blocks.thikbromu_revolution_timings.Tie as 
 revolution-timings-requires : tie.Need-revolution-timings-requires
 revolution-timings-requires c κs = search needs
 
-told-given-requires : tie.Need-told-given-requires
-told-given-requires c κs = search needs
+told-requires : tie.Need-told-requires
+told-requires c κs = search needs
 
 same-length : tie.Need-same-length
 same-length c = search needs
@@ -17,8 +17,8 @@ same-length c = search needs
 returns : tie.Need-returns
 returns c =
     let s = c .before .before .before .before .revolution-timings .ensures in
-    (c .told-given .ensures .0 ∙ ap numberIn (s .0), (c .told-given .ensures .1 ∙ ap valueIn (s .0), s .1))
+    (c .told .ensures .0 ∙ ap numberIn (s .0), (c .told .ensures .1 ∙ ap valueIn (s .0), s .1))
 
 pub thikbromu-revolution-timings-spec : {M : Type 1} → statement M
 thikbromu-revolution-timings-spec =
-    tie.close (tie.spec revolution-timings-requires told-given-requires same-length returns)
+    tie.close (tie.spec revolution-timings-requires told-requires same-length returns)

@@ -1,0 +1,40 @@
+-- How large the numbers are that are counted on the cells. Assumes nothing.
+use Prim.Native.Nat.{ℕ, zero, suc, _+_, _*_, _≤_}
+use mathlib.Core.Bool.{Bool, true, false, cond}
+use native.Mathlib.Nat.{max-le}
+use native.Mathlib.Omega.{arith}
+use lib.Dec.{ltb}
+use Rattle.basis.specs.Search.{most}
+use Rattle.basis.proofs.Search.{least-high, count-few}
+use Rattle.cell_patterns.specs.Cells.{violation, zerosFrom, runFrom, longestRun, longestStart, gapsOf, syncsBetween, syncsInside}
+use Rattle.cell_patterns.proofs.Runs.{zeros-few}
+use Rattle.cell_patterns.proofs.Syncs.{syncs-few}
+use Rattle.sector_records.specs.Sectors.{markLength, idLength, endOfData}
+use Rattle.sector_records.specs.declared.Sector.{Sector}
+
+most-few : (g : ℕ → ℕ) (b : ℕ) → ((q : ℕ) → g q ≤ b) → (k p : ℕ) → most g k p ≤ b
+unfolding most
+most-few g b h zero p = omega arith
+most-few g b h (suc k) p = max-le (h p) (most-few g b h k (p + 1))
+
+run-few : (f : ℕ → ℕ) (n : ℕ) → longestRun f n ≤ n
+unfolding longestRun
+run-few f n = most-few (zerosFrom f n) n (zeros-few f n) n 0
+
+start-few : (f : ℕ → ℕ) (n : ℕ) → longestStart f n ≤ n
+unfolding longestStart
+start-few f n = omega (arith, least-high (runFrom f n (longestRun f n)) n 0)
+
+-- no more than the cells
+pub gaps-few : (f : ℕ → ℕ) (n : ℕ) → (gapsOf f n .first ≤ n) × (gapsOf f n .violations ≤ n) × (gapsOf f n .start ≤ n) × (gapsOf f n .longest ≤ n)
+unfolding gapsOf
+gaps-few f n = (omega (arith, least-high (violation f n) n 0), count-few (violation f n) n 0, start-few f n, run-few f n)
+
+-- no more than the cells of the ID and of the data
+pub inside-few : (f : ℕ → ℕ) (s : Sector) → syncsInside f s ≤ 128 + 16 * s .«data_length»
+unfolding syncsInside
+inside-few f s = omega (arith, syncs-few f (s .place + markLength) (s .place + idLength), go (ltb 0 (s .«data_length»)))
+  where
+    go : (b : Bool) → cond b (syncsBetween f (s .«data_place» + markLength) (endOfData s)) 0 ≤ 32 + 16 * s .«data_length»
+    go true = omega (arith, syncs-few f (s .«data_place» + markLength) (endOfData s))
+    go false = omega arith

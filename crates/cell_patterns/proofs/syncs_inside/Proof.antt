@@ -1,0 +1,74 @@
+-- `cell_patterns::syncs_inside` meets its contract. Assumes nothing.
+use Prim.Native.Nat.{_+_, _<_}
+use native.Mathlib.Omega.{arith}
+use Rattle.cells.specs.CellsAndBytes.{cell}
+use Rattle.cell_patterns.proofs.Syncs.{syncs-few, inside-id, inside-both}
+use Rattle.sector_records.specs.Sectors.{markLength, idLength}
+use borrow.Author.Needs.{needs}
+use Rattle.cell_patterns.proofs.syncs_inside.Statement.{statement}
+use Rattle.cell_patterns.proofs.syncs_inside.Tie as tie
+
+cast-p : tie.Need-cast-p
+cast-p c = search needs
+
+add-syncs-between : tie.Need-add-syncs-between
+add-syncs-between c = search needs
+
+add-syncs-between-2 : tie.Need-add-syncs-between-2
+add-syncs-between-2 c = search needs
+
+syncs-between-requires : tie.Need-syncs-between-requires
+syncs-between-requires c κs = search needs
+
+returns : tie.Need-returns
+returns c =
+    let s = c .before .before .before .before .before .args .s in
+    inside-id _ s _ (c .before .before .syncs-between .ensures) (c .if1 .taken)
+
+cast-data : tie.Need-cast-data
+cast-data c = search needs
+
+add-data : tie.Need-add-data
+add-data c = search needs
+
+data-end-requires : tie.Need-data-end-requires
+data-end-requires c κs = search needs
+
+syncs-between-requires-2 : tie.Need-syncs-between-requires-2
+syncs-between-requires-2 c κs = search needs
+
+add-result : tie.Need-add-result
+add-result c =
+    let a = c .before .before .before .before .before .before .before .before .args in
+    let f = cell (a .bytes .now) (a .n) in
+    let s = a .s in
+    omega (
+      arith,
+      c .before .before .before .before .before .syncs-between .ensures,
+      c .syncs-between2 .ensures,
+      c .before .data-end .ensures,
+      syncs-few f (s .place + markLength) (s .place + idLength),
+      syncs-few f (s .«data_place» + markLength) (c .before .data-end .result),
+    )
+
+returns-2 : tie.Need-returns-2
+returns-2 c =
+    let s = c .before .before .before .before .before .before .before .before .args .s in
+    let h : 0 < s .«data_length» = omega arith in
+    inside-both _ s _ (c .before .before .before .before .before .syncs-between .ensures) _ h (rw (← c .before .data-end .ensures) (c .syncs-between2 .ensures))
+
+pub syncs-inside-spec : {M : Type 1} → statement M
+syncs-inside-spec =
+    tie.close
+    (tie.spec
+    cast-p
+    add-syncs-between
+    add-syncs-between-2
+    syncs-between-requires
+    returns
+    cast-data
+    add-data
+    data-end-requires
+    syncs-between-requires-2
+    add-result
+    returns-2)

@@ -1,0 +1,95 @@
+-- 01, "Track file and listing": the track file as its bytes come. What one byte does to the reader and to the cell buffer. Assumes nothing.
+use Prim.Native.Nat.{ℕ, _+_, _-_}
+use mathlib.Core.Bool.{cond}
+use mathlib.Core.List.{List}
+use lib.Dec.{eqb, ltb}
+use lib.ListN.{set}
+use Rattle.basis.specs.Bytes.{fourBytes}
+use Rattle.cells.specs.CellsAndBytes.{bytesFor}
+use Rattle.refusals.specs.declared.Refusal.the-variants.{CellCount as CellsRefused, TooManyTimings, NotATrackFile as NoTrackFile}
+use Rattle.taken_timings.specs.Timings.{noneTaken, takenAfter, takenCells}
+use Rattle.taken_timings.specs.declared.TakenTimings.{TakenTimings}
+use Rattle.file_reader.specs.declared.Place.{Place}
+use Rattle.file_reader.specs.declared.Number.{Number}
+use Rattle.file_reader.specs.declared.Number.the-variants.{Empty, One, Two, Three}
+use Rattle.file_reader.specs.declared.Extended.{Extended}
+use Rattle.file_reader.specs.declared.Extended.the-variants.{Part, Whole}
+use Rattle.file_reader.specs.declared.Reader.{Reader}
+use Rattle.file_reader.specs.declared.Reader.the-variants.{PlaceCount, Track, Side, CellCount, PackedCells, FluxCount, Timings, AllCells, AllTimings, NotATrackFile, Stopped}
+
+-- a number with a byte more, "low byte first"
+unfoldable pub numberAfter : Number → ℕ → Extended
+numberAfter Empty byte = Part (One byte)
+numberAfter (One a) byte = Part (Two a byte)
+numberAfter (Two a b) byte = Part (Three a b byte)
+numberAfter (Three a b c) byte = Whole (fourBytes a b c byte)
+
+-- where the reader stands after each section's count, after byte `at` of the packed cells, and after a timing
+unfoldable pub afterPlaceCount : ℕ → Reader
+afterPlaceCount count = cond (eqb count 2) Track (Stopped NoTrackFile)
+
+unfoldable pub afterCellCount : Place → ℕ → Reader
+afterCellCount place count =
+    cond (ltb 131072 count) (Stopped (CellsRefused count)) (cond (eqb count 0) (FluxCount place 0 Empty) (PackedCells place count 0))
+
+unfoldable pub afterPackedByte : Place → ℕ → ℕ → Reader
+afterPackedByte place count at = cond (ltb (at + 1) (bytesFor count)) (PackedCells place count (at + 1)) (FluxCount place count Empty)
+
+unfoldable pub afterFluxCount : Place → ℕ → ℕ → Reader
+afterFluxCount place cellCount count =
+    cond (ltb 65536 count) (Stopped (TooManyTimings count))
+    (cond (eqb cellCount 0)
+    (cond (eqb count 0) NotATrackFile (Timings place count Empty noneTaken))
+    (cond (eqb count 0) (AllCells place cellCount) NotATrackFile))
+
+unfoldable pub afterTiming : Place → ℕ → TakenTimings → Reader
+afterTiming place left taken = cond (ltb 1 left) (Timings place (left - 1) Empty taken) (AllTimings place taken)
+
+-- the reader after a byte of a count, and after a byte of a timing
+unfoldable pub inPlaceCount : Extended → Reader
+inPlaceCount (Part number) = PlaceCount number
+inPlaceCount (Whole count) = afterPlaceCount count
+
+unfoldable pub inCellCount : Place → Extended → Reader
+inCellCount place (Part number) = CellCount place number
+inCellCount place (Whole count) = afterCellCount place count
+
+unfoldable pub inFluxCount : Place → ℕ → Extended → Reader
+inFluxCount place cellCount (Part number) = FluxCount place cellCount number
+inFluxCount place cellCount (Whole count) = afterFluxCount place cellCount count
+
+unfoldable pub inTiming : Place → ℕ → TakenTimings → Extended → Reader
+inTiming place left taken (Part number) = Timings place left number taken
+inTiming place left taken (Whole t) = afterTiming place left (takenAfter taken t)
+
+-- the reader after a byte
+unfoldable pub readerAfterByte : Reader → ℕ → Reader
+readerAfterByte (PlaceCount number) byte = inPlaceCount (numberAfter number byte)
+readerAfterByte Track byte = Side byte
+readerAfterByte (Side track) byte = CellCount (record { track = track; side = byte }) Empty
+readerAfterByte (CellCount place number) byte = inCellCount place (numberAfter number byte)
+readerAfterByte (PackedCells place count at) byte = afterPackedByte place count at
+readerAfterByte (FluxCount place cellCount number) byte = inFluxCount place cellCount (numberAfter number byte)
+readerAfterByte (Timings place left number taken) byte = inTiming place left taken (numberAfter number byte)
+readerAfterByte (AllCells place count) byte = NotATrackFile
+readerAfterByte (AllTimings place taken) byte = NotATrackFile
+readerAfterByte NotATrackFile byte = NotATrackFile
+readerAfterByte (Stopped refusal) byte = Stopped refusal
+
+-- the buffer after a byte
+unfoldable pub inTimingCells : TakenTimings → Extended → List ℕ → List ℕ
+inTimingCells taken (Part number) buffer = buffer
+inTimingCells taken (Whole t) buffer = takenCells taken t buffer
+
+unfoldable pub cellsAfterByte : Reader → ℕ → List ℕ → List ℕ
+cellsAfterByte (PlaceCount number) byte buffer = buffer
+cellsAfterByte Track byte buffer = buffer
+cellsAfterByte (Side track) byte buffer = buffer
+cellsAfterByte (CellCount place number) byte buffer = buffer
+cellsAfterByte (PackedCells place count at) byte buffer = set buffer at byte
+cellsAfterByte (FluxCount place cellCount number) byte buffer = buffer
+cellsAfterByte (Timings place left number taken) byte buffer = inTimingCells taken (numberAfter number byte) buffer
+cellsAfterByte (AllCells place count) byte buffer = buffer
+cellsAfterByte (AllTimings place taken) byte buffer = buffer
+cellsAfterByte NotATrackFile byte buffer = buffer
+cellsAfterByte (Stopped refusal) byte buffer = buffer

@@ -1,0 +1,82 @@
+-- `finding_list::sector_rule` meets its contract. Assumes nothing.
+use Prim.Native.Nat.{_≤_}
+use mathlib.Core.Path.{_≡_, sym, _∙_}
+use native.Mathlib.Omega.{arith}
+use denote.Ref.{now}
+use Rattle.cells.specs.CellsAndBytes.{cell}
+use Rattle.finding_rules.proofs.Rows.{row-id, row-data, row-sws, row-sid}
+use Rattle.finding_list.specs.PrivateContracts.{sectorsIn}
+use borrow.Author.Needs.{needs}
+use Rattle.finding_list.proofs.sector_rule.Statement.{statement}
+use Rattle.finding_list.proofs.sector_rule.Tie as tie
+
+id-rule-requires : tie.Need-id-rule-requires
+id-rule-requires c κs = tt
+
+returns : tie.Need-returns
+returns c =
+    let a = c .before .before .before .args in
+    let f = cell (now (a .bytes)) (a .n) in
+    c .id-rule .ensures ∙ sym (row-id f (a .n) (a .track) (sectorsIn (a .ss)) (a .s) (a .k) (c .before .if1 .taken))
+
+cast-data-rule : tie.Need-cast-data-rule
+cast-data-rule c = search needs
+
+data-rule-requires : tie.Need-data-rule-requires
+data-rule-requires c κs = tt
+
+returns-2 : tie.Need-returns-2
+returns-2 c =
+    let a = c .before .before .before .before .args in
+    let f = cell (now (a .bytes)) (a .n) in
+    c .data-rule .ensures ∙ sym (row-data f (a .n) (a .track) (sectorsIn (a .ss)) (a .s) (a .k) (c .before .before .if1 .left) (c .before .if2 .taken))
+
+cast-overwritten : tie.Need-cast-overwritten
+cast-overwritten c = search needs
+
+overwritten-requires : tie.Need-overwritten-requires
+overwritten-requires c κs = search needs
+
+cast-t13 : tie.Need-cast-t13
+cast-t13 c = search needs
+
+cast-t14 : tie.Need-cast-t14
+cast-t14 c = search needs
+
+returns-3 : tie.Need-returns-3
+returns-3 c =
+    let a = c .before .before .before .before .before .before .before .args in
+    let f = cell (now (a .bytes)) (a .n) in
+    rw (c .before .before .overwritten .ensures) (sym (row-sws f (a .n) (a .track) (sectorsIn (a .ss)) (a .s) (a .k) (c .before .before .before .if3 .taken)))
+
+syncs-inside-requires : tie.Need-syncs-inside-requires
+syncs-inside-requires c κs = tt
+
+cast-t15 : tie.Need-cast-t15
+cast-t15 c = search needs
+
+returns-4 : tie.Need-returns-4
+returns-4 c =
+    let a = c .before .before .before .before .before .before .args in
+    let f = cell (now (a .bytes)) (a .n) in
+    let low : 11 ≤ a .k = c .before .before .before .if2 .left in
+    let is : a .k ≡ 12 = omega (arith, c .before .before .before .before .before .before .pre .1, c .before .before .if3 .left) in
+    rw (c .before .syncs-inside .ensures) (sym (row-sid f (a .n) (a .track) (sectorsIn (a .ss)) (a .s) (a .k) is))
+
+pub sector-rule-spec : {M : Type 1} → statement M
+sector-rule-spec =
+    tie.close
+    (tie.spec
+    id-rule-requires
+    returns
+    cast-data-rule
+    data-rule-requires
+    returns-2
+    cast-overwritten
+    overwritten-requires
+    cast-t13
+    cast-t14
+    returns-3
+    syncs-inside-requires
+    cast-t15
+    returns-4)

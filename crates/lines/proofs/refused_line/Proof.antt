@@ -1,0 +1,26 @@
+-- `lines::refused_line` meets its contract. Assumes nothing.
+use borrow.Author.Needs.{needs}
+use Rattle.lines.specs.Lines.{bytesOf, refusedLine}
+use Rattle.lines.proofs.Writing.{_then_, promised}
+use Rattle.lines.proofs.refused_line.Statement.{statement}
+use Rattle.lines.proofs.refused_line.Tie as tie
+
+slice-aggregate-write-field : tie.Need-slice-aggregate-write-field
+slice-aggregate-write-field c = search needs
+
+write-field-requires : tie.Need-write-field-requires
+write-field-requires c κs = search needs
+
+write-byte-requires : tie.Need-write-byte-requires
+write-byte-requires c κs = search needs
+
+same-length : tie.Need-same-length
+same-length c = search needs
+
+returns : tie.Need-returns
+unfolding refusedLine bytesOf
+returns c = promised (c .before .before .before .before .before .before .write-field .ensures then c .before .before .write-byte .ensures)
+
+pub refused-line-spec : {M : Type 1} → statement M
+refused-line-spec =
+    tie.close (tie.spec slice-aggregate-write-field write-field-requires write-byte-requires same-length returns)

@@ -1,5 +1,0 @@
-mod Rows
-mod Fronts
-mod Residuals
-pub mod Held
-pub mod Laws

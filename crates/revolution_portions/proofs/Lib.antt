@@ -1,0 +1,5 @@
+pub mod Judging
+pub mod Timings
+pub mod History
+pub mod Taking
+pub mod Laws

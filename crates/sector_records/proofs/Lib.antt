@@ -1,0 +1,6 @@
+pub mod Marks
+pub mod Checks
+pub mod Places
+pub mod Kept
+pub mod Listing
+pub mod Records

@@ -1,0 +1,78 @@
+-- `sector_records::find_mark` meets its contract: every mark from `from` to p that is passed has another byte. Assumes nothing.
+use Prim.Native.Nat.{_+_, _-_}
+use mathlib.Core.Path.{_≡_, refl, sym, _∙_}
+use native.Mathlib.Omega.{arith}
+use Rattle.basis.proofs.Search.{least-hit, least-step, least-end, least-low}
+use Rattle.cells.specs.CellsAndBytes.{cell}
+use Rattle.sector_records.specs.Marks.{markAt}
+use Rattle.sector_records.proofs.Marks.{Sought, sought-next, mark-of}
+use borrow.Author.Needs.{needs}
+use Rattle.sector_records.proofs.find_mark.Statement.{statement}
+use Rattle.sector_records.proofs.find_mark.Tie as tie
+
+abbrev Inv-loop : tie.InvT-loop
+Inv-loop bytes n low high from to p₀ p = Sought (cell bytes n) low high from to p
+
+abbrev μ-loop : tie.MeasureT-loop
+μ-loop bytes n low high from to p₀ p = to - p
+
+next-mark-requires : tie.Need-next-mark-requires Inv-loop μ-loop
+next-mark-requires c κs = search needs
+
+loop-holds : tie.Need-loop-holds Inv-loop μ-loop
+loop-holds c = sought-next _ _ _ _ _ _ _ (c .before .before .pre .0) (c .next-mark .ensures) refl
+
+has-byte-requires : tie.Need-has-byte-requires Inv-loop μ-loop
+has-byte-requires c κs = search needs
+
+returns : tie.Need-returns Inv-loop μ-loop
+returns c =
+    let l = c .before .before .before in
+    let inv = l .loop .inv in
+    let h = c .before .before .loop-test .taken in
+    sym (least-hit _ _ _ h (mark-of _ _ _ _ _ (inv .on h) (c .before .has-byte .ensures) ∙ c .if1 .taken)) ∙ inv .same
+
+add-next-mark : tie.Need-add-next-mark Inv-loop μ-loop
+add-next-mark c = search needs
+
+next-mark-requires-2 : tie.Need-next-mark-requires-2 Inv-loop μ-loop
+next-mark-requires-2 c κs = search needs
+
+loop-less : tie.Need-loop-less Inv-loop μ-loop
+loop-less c =
+    let l = c .before .before .before .before in
+    let a = l .before .before .before .args in
+    let h = c .before .before .before .loop-test .taken in
+    omega (arith, h, c .next-mark2 .ensures, least-low (markAt (cell (a .bytes .now) (a .n))) (a .to - (l .loop .p + 1)) (l .loop .p + 1))
+
+loop-again : tie.Need-loop-again Inv-loop μ-loop
+loop-again c =
+    let l = c .before .before .before .before in
+    let a = l .before .before .before .args in
+    let inv = l .loop .inv in
+    let h = c .before .before .before .loop-test .taken in
+    let s = least-step _ _ _ h (mark-of _ _ _ _ _ (inv .on h) (c .before .before .has-byte .ensures) ∙ c .before .if1 .left) in
+    sought-next _ _ _ _ _ (l .loop .p + 1) _ (omega arith) (c .next-mark2 .ensures) (sym s ∙ inv .same)
+
+returns-2 : tie.Need-returns-2 Inv-loop μ-loop
+returns-2 c =
+    let l = c .before in
+    let a = l .before .before .before .args in
+    let e : a .to ≡ l .loop .p = omega (arith, l .loop .inv .inside, c .loop-test .left) in
+    e ∙ sym (least-end _ _ _ (c .loop-test .left)) ∙ l .loop .inv .same
+
+pub find-mark-spec : {M : Type 1} → statement M
+find-mark-spec =
+    tie.close
+    (tie.spec
+    Inv-loop
+    μ-loop
+    next-mark-requires
+    loop-holds
+    has-byte-requires
+    returns
+    add-next-mark
+    next-mark-requires-2
+    loop-less
+    loop-again
+    returns-2)

@@ -1,0 +1,73 @@
+-- `sector_records::sector_at` meets its contract. Assumes nothing.
+use Rattle.sector_records.proofs.Records.{record-is}
+use borrow.Author.Needs.{needs}
+use Rattle.sector_records.proofs.sector_at.Statement.{statement}
+use Rattle.sector_records.proofs.sector_at.Tie as tie
+
+add-byte-on : tie.Need-add-byte-on
+add-byte-on c = search needs
+
+byte-on-requires : tie.Need-byte-on-requires
+byte-on-requires c κs = search needs
+
+id-byte-requires : tie.Need-id-byte-requires
+id-byte-requires c κs = search needs
+
+id-byte-requires-2 : tie.Need-id-byte-requires-2
+id-byte-requires-2 c κs = search needs
+
+id-byte-requires-3 : tie.Need-id-byte-requires-3
+id-byte-requires-3 c κs = search needs
+
+id-byte-requires-4 : tie.Need-id-byte-requires-4
+id-byte-requires-4 c κs = search needs
+
+check-good-requires : tie.Need-check-good-requires
+check-good-requires c κs = search needs
+
+find-data-requires : tie.Need-find-data-requires
+find-data-requires c κs = search needs
+
+add-found : tie.Need-add-found
+add-found c = search needs
+
+place-if-requires : tie.Need-place-if-requires
+place-if-requires c κs = search needs
+
+mark-if-requires : tie.Need-mark-if-requires
+mark-if-requires c κs = search needs
+
+length-if-requires : tie.Need-length-if-requires
+length-if-requires c κs = search needs
+
+data-good-requires : tie.Need-data-good-requires
+data-good-requires c κs = search needs
+
+cast-t17 : tie.Need-cast-t17
+cast-t17 c = search needs
+
+returns : tie.Need-returns
+returns c =
+    record-is _ _ _ _ _ _ _ _ _ _ _ _ _
+    (c .before .before .before .before .before .before .before .before .before .before .byte-on .ensures) (c .before .before .before .before .before .before .before .before .before .id-byte .ensures) (c .before .before .before .before .before .before .before .before .id-byte2 .ensures) (c .before .before .before .before .before .before .before .id-byte3 .ensures) (c .before .before .before .before .before .before .id-byte4 .ensures) (c .before .before .before .before .before .check-good .ensures)
+    (c .before .before .before .before .find-data .ensures .0) (c .before .before .before .place-if .ensures) (c .before .before .mark-if .ensures) (c .before .length-if .ensures .0) (c .data-good .ensures)
+
+pub sector-at-spec : {M : Type 1} → statement M
+sector-at-spec =
+    tie.close
+    (tie.spec
+    add-byte-on
+    byte-on-requires
+    id-byte-requires
+    id-byte-requires-2
+    id-byte-requires-3
+    id-byte-requires-4
+    check-good-requires
+    find-data-requires
+    add-found
+    place-if-requires
+    mark-if-requires
+    length-if-requires
+    data-good-requires
+    cast-t17
+    returns)

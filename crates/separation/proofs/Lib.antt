@@ -1,0 +1,7 @@
+pub mod Walk
+pub mod Writing
+pub mod CellsJudged
+pub mod Tolerance
+pub mod Recovery
+pub mod Promise
+pub mod Witness

@@ -1,0 +1,2 @@
+pub mod FileCells
+pub mod PrivateContracts
