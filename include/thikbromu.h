@@ -7,8 +7,8 @@
  *
  * Answers. A routine of which some calls are refused returns 0 where it accepts the call, else the refusal's number
  * (enum thikbromu_refusal). At `value` it stores what the call gives, or what the refusal gives also. Beside a refusal nothing else is
- * written, but that a record or a count table is set to zeros, and that the cells of a file which thikbromu_file_finish refuses are cleared.
- * The refusals of a routine are judged in the order in which its comment names them, and the first that holds is given.
+ * written, but that a record or a count table is set to zeros. The refusals of a routine are judged in the order in which its comment names
+ * them, and the first that holds is given.
  *
  * What a caller must see to:
  * - each address is valid for its length, counted in elements, and aligned for its type; it is not NULL, also where the length is 0;
@@ -48,9 +48,9 @@ extern "C" {
 #define THIKBROMU_FINDING_NUMBERS 4
 #define THIKBROMU_MOST_FINDINGS 901 /* no track of 64 sectors brings more */
 #define THIKBROMU_LONGEST_SECTOR 1024
-#define THIKBROMU_FILE_NUMBERS 13
-#define THIKBROMU_PLACE_NUMBERS 2
+#define THIKBROMU_PLACE_NUMBERS 2 /* the track and the side */
 #define THIKBROMU_LONGEST_LISTING 65536
+#define THIKBROMU_LONGEST_FILE 278542 /* both sections at their longest; a longer file is answered as its first 278,543 bytes are */
 
 /* 01's refusals and the two that 02 adds, by their numbers; behind each, what it gives also. */
 enum thikbromu_refusal {
@@ -163,15 +163,9 @@ uint32_t thikbromu_decode(const uint8_t *cells, size_t length, uint8_t *bytes, s
  * it were 0.
  */
 
-/* One step: gives the number of cells, n - 1 zeros and a one, or none where n is 0. Refuses 8, with index 0. */
-uint32_t thikbromu_step(int32_t residual, uint32_t timing, size_t *value);
-
-/* The residual after that step; beside a refusal, the one that came. */
-int32_t thikbromu_residual_after(int32_t residual, uint32_t timing);
-
-/* The same two by way of a state that is lent within the library. They answer alike. */
-uint32_t thikbromu_step_lent(int32_t residual, uint32_t timing, size_t *value);
-int32_t thikbromu_residual_after_lent(int32_t residual, uint32_t timing);
+/* One step, on a residual that the caller lends: it is advanced in its place, and kept beside a refusal. Gives the number of cells, n - 1
+ * zeros and a one, or none where n is 0. Refuses 8, with index 0. */
+uint32_t thikbromu_step(int32_t *residual, uint32_t timing, size_t *value);
 
 /* The separator on a list, r at first 0. Gives the number of cells, packed at the front of `cells`; unused bits of the last byte written
  * are 0, and bytes after it keep their contents. Refuses 6, 7, 8, 9, 10. */
@@ -239,31 +233,25 @@ uint32_t thikbromu_finding_records(const uint8_t *bytes, size_t length, size_t n
                                    struct thikbromu_finding *list, size_t room, size_t *value);
 
 /*
- * A track file, taken in portions that are cut anywhere between two bytes: start, then feed for each portion, then finish or listing. The
- * caller keeps the state, thirteen numbers or more, and the cells, 16,384 bytes or more, from call to call, and lends both to each; nothing
- * is asked of what they hold. A state of fewer numbers is not written. It counts as a file that is refused with 15, and so do numbers that
- * are those of no reader. Other numbers that no call leaves are taken as the reader that they make up: what the calls then answer says
- * nothing of a file.
+ * A track file, whole in memory: the place (a count of 2, the track, the side), the cells (their count, then packed bytes), the flux (the
+ * count of timings, then 32 bits for each); a count has 32 bits, and every number its low byte first. One of the two counts is 0.
  *
- * Refusals of a file: 10 (with 16,384) at once where the cells have too little room, and then nothing is written to them; 15 at once where
- * the place count is not 2; 2 at once for a cell count above 131,072; 7 at once for a flux count above 65,536. Otherwise 15 is judged over
- * the whole file, then 8, 9. thikbromu_file_finish does not judge the track, the side and fewer than 20,000 cells: the routines on a track
- * do. thikbromu_file_listing refuses as thikbromu_listing does, after these.
+ * Refusals of a file: as soon as a count is read, 15 for a place count that is not 2, then 2 for more than 131,072 cells, then 7 for more
+ * than 65,536 timings, whatever follows the count. After these 15, for a file that is cut short, has bytes left over, or has both or
+ * neither of cells and timings. Then 8 and 9 for its timings. Both routines read the cells into 16,384 bytes of the stack first.
  */
-/* The beginning, before any byte: clears the cells. */
-void thikbromu_file_start(uint64_t *state, size_t numbers, uint8_t *cells, size_t room);
 
-/* A portion more. 1 where a refusal has been given at once, so that no more of the file need be read; else 0. */
-uint32_t thikbromu_file_feed(uint64_t *state, size_t numbers, const uint8_t *portion, size_t length, uint8_t *cells, size_t room);
+/* The cells of a file, packed at the front of `cells`; bytes behind them keep their contents. Unused bits of the last byte are the file's,
+ * and 0 where the cells come from timings. Gives the number of cells, and stores the track and the side at the front of `place`, or as many
+ * of the two as there is room for. Refuses a file as above, and then 10, with the bytes that its cells need. The track, the side and fewer
+ * than 20,000 cells are not judged here: the routines on a track do that. */
+uint32_t thikbromu_file_cells(const uint8_t *file, size_t length, uint8_t *cells, size_t room, uint32_t *place, size_t places,
+                              size_t *value);
 
-/* The end of the file. Gives the number of cells, which stand packed in `cells`, and stores the track and the side at the front of
- * `place`, or as many of the two as there is room for. Beside a refusal `place` is kept and the cells are cleared. */
-uint32_t thikbromu_file_finish(const uint64_t *state, size_t numbers, uint8_t *cells, size_t room, uint32_t *place, size_t places,
-                               size_t *value);
-
-/* The end of the file, in place of thikbromu_file_finish: its listing at the front of `out`, or as much as there is room for. The answer
- * is the length of the whole, which is at most 65,536. A refused file gives "refused", a space, the number and a line end. */
-size_t thikbromu_file_listing(const uint64_t *state, size_t numbers, uint8_t *cells, size_t room, uint8_t *out, size_t out_room);
+/* The listing of a file at the front of `out`, or as much of it as there is room for. The answer is the length of the whole, which is at
+ * most 65,536. A refused file gives "refused", a space, the number and a line end: it is refused as above, and then as
+ * thikbromu_listing refuses its track. */
+size_t thikbromu_file_listing(const uint8_t *file, size_t length, uint8_t *out, size_t out_room);
 
 /* The listing of a track, in the same way. */
 size_t thikbromu_listing(const uint8_t *bytes, size_t length, size_t n, uint32_t track, uint32_t side, uint8_t *out, size_t out_room);

@@ -5,8 +5,7 @@
 //! A track is `cells` cells at the front of `packed`, eight to a byte, highest bit first; `track` and `side` are the drive's. Cells past
 //! the bytes are zeros, and so is every cell of a track of none.
 //!
-//! A call that is refused writes nothing, but that a record or a count table beside a refusal is all zeros, and that a file which
-//! [`file_finish`] refuses leaves zeros for its cells, unless they have too little room: then they are kept.
+//! A call that is refused writes nothing, but that a record or a count table beside a refusal is all zeros.
 //!
 //! ```
 //! use thikbromu::boundary::{finding_records, FindingRecord};
@@ -38,9 +37,6 @@ pub const SECTOR_NUMBERS: usize = 11;
 
 /// The numbers of a finding.
 pub const FINDING_NUMBERS: usize = 4;
-
-/// The numbers that hold any state of a track file.
-pub const FILE_NUMBERS: usize = 13;
 
 /// The numbers of a place: the track and the side.
 pub const PLACE_NUMBERS: usize = 2;
@@ -84,10 +80,7 @@ extern "C" {
         value: *mut usize,
     ) -> u32;
     fn thikbromu_decode(cells: *const u8, length: usize, bytes: *mut u8, room: usize, value: *mut usize) -> u32;
-    fn thikbromu_step(residual: i32, timing: u32, value: *mut usize) -> u32;
-    fn thikbromu_residual_after(residual: i32, timing: u32) -> i32;
-    fn thikbromu_step_lent(residual: i32, timing: u32, value: *mut usize) -> u32;
-    fn thikbromu_residual_after_lent(residual: i32, timing: u32) -> i32;
+    fn thikbromu_step(residual: *mut i32, timing: u32, value: *mut usize) -> u32;
     fn thikbromu_separate(timings: *const u32, length: usize, cells: *mut u8, room: usize, value: *mut usize) -> u32;
     fn thikbromu_histogram(timings: *const u32, length: usize, counts: *mut u32, room: usize, value: *mut usize)
         -> u32;
@@ -160,32 +153,16 @@ extern "C" {
         room: usize,
         value: *mut usize,
     ) -> u32;
-    fn thikbromu_file_start(state: *mut u64, numbers: usize, cells: *mut u8, room: usize);
-    fn thikbromu_file_feed(
-        state: *mut u64,
-        numbers: usize,
-        portion: *const u8,
+    fn thikbromu_file_cells(
+        file: *const u8,
         length: usize,
-        cells: *mut u8,
-        room: usize,
-    ) -> u32;
-    fn thikbromu_file_finish(
-        state: *const u64,
-        numbers: usize,
         cells: *mut u8,
         room: usize,
         place: *mut u32,
         places: usize,
         value: *mut usize,
     ) -> u32;
-    fn thikbromu_file_listing(
-        state: *const u64,
-        numbers: usize,
-        cells: *mut u8,
-        room: usize,
-        out: *mut u8,
-        out_room: usize,
-    ) -> usize;
+    fn thikbromu_file_listing(file: *const u8, length: usize, out: *mut u8, out_room: usize) -> usize;
     fn thikbromu_listing(
         bytes: *const u8,
         length: usize,
@@ -289,35 +266,20 @@ pub fn decode(cells: &[u8], bytes: &mut [u8]) -> Result<usize, Refusal> {
     answer(|value| unsafe { thikbromu_decode(cells.as_ptr(), cells.len(), bytes.as_mut_ptr(), bytes.len(), value) })
 }
 
-/// A step of the separator by one timing: gives the number of cells, n - 1 zeros and a one, or none where n is 0. A residual outside -500
-/// to 499 is stepped as if it were 0.
+/// A step of the separator by one timing, on a residual that is lent: it is advanced in its place, and kept beside a refusal. Gives the
+/// number of cells, n - 1 zeros and a one, or none where n is 0. A residual outside -500 to 499 is stepped as if it were 0.
 ///
 /// Refuses [`TimingOutOfRange`](Refusal::TimingOutOfRange), with index 0.
+///
+/// ```
+/// let mut residual = 0;
+/// assert_eq!(thikbromu::boundary::step(&mut residual, 4900), Ok(2));
+/// assert_eq!(residual, 450);
+/// ```
 #[inline]
-pub fn step(residual: i32, timing: u32) -> Result<usize, Refusal> {
-    // SAFETY: `value` is lent to this call alone.
+pub fn step(residual: &mut i32, timing: u32) -> Result<usize, Refusal> {
+    // SAFETY: `residual` and `value` are lent to this call alone.
     answer(|value| unsafe { thikbromu_step(residual, timing, value) })
-}
-
-/// The residual after that step; beside a refusal, the one that came.
-#[inline]
-pub fn residual_after(residual: i32, timing: u32) -> i32 {
-    // SAFETY: no address is passed.
-    unsafe { thikbromu_residual_after(residual, timing) }
-}
-
-/// As [`step`], by way of a state that is lent within the library. It answers alike.
-#[inline]
-pub fn step_lent(residual: i32, timing: u32) -> Result<usize, Refusal> {
-    // SAFETY: `value` is lent to this call alone.
-    answer(|value| unsafe { thikbromu_step_lent(residual, timing, value) })
-}
-
-/// As [`residual_after`], by way of a state that is lent within the library. It answers alike.
-#[inline]
-pub fn residual_after_lent(residual: i32, timing: u32) -> i32 {
-    // SAFETY: no address is passed.
-    unsafe { thikbromu_residual_after_lent(residual, timing) }
 }
 
 /// The separator on a list of timings, its residual at first 0. Gives the number of cells, packed at the front of `cells`; unused bits
@@ -516,51 +478,24 @@ pub fn finding_records(
     })
 }
 
-/// The beginning of a track file, before any byte: clears the cells.
+/// The cells of a track file, packed at the front of `cells`; bytes behind them keep their contents. Unused bits of the last byte are the
+/// file's, and 0 where the cells come from timings. Gives the number of cells, and stores the track and the side at the front of `place`,
+/// or as many of the two as there is room for. [`TrackFile`](crate::TrackFile) says what a track file is. The cells are first read into
+/// 16,384 bytes of the stack.
 ///
-/// The file is taken in portions that are cut anywhere between two bytes: `file_start`, then [`file_feed`] for each portion, then
-/// [`file_finish`] or [`file_listing`]. The caller keeps the state, thirteen numbers or more, and the packed cells, 16,384 bytes or more,
-/// from call to call. A state of fewer numbers is not written. It counts as a file that is refused with
-/// [`NotATrackFile`](Refusal::NotATrackFile), and so do numbers that are those of no reader. Other numbers that no call leaves are taken as
-/// the reader that they make up: what the calls then answer says nothing of a file. [`TrackFile`](crate::TrackFile) keeps both itself.
+/// Refuses as soon as a count is read [`NotATrackFile`](Refusal::NotATrackFile) for a place count that is not 2,
+/// [`CellCount`](Refusal::CellCount) for more than 131,072 cells, [`TooManyTimings`](Refusal::TooManyTimings) for more than 65,536 timings;
+/// after these [`NotATrackFile`](Refusal::NotATrackFile), [`TimingOutOfRange`](Refusal::TimingOutOfRange),
+/// [`TooManyCells`](Refusal::TooManyCells), and last [`NoRoom`](Refusal::NoRoom) with the bytes that the cells need.
 #[inline]
-pub fn file_start(state: &mut [u64], packed: &mut [u8]) {
-    // SAFETY: each address and length are those of one slice, lent to this call alone.
-    unsafe { thikbromu_file_start(state.as_mut_ptr(), state.len(), packed.as_mut_ptr(), packed.len()) }
-}
-
-/// A portion more of a track file. 1 where a refusal has been given at once, so that no more of the file need be read; else 0.
-#[inline]
-pub fn file_feed(state: &mut [u64], portion: &[u8], packed: &mut [u8]) -> u32 {
-    // SAFETY: each address and length are those of one slice; `state` and `packed` are lent to this call alone.
-    unsafe {
-        thikbromu_file_feed(
-            state.as_mut_ptr(),
-            state.len(),
-            portion.as_ptr(),
-            portion.len(),
-            packed.as_mut_ptr(),
-            packed.len(),
-        )
-    }
-}
-
-/// The end of a track file. Gives the number of cells, which stand in `packed`, and stores the track and the side at the front of `place`,
-/// or as many of the two as there is room for. Beside a refusal `place` is kept and the cells are cleared.
-///
-/// Refuses at once [`NoRoom`](Refusal::NoRoom), for fewer than 16,384 bytes, which are kept;
-/// [`NotATrackFile`](Refusal::NotATrackFile) for a place count that is not 2, [`CellCount`](Refusal::CellCount) for more than 131,072 cells
-/// and [`TooManyTimings`](Refusal::TooManyTimings) for more than 65,536 timings, where the count is read. Otherwise refuses
-/// [`NotATrackFile`](Refusal::NotATrackFile), [`TimingOutOfRange`](Refusal::TimingOutOfRange), [`TooManyCells`](Refusal::TooManyCells).
-#[inline]
-pub fn file_finish(state: &[u64], packed: &mut [u8], place: &mut [u32]) -> Result<usize, Refusal> {
-    // SAFETY: each address and length are those of one slice; `packed`, `place` and `value` are lent to this call alone.
+pub fn file_cells(file: &[u8], cells: &mut [u8], place: &mut [u32]) -> Result<usize, Refusal> {
+    // SAFETY: each address and length are those of one slice; `cells`, `place` and `value` are lent to this call alone.
     answer(|value| unsafe {
-        thikbromu_file_finish(
-            state.as_ptr(),
-            state.len(),
-            packed.as_mut_ptr(),
-            packed.len(),
+        thikbromu_file_cells(
+            file.as_ptr(),
+            file.len(),
+            cells.as_mut_ptr(),
+            cells.len(),
             place.as_mut_ptr(),
             place.len(),
             value,
@@ -568,22 +503,13 @@ pub fn file_finish(state: &[u64], packed: &mut [u8], place: &mut [u32]) -> Resul
     })
 }
 
-/// The end of a track file, in place of [`file_finish`]: its listing at the front of `out`, or as much as there is room for. Gives the
-/// length of the whole, which is at most [`LONGEST_LISTING`](crate::LONGEST_LISTING). A refused file gives "refused", a
-/// space, the number and a line end.
+/// The listing of a track file at the front of `out`, or as much of it as there is room for. Gives the length of the whole, which is at
+/// most [`LONGEST_LISTING`](crate::LONGEST_LISTING). A refused file gives "refused", a space, the number and a line end: it is refused as
+/// [`file_cells`] refuses it, without [`NoRoom`](Refusal::NoRoom), and then as its track is.
 #[inline]
-pub fn file_listing(state: &[u64], packed: &mut [u8], out: &mut [u8]) -> usize {
-    // SAFETY: each address and length are those of one slice; `packed` and `out` are lent to this call alone.
-    unsafe {
-        thikbromu_file_listing(
-            state.as_ptr(),
-            state.len(),
-            packed.as_mut_ptr(),
-            packed.len(),
-            out.as_mut_ptr(),
-            out.len(),
-        )
-    }
+pub fn file_listing(file: &[u8], out: &mut [u8]) -> usize {
+    // SAFETY: each address and length are those of one slice; `out` is lent to this call alone.
+    unsafe { thikbromu_file_listing(file.as_ptr(), file.len(), out.as_mut_ptr(), out.len()) }
 }
 
 /// The listing of a track, in the same way.

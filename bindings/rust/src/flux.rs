@@ -56,18 +56,16 @@ impl Separator {
     /// ```
     #[inline]
     pub fn step(self, timing: u32) -> Stepped {
-        Stepped {
-            cells: boundary::step(self.residual, timing),
-            next: Separator::with_residual(boundary::residual_after(self.residual, timing)),
-        }
+        let mut next = self;
+        let cells = next.step_in_place(timing);
+        Stepped { cells, next }
     }
 
-    /// Steps by one timing in the state's own place, and gives the number of cells. It answers as [`step`](Separator::step) does.
+    /// Steps by one timing in the state's own place, and gives the number of cells. It answers as [`step`](Separator::step) does; beside a
+    /// refusal the state is kept.
     #[inline]
     pub fn step_in_place(&mut self, timing: u32) -> Result<usize, Refusal> {
-        let cells = boundary::step_lent(self.residual, timing);
-        self.residual = boundary::residual_after_lent(self.residual, timing);
-        cells
+        boundary::step(&mut self.residual, timing)
     }
 }
 

@@ -47,4 +47,4 @@ pub use refusal::{NotARefusal, Refusal};
 pub use sector::{ReadOut, Sector, SectorData, Sectors, LONGEST_SECTOR};
 pub use track::{Track, FEWEST_CELLS, HIGHEST_SIDE, HIGHEST_TRACK, MOST_CELLS, MOST_CELL_BYTES, MOST_SECTORS};
 pub use track_block::{RevolutionReader, TakenPortion, TrackBlock};
-pub use track_file::{TrackCells, TrackFile, LONGEST_LISTING};
+pub use track_file::{TrackCells, TrackFile, LONGEST_FILE, LONGEST_LISTING};

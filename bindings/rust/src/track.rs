@@ -157,15 +157,24 @@ mod tests {
         }
     }
 
+    /// The fields of the record stand where the library writes them: the kind, the level, the place and the detail of each of these
+    /// findings are four different numbers, and the library gives them once by their order alone.
     #[test]
     fn records_and_numbers_are_the_same_findings() {
-        let mut records = [FindingRecord::default(); 2];
-        let mut numbers = [0; 8];
-        assert_eq!(boundary::finding_records(&ZEROS, 100_000, 80, 0, &mut records), Ok(2));
-        assert_eq!(boundary::findings(&ZEROS, 100_000, 80, 0, &mut numbers), Ok(2));
-        let record_numbers =
-            records.map(|record| [record.kind.into(), record.level.into(), record.place, record.detail]);
-        assert_eq!(record_numbers.concat(), numbers);
+        // No flux in the data of the standard track's second sector: SBD, MTV and NFA.
+        let mut packed = include_bytes!("../../../samples/standard.track")[10..12_510].to_vec();
+        packed[2_000..2_200].fill(0);
+        let mut records = [FindingRecord::default(); 3];
+        let mut numbers = [0; 12];
+        assert_eq!(boundary::finding_records(&packed, 100_000, 0, 0, &mut records), Ok(3));
+        assert_eq!(boundary::findings(&packed, 100_000, 0, 0, &mut numbers), Ok(3));
+        for (record, numbers) in records.iter().zip(numbers.chunks(4)) {
+            assert_eq!([record.kind.into(), record.level.into(), record.place, record.detail], *numbers);
+            for (place, number) in numbers.iter().enumerate() {
+                assert!(!numbers[..place].contains(number), "{numbers:?}");
+            }
+        }
+        assert_eq!(records[0], FindingRecord { kind: 15, level: 1, place: 10_976, detail: 2 });
     }
 
     #[test]

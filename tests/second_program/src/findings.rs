@@ -334,7 +334,11 @@ pub fn findings(
     room: usize,
 ) -> Result<Vec<Finding>, Refusal> {
     let sectors = sectors::accepted_list(drive_track, drive_side, bytes, n)?;
-    let findings = findings_of(drive_track, bytes, n, &sectors);
+    in_room(findings_of(drive_track, bytes, n, &sectors), room)
+}
+
+/// Findings for a list that holds so many records: refused where it is too short.
+pub fn in_room(findings: Vec<Finding>, room: usize) -> Result<Vec<Finding>, Refusal> {
     if room < findings.len() {
         return Err(Refusal::findings_list_too_short(findings.len()));
     }
