@@ -1,5 +1,4 @@
--- The listings of rules 11.1, 11.4 and 11.10, by computation: lines and headers, and what is printed of tracks that are refused. Assumes
--- nothing.
+-- The listings of rules 11.1, 11.4 and 11.10, by computation: lines, headers, and what is printed of a refused track. Assumes nothing.
 use mathlib.Core.Path.{_≡_, refl}
 use mathlib.Core.List.{[], _∷_, _++_}
 use Rattle.findings.specs.Calls.{findingsAnswer}

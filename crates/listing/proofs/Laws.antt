@@ -1,5 +1,4 @@
--- What follows from the definitions of the listing. `bytes` are the packed cells of a track of N cells, T and H are the drive's track and
--- side.
+-- What follows from the definitions of the listing. `bytes` are the packed cells of a track of N cells, at the track T and side H.
 --
 --   never-five         5 is never given: the room for 901 findings is always enough
 --   whole-in-room      in a buffer that is long enough a line or a listing is written whole
