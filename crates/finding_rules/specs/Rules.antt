@@ -17,7 +17,7 @@ unfoldable pub someSector : (Sector → Bool) → List Sector → Bool
 someSector test [] = false
 someSector test (s ∷ ss) = test s || someSector test ss
 
--- 6.16: a data mark is found where the record's is not 0, which is no mark
+-- 6.16: a data mark is found: the record's is not 0
 abbrev pub hasDataMark : Sector → Bool
 hasDataMark s = not (eqb (s .«data_mark») 0)
 

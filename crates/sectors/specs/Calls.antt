@@ -65,8 +65,8 @@ abbrev pub readOutAnswer : ReadOut → Answer DataRead
 readOutAnswer (Data size good) = gives (record { size = size; good = good })
 readOutAnswer (Refused refusal) = refusedWith refusal
 
--- 8.12, 8.13, 9.4: reading out this sector into `room` bytes: 12 where no data is read, 13 where they are too few for L, and else L and the
--- data check, be it good or bad
+-- 6.18, 8.12, 8.13, 9.4: reading out this sector into `room` bytes: 12 where no data is read, 13 where they are too few for L, and else L
+-- and the data check, be it good or bad
 unfoldable pub dataJudged : Sector → ℕ → Answer DataRead
 dataJudged s room =
     cond (eqb (s .«data_length») 0) (refused 12 0)
@@ -80,7 +80,7 @@ dataAnswer bytes N T H index room =
     (countJudged (length (sectorsOf bytes N))
     (indexJudged (length (sectorsOf bytes N)) index (dataJudged (sectorOf bytes N index) room)))
 
--- 6.18: the lent buffer afterwards: the L bytes at its front, and what follows kept; beside a refusal all of it is kept
+-- 6.18, 9.4: the lent buffer afterwards: the L bytes at its front, and what follows kept; beside a refusal all of it is kept
 abbrev pub dataAfter : List ℕ → (N T H index : ℕ) → List ℕ → List ℕ
 dataAfter bytes N T H index buffer =
     bufferAfter (dataAnswer bytes N T H index (length buffer)) (dataBytes (cell bytes N) (sectorOf bytes N index)) buffer
