@@ -1,5 +1,5 @@
-// The list of a track's findings: 01's 21 kinds, ordered by kind, then place, as numbers put one after the other. A kind is given by its
-// index, from 0.
+// The list of a track's findings, kind after kind and each kind by place (rule 7.32), as numbers put one after the other. A kind is given by
+// its index, from 0.
 use cell_patterns::Gaps;
 use finding_rules::Row;
 use refusals::Counted;

@@ -1,4 +1,4 @@
-// The copy-protection findings of a track in the caller's list: 01's 21 kinds, ordered by kind, then place.
+// The copy-protection findings of a track, of 21 kinds, in the caller's list: kind after kind, and each kind by place (rule 7.32).
 mod lent;
 
 pub use finding_list::Finding;

@@ -41,7 +41,7 @@ impl RevolutionReader {
         }
     }
 
-    // A state that no call leaves counts as a fresh one.
+    // A fresh state in the place of one that calls cannot leave (rule 12.19).
     pub fn usable(self) -> Self
         ensures { λ r. ⌜ r ≡ usableReader self ⌝ }
     {

@@ -41,7 +41,7 @@ pub struct Sector {
     // Where its data mark stands, and the mark's byte; 0 where there is none.
     pub data_place: u32,
     pub data_mark: u8,
-    // The data bytes, and their check; 0 and bad where no data is read.
+    // How many data bytes are read, and their check. It is bad where none are.
     pub data_length: u32,
     pub data_check_good: bool,
 }

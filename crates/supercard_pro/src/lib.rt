@@ -82,7 +82,7 @@ fn some_bad(block: &[u8], revolutions: u32) -> bool
     false
 }
 
-// Whether a revolution's values start inside the table, end beyond the block or end in a 0.
+// Whether the values of a revolution are bad: they start before the table's end, end after the block's, or have a 0 at their end.
 fn bad_revolution(block: &[u8], revolutions: u32, k: u32) -> bool
     requires { ⌜ (k < revolutions) × (tableEnd revolutions ≤ length (now block)) ⌝ }
     ensures { λ r. ⌜ r ≡ badRevolution (now (block .entry)) revolutions k ⌝ }
