@@ -28,7 +28,7 @@ pub const ID_LENGTH: usize = 160;
 // The sync A1.
 pub const SYNC: u64 = 0x4489;
 
-// A sector's record. Places are cells, counted on past the track's end where need be.
+// A sector's record (rule 6.16). Places are cells; that of the data mark may be past the track's end.
 pub struct Sector {
     // Where its ID mark stands, and the mark's byte.
     pub place: u32,
