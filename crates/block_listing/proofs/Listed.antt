@@ -9,7 +9,7 @@ use Rattle.refusals.specs.declared.Counted.the-variants.{Count, Refused}
 use Rattle.listing.specs.Listing.{listingOf}
 use Rattle.lines.specs.Lines.{refusedLine, outAfter}
 use Rattle.lines.proofs.Lengths.{refused-few}
-use Rattle.refusals.specs.RefusedCalls.{Answer, refusedWith, numberOf}
+use Rattle.refusals.specs.RefusedCalls.{Answer, refusedWith, countedAnswer, numberOf}
 use Rattle.refusals.specs.RefusedCalls.Answer.{gives}
 use Rattle.refusals.specs.declared.Refusal.{Refusal}
 use Rattle.block_cells.specs.BlockToCells.{blockSeparation, blockCells}

@@ -1,20 +1,17 @@
 -- The listing of a track, from what its findings' call gives. Assumes nothing.
 use Prim.Native.Nat.{ℕ, _+_, _*_, _<_, _≤_}
 use mathlib.Core.Path.{_≡_, ap, _∙_}
-use mathlib.Core.Bool.{Bool, true, false, cond}
 use mathlib.Core.List.{List, _++_}
 use native.Mathlib.Omega.{arith}
-use lib.Dec.{ltb}
 use lib.ListN.{length, drop}
 use Rattle.basis.specs.Lists.{joined}
 use Rattle.findings.specs.Calls.{findingsAnswer, numbersAfter}
 use Rattle.finding_list.specs.Calls.{sectorsGiven, numbersOf}
 use Rattle.finding_list.specs.Findings.{findingsOf}
-use Rattle.finding_list.proofs.Outcome.{findings-few}
 use Rattle.refusals.specs.RefusedCalls.{Answer, bufferAfter}
 use Rattle.refusals.specs.RefusedCalls.Answer.{gives, refused}
 use Rattle.sector_records.specs.Sectors.{sectorsOf}
-use Rattle.sectors.proofs.Calls.{judged-accepted}
+use Rattle.findings.proofs.Outcome.{findings-accepted}
 use Rattle.lines.specs.Lines.{headerOf, refusedLine, outAfter}
 use Rattle.lines.specs.Writing.{Wrote}
 use Rattle.lines.proofs.Lengths.{header-few, refused-few}
@@ -40,31 +37,21 @@ module _ (bytes : List ℕ) (N T H : ℕ) where
 
   -- one that is accepted, with so many findings
   module _ (count : ℕ) (e : findingsAnswer bytes N T H 901 ≡ gives count) where
-    judged : (N ≤ 131072) × ((length (sectorsOf bytes N) ≤ 64) × (count ≡ length (findingsOf bytes N T)))
-    unfolding findingsAnswer
-    judged =
-        let j = judged-accepted bytes N T H (length (sectorsOf bytes N)) count _ e in
-        (j .2, (j .1, in-room (ltb 901 (length (findingsOf bytes N T))) (j .0)))
-      where
-        in-room : {k : ℕ} (b : Bool) → cond b (refused 5 k) (gives k) ≡ gives count → count ≡ k
-        in-room true f = let z : _≡_ {A = ℕ} 0 1 = cc in absurd (omega arith)
-        in-room false f = cc
-
     pub few-cells : N ≤ 131072
-    few-cells = judged .0
+    few-cells = findings-accepted bytes N T H 901 count e .3
 
     pub count-is : count ≡ length (findingsOf bytes N T)
-    count-is = judged .1 .1
+    count-is = findings-accepted bytes N T H 901 count e .0
 
     pub few-findings : count ≤ 901
-    few-findings = omega (arith, count-is, findings-few bytes N T (judged .1 .0))
+    few-findings = findings-accepted bytes N T H 901 count e .1
 
     module _ (sectors : ℕ) (given : sectors ≡ sectorsGiven (findingsAnswer bytes N T H 901) (length (sectorsOf bytes N))) where
       pub sectors-are : sectors ≡ length (sectorsOf bytes N)
       sectors-are = given ∙ ap (λ (a : Answer ℕ). sectorsGiven a (length (sectorsOf bytes N))) e
 
       pub few-sectors : sectors ≤ 64
-      few-sectors = omega (arith, sectors-are, judged .1 .0)
+      few-sectors = omega (arith, sectors-are, findings-accepted bytes N T H 901 count e .2)
 
       pub few-header : H < 0x1_0000_0000 → length (headerOf T H N sectors count) ≤ 72
       few-header h = header-few T H N sectors count h (omega (arith, few-cells)) (omega (arith, few-sectors)) (omega (arith, few-findings))
