@@ -1,6 +1,7 @@
 //! What has to hold of rules, definitions, functions and edits. Each check has a name and passes or not.
-use crate::exceptions::EXCEPTIONS;
+use crate::definitions::Definition;
 use crate::functions::is_of_program;
+use crate::laws::{exception, parsed, EXCEPTIONS, LAWS};
 use crate::numbers::Number;
 use crate::promises::Promises;
 use crate::repository::{text, Repository};
@@ -17,6 +18,7 @@ pub fn checks(repository: &Repository) -> Vec<Check> {
     let mut checks: Vec<Check> = Vec::new();
     checks.push(("each number of the specification is that of one rule".to_string(), numbers.len() == rules.len()));
     checks.extend(rules.iter().map(of_rule));
+    checks.extend(repository.definitions.iter().filter(|definition| !definition.numbers.is_empty()).map(|definition| of_definition(definition, &promises)));
     for (number, file) in &repository.cited {
         checks.push((format!("{file} cites {number}, which the specification has"), numbers.contains(number)));
     }
@@ -39,24 +41,32 @@ fn of_rule(found: &Found) -> Check {
         return (format!("rule {number} needs its place in the list of exceptions"), !promised && !found.rule.run);
     }
     if found.rule.run {
-        return (format!("rule {number}, which is only run, is named by a test or a definition"), !found.tests.is_empty() || !found.definitions.is_empty());
+        let named = !found.tests.is_empty() || !found.edits.is_empty() || !found.definitions.is_empty();
+        return (format!("rule {number}, which is only run, is named by a test, an edit or a definition"), named);
     }
     let lacks = if found.definitions.is_empty() { "a definition" } else { "a promise" };
     (format!("rule {number} has {lacks}"), promised)
 }
 
-/// The list of exceptions names rules and laws that there are.
-pub fn of_exceptions(repository: &Repository) -> Vec<Check> {
+/// Each definition that states a rule is promised by a function, but for the rules that have a reason.
+fn of_definition(definition: &Definition, promises: &Promises) -> Check {
+    let excepted = definition.numbers.iter().all(|number| exception(*number).is_some());
+    let key = &definition.key;
+    (format!("{}/specs/{}: {} is promised by some function", key.krate, key.file, key.name), excepted || !promises.of(key).1.is_empty())
+}
+
+/// The lists of laws and exceptions name rules and theorems that there are.
+pub fn of_laws(repository: &Repository) -> Vec<Check> {
     let mut checks = Vec::new();
-    for exception in EXCEPTIONS {
-        let number = exception.number();
-        let known = repository.sections.iter().flat_map(|section| &section.rules).any(|rule| rule.number == number);
-        checks.push((format!("the exception {number} is a rule"), known));
-        let (file, names) = exception.law;
-        for name in names {
-            let path = repository.root.join("crates").join(format!("{file}.antt"));
-            let stated = path.exists() && text(&path).lines().any(|line| line.trim_start().trim_start_matches("pub ").starts_with(&format!("{name} :")));
-            checks.push((format!("{file} has the law {name}"), stated));
+    for rule in LAWS.iter().map(|law| law.0).chain(EXCEPTIONS.iter().map(|(rule, _)| *rule)) {
+        let known = repository.sections.iter().flat_map(|section| &section.rules).any(|known| known.number == parsed(rule));
+        checks.push((format!("{rule}, in the lists of laws and exceptions, is a rule"), known));
+    }
+    for (_, file, names) in LAWS {
+        let path = repository.root.join("crates").join(format!("{file}.antt"));
+        for name in *names {
+            let states = |line: &str| line.trim_start().trim_start_matches("pub ").starts_with(&format!("{name} :"));
+            checks.push((format!("{file} has the law {name}"), path.exists() && text(&path).lines().any(states)));
         }
     }
     checks
@@ -87,20 +97,20 @@ mod tests {
 
     #[test]
     fn a_rule_without_a_promise() {
-        assert_eq!(failed(RULES, SPECS, "", "rule: 3.3\n"), ["rule 3.3 has a promise"]);
+        assert_eq!(failed(RULES, SPECS, "", "rule: 3.3\n"), ["rule 3.3 has a promise", "separator/specs/Rule: stepAnswer is promised by some function"]);
     }
 
     #[test]
     fn a_rule_that_is_run_by_nothing() {
         let rules = format!("{RULES}**3.15** *(run)* Another.\n");
-        assert_eq!(failed(&rules, SPECS, SOURCE, "rule: 3.3\n"), ["rule 3.15, which is only run, is named by a test or a definition"]);
+        assert_eq!(failed(&rules, SPECS, SOURCE, "rule: 3.3\n"), ["rule 3.15, which is only run, is named by a test, an edit or a definition"]);
     }
 
     #[test]
     fn an_exception_that_is_not_needed() {
-        let rules = RULES.replace("3.3", "1.16").replace("## 3", "## 1");
-        let specs = SPECS.replace("3.3", "1.16");
-        assert_eq!(failed(&rules, &specs, SOURCE, "rule: 1.16\n"), ["rule 1.16 needs its place in the list of exceptions"]);
+        let rules = RULES.replace("3.3", "1.17").replace("## 3", "## 1");
+        let specs = SPECS.replace("3.3", "1.17");
+        assert_eq!(failed(&rules, &specs, SOURCE, "rule: 1.17\n"), ["rule 1.17 needs its place in the list of exceptions"]);
     }
 
     #[test]

@@ -1,10 +1,10 @@
-//! The tables from rules to statements. With `--write` it writes docs/STATEMENT-TABLES.md; else it holds the stored page to what it would write,
+//! The tables from rules to statements. With `--write` it writes docs/STATEMENT-TABLES.md, with `--counts` it says how much there is; else it holds the stored page to what it would write,
 //! looks at rules, definitions, functions, edits and links, and ends with 'N passed, M failed'.
 mod checks;
 mod definitions;
 mod edits;
-mod exceptions;
 mod functions;
+mod laws;
 mod links;
 mod names;
 mod numbers;
@@ -42,6 +42,10 @@ fn main() -> ExitCode {
     let repository = repository::read(&root);
     let page = tables::page(&repository);
     let path = root.join(tables::PAGE);
+    if std::env::args().any(|argument| argument == "--counts") {
+        println!("{}", tables::counts(&repository));
+        return ExitCode::SUCCESS;
+    }
     if std::env::args().any(|argument| argument == "--write") {
         std::fs::write(&path, page).expect("the page of tables");
         return ExitCode::SUCCESS;
@@ -51,7 +55,7 @@ fn main() -> ExitCode {
         println!("{}: {line}", tables::PAGE);
     }
     let mut all = checks::checks(&repository);
-    all.extend(checks::of_exceptions(&repository));
+    all.extend(checks::of_laws(&repository));
     all.extend(links::links(&root));
     all.push((format!("{} is what statement_tables --write makes", tables::PAGE), stored == page));
     let failed: Vec<&String> = all.iter().filter(|(_, good)| !good).map(|(name, _)| name).collect();

@@ -1,5 +1,5 @@
-//! Which functions promise a rule: those whose `ensures` name one of its definitions. Where none does, those that come to one by way of other
-//! definitions, in the fewest steps.
+//! Which functions promise a definition: those whose `ensures` name it. Where none does, those that come to it by way of other definitions, in
+//! the fewest steps.
 use crate::definitions::Definition;
 use crate::functions::Function;
 use crate::names::Key;
@@ -27,19 +27,36 @@ impl Promises {
         Promises { users, functions: by_name }
     }
 
-    /// The functions, by their index, that promise one of these definitions.
-    pub fn of(&self, definitions: &[Key]) -> Vec<usize> {
-        let mut seen: BTreeSet<Key> = definitions.iter().cloned().collect();
-        let mut now = seen.clone();
-        while !now.is_empty() {
-            let found: BTreeSet<usize> = now.iter().filter_map(|key| self.functions.get(key)).flatten().copied().collect();
-            if !found.is_empty() {
-                return found.into_iter().collect();
+    /// The functions, by their index, that promise one of these definitions: those that name it come before those that come to it by others.
+    pub fn of_all(&self, definitions: &[&Key]) -> Vec<usize> {
+        let mut found: Vec<(usize, usize)> = Vec::new();
+        for (steps, functions) in definitions.iter().map(|definition| self.of(definition)) {
+            for function in functions {
+                match found.iter_mut().find(|(_, other)| *other == function) {
+                    Some((least, _)) => *least = steps.min(*least),
+                    None => found.push((steps, function)),
+                }
             }
-            now = now.iter().filter_map(|key| self.users.get(key)).flatten().filter(|key| !seen.contains(key)).cloned().collect();
-            seen.extend(now.iter().cloned());
         }
-        Vec::new()
+        found.sort();
+        found.into_iter().map(|(_, function)| function).collect()
+    }
+
+    /// The functions that promise a definition, and the steps that it takes.
+    pub fn of(&self, definition: &Key) -> (usize, BTreeSet<usize>) {
+        let mut seen: BTreeSet<&Key> = BTreeSet::from([definition]);
+        let mut now = seen.clone();
+        let mut steps = 0;
+        while !now.is_empty() {
+            let found: BTreeSet<usize> = now.iter().filter_map(|key| self.functions.get(*key)).flatten().copied().collect();
+            if !found.is_empty() {
+                return (steps, found);
+            }
+            now = now.iter().filter_map(|key| self.users.get(*key)).flatten().filter(|key| !seen.contains(key)).collect();
+            seen.extend(now.iter());
+            steps += 1;
+        }
+        (steps, BTreeSet::new())
     }
 }
 
@@ -55,10 +72,12 @@ mod tests {
         let text = "ghost use Rattle.a.specs.F.{middle, high};\npub fn near() -> u8\n    ensures { middle }\n{\n}\n\npub fn far() -> u8\n    ensures { high }\n{\n}\n";
         let functions = functions("a", "src/lib.rt", text);
         let promises = Promises::new(&definitions, &functions);
-        let of = |name: &str| promises.of(&[Key { krate: "a".into(), file: "F".into(), name: name.into() }]);
+        let key = |name: &str| Key { krate: "a".into(), file: "F".into(), name: name.into() };
+        let of = |name: &str| promises.of_all(&[&key(name)]);
         assert_eq!(of("low"), [0]);
         assert_eq!(of("middle"), [0]);
         assert_eq!(of("high"), [1]);
         assert!(of("alone").is_empty());
+        assert_eq!(promises.of_all(&[&key("low"), &key("high")]), [1, 0]);
     }
 }

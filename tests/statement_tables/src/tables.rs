@@ -1,7 +1,7 @@
 //! The page of tables: for each rule its definitions, the functions that promise them, and the edits.
 use crate::edits::Edit;
-use crate::exceptions::{exception, Exception};
 use crate::functions::{is_of_program, Function};
+use crate::laws::{exception, laws, Law};
 use crate::links::slug;
 use crate::names::Key;
 use crate::numbers::Number;
@@ -26,14 +26,15 @@ pub struct Found<'a> {
     pub functions: Vec<&'a Function>,
     pub edits: Vec<&'a Edit>,
     pub tests: Vec<&'a str>,
-    pub exception: Option<&'static Exception>,
+    pub laws: Vec<&'static Law>,
+    /// Why no function promises it.
+    pub exception: Option<&'static str>,
 }
 
 pub fn found<'a>(repository: &'a Repository, promises: &Promises, rule: &'a Rule) -> Found<'a> {
     let states = |number: &Number| *number == rule.number;
     let definitions: Vec<&Key> = repository.definitions.iter().filter(|d| d.numbers.iter().any(states)).map(|d| &d.key).collect();
-    let keys: Vec<Key> = definitions.iter().map(|key| (*key).clone()).collect();
-    let mut functions: Vec<&Function> = promises.of(&keys).into_iter().map(|i| &repository.functions[i]).collect();
+    let mut functions: Vec<&Function> = promises.of_all(&definitions).into_iter().map(|i| &repository.functions[i]).collect();
     // The functions for C promise the same as those that they call, which come first.
     functions.sort_by_key(|function| function.krate == "thikbromu");
     Found {
@@ -42,6 +43,7 @@ pub fn found<'a>(repository: &'a Repository, promises: &Promises, rule: &'a Rule
         functions,
         edits: repository.edits.iter().filter(|edit| edit.numbers.iter().flatten().any(states)).collect(),
         tests: repository.tried.iter().filter(|(number, _)| states(number)).map(|(_, file)| file.as_str()).collect(),
+        laws: laws(rule.number),
         exception: exception(rule.number),
     }
 }
@@ -56,6 +58,26 @@ pub fn page(repository: &Repository) -> String {
         }
     }
     page
+}
+
+/// How many rules have what.
+pub fn counts(repository: &Repository) -> String {
+    let promises = Promises::new(&repository.definitions, &repository.functions);
+    let all: Vec<Found> = repository.sections.iter().flat_map(|section| &section.rules).map(|rule| found(repository, &promises, rule)).collect();
+    let count = |test: &dyn Fn(&Found) -> bool| all.iter().filter(|found| test(found)).count();
+    format!(
+        "{} rules: {} with a definition, {} with a promise, {} with a law, {} with an edit, {} only run\n{} definitions, {} of them with a number; {} functions; {} edits",
+        all.len(),
+        count(&|found| !found.definitions.is_empty()),
+        count(&|found| !found.functions.is_empty()),
+        count(&|found| !found.laws.is_empty()),
+        count(&|found| !found.edits.is_empty()),
+        count(&|found| found.rule.run),
+        repository.definitions.len(),
+        repository.definitions.iter().filter(|definition| !definition.numbers.is_empty()).count(),
+        repository.functions.len(),
+        repository.edits.len()
+    )
 }
 
 fn row(section: &Section, found: &Found) -> String {
@@ -84,20 +106,19 @@ fn definitions(keys: &[&Key]) -> String {
 }
 
 fn promised(found: &Found) -> String {
-    if let Some(exception) = found.exception {
-        let (file, names) = exception.law;
-        if names.is_empty() {
-            return exception.why.to_string();
-        }
-        let names: Vec<String> = names.iter().map(|name| format!("`{name}`")).collect();
-        return format!("{}: [{file}](../crates/{file}.antt): {}", exception.why, names.join(", "));
-    }
+    let functions: Vec<String> = found.functions.iter().map(|function| shown(function)).collect();
+    let mut parts = vec![short(&functions, MOST_FUNCTIONS)];
     if found.rule.run {
         let tests: Vec<String> = found.tests.iter().map(|test| format!("[{test}](../{test})")).collect();
-        return format!("only run: {}", short(&tests, MOST_TESTS));
+        parts = vec![format!("only run: {}", short(&tests, MOST_TESTS))];
     }
-    let functions: Vec<String> = found.functions.iter().map(|function| shown(function)).collect();
-    short(&functions, MOST_FUNCTIONS)
+    parts.extend(found.exception.map(str::to_string));
+    for (_, file, names) in &found.laws {
+        let names: Vec<String> = names.iter().map(|name| format!("`{name}`")).collect();
+        parts.push(format!("law: [{file}](../crates/{file}.antt): {}", names.join(", ")));
+    }
+    parts.retain(|part| !part.is_empty());
+    parts.join("; ")
 }
 
 fn shown(function: &Function) -> String {
