@@ -13,7 +13,7 @@ pub struct Function {
 }
 
 /// Programs have no public function. These make their promises.
-const OF_PROGRAMS: [(&str, &str); 2] = [("track_listing", "list_input"), ("scp_track", "list_input")];
+const OF_PROGRAMS: [(&str, &str); 3] = [("track_listing", "list_input"), ("scp_track", "read_choice"), ("scp_track", "list_input")];
 
 pub fn is_of_program(krate: &str, name: &str) -> bool {
     OF_PROGRAMS.contains(&(krate, name))
