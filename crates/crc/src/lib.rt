@@ -1,4 +1,4 @@
-// The check word of 01, a byte at a time by a table.
+// The check word, by section 2 of the specification, a byte at a time by a table.
 ghost use mathlib.Core.Path.{_≡_};
 ghost use Prim.Native.Nat.{_<_, _*_};
 ghost use Rattle.crc.specs.CheckWord.{afterBits, afterByte, checkWordFrom, checkWord};
