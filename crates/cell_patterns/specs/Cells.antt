@@ -1,5 +1,6 @@
 -- Section 7 of the specification, rules 7.38 to 7.42: what the kinds SID, MTV and NFA look at. f are the cells of a track of n cells, which
--- go on round it. The main property: what `gapsOf` and `syncsInside` count, each over all places that count. Assumes nothing.
+-- go on round it. The main property: `gapsOf` is what MTV and NFA tell of a track, `syncsInside` what SID tells of a sector. Assumes
+-- nothing.
 use Prim.Native.Nat.{ℕ, _+_, _-_}
 use mathlib.Core.Bool.{Bool, cond, _&&_, _||_}
 use lib.Dec.{eqb, ltb}
@@ -17,7 +18,7 @@ isOne f p = eqb (f p) 1
 unfoldable pub nextOne : (ℕ → ℕ) → ℕ → ℕ → ℕ
 nextOne f n p = least (isOne f) n (p + 1)
 
--- 7.39, 7.40: at p stands a one that has its next one too near, at a distance of 1, or too far, at 5 or more. Without ones there is none
+-- 7.39, 7.40: a one stands at p, and its next one is too near, at a distance of 1, or too far, at 5 or more. Without ones there is none
 unfoldable pub violation : (ℕ → ℕ) → ℕ → ℕ → Bool
 violation f n p = isOne f p && (eqb (nextOne f n p - p) 1 || ltb 4 (nextOne f n p - p))
 

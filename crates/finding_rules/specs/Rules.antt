@@ -107,7 +107,7 @@ dbi N s = record { holds = hasDataMark s && leb N (s .«data_place»); place = s
 abbrev pub isInData : ℕ → Sector → Bool
 isInData x other = leb (other .«data_place») x && ltb x (endOfData other)
 
--- 7.37: the other sector stands elsewhere, its data is read, and p or p + N falls into it
+-- 7.37: the other sector has another place, its data is read, and p or p + N falls into it
 unfoldable pub startsInData : ℕ → Sector → Sector → Bool
 startsInData N s other = (not (eqb (other .place) (s .place)) && dataIsRead other) && (isInData (s .place) other || isInData (s .place + N) other)
 
