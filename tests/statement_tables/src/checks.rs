@@ -37,15 +37,16 @@ pub fn checks(repository: &Repository) -> Vec<Check> {
 fn of_rule(found: &Found) -> Check {
     let number = found.rule.number;
     let promised = !found.definitions.is_empty() && !found.functions.is_empty();
+    let named = !found.tests.is_empty() || !found.edits.is_empty() || !found.definitions.is_empty();
+    let good = if found.rule.run { named } else { promised };
     if found.exception.is_some() {
-        return (format!("rule {number} needs its place in the list of exceptions"), !promised && !found.rule.run);
+        return (format!("rule {number} needs its place in the list of exceptions"), !good);
     }
     if found.rule.run {
-        let named = !found.tests.is_empty() || !found.edits.is_empty() || !found.definitions.is_empty();
-        return (format!("rule {number}, which is only run, is named by a test, an edit or a definition"), named);
+        return (format!("rule {number}, which is only run, is named by a test, an edit or a definition"), good);
     }
     let lacks = if found.definitions.is_empty() { "a definition" } else { "a promise" };
-    (format!("rule {number} has {lacks}"), promised)
+    (format!("rule {number} has {lacks}"), good)
 }
 
 /// Each definition that states a rule is promised by a function, but for the rules that have a reason.

@@ -1,4 +1,4 @@
-//! Theorems that have a rule, and the rules that no function promises, each with its reason. Rules marked *(run)* need no place here.
+//! Theorems that have a rule, and the rules that no function promises and no test runs, each with its reason.
 use crate::numbers::{number, Number};
 
 /// A rule, the file of the theorems, and their names. A theorem follows from the definitions: it adds nothing to what has to be believed.
@@ -30,11 +30,12 @@ pub const LAWS: &[Law] = &[
     ("13.6", "file_listing/proofs/Laws", &["never-ten"]),
 ];
 
-/// A rule that no function promises, and why.
+/// A rule that no function promises, or, where it is only run, that no test names; and why.
 pub const EXCEPTIONS: &[(&str, &str)] = &[
     ("1.17", "an example: a theorem of the definitions, for no code"),
     ("2.4", "an example: a theorem of the definitions, for no code"),
     ("3.13", "an example: a theorem of the definitions, for no code"),
+    ("13.12", "tells users what the system does with packets; nothing tries it"),
 ];
 
 pub fn parsed(rule: &str) -> Number {

@@ -15,7 +15,7 @@ pub struct Repository {
     pub edits: Vec<Edit>,
     /// The numbers that comments of specs/ have, with the file.
     pub cited: Vec<(Number, String)>,
-    /// The numbers that comments of tests have, with the file.
+    /// The rules that tests name, with the file.
     pub tried: Vec<(Number, String)>,
 }
 
@@ -76,17 +76,17 @@ pub fn read(root: &Path) -> Repository {
     repository
 }
 
-/// The numbers that stand in comments of the tests, with the file. This program's own fixtures name rules too, and do not count.
+/// The rules that tests name, with the file. This program's own fixtures name rules too, and do not count.
 fn tried(root: &Path) -> Vec<(Number, String)> {
     let mut found = Vec::new();
     for folder in ["tests", ".ci", "bindings", "samples"] {
         for path in all_files(&root.join(folder)) {
             let name = path.strip_prefix(root).unwrap().to_string_lossy().to_string();
             let Ok(text) = fs::read_to_string(&path) else { continue };
-            if name.starts_with("tests/statement_tables") || name.ends_with(".toml") || name.ends_with(".lock") {
+            if name.starts_with("tests/statement_tables") {
                 continue;
             }
-            let mut numbers: Vec<Number> = text.lines().filter_map(|line| comment(line, name.ends_with(".md"))).flat_map(numbers_in).collect();
+            let mut numbers: Vec<Number> = text.lines().flat_map(rules_named).collect();
             numbers.sort();
             numbers.dedup();
             found.extend(numbers.into_iter().map(|number| (number, name.clone())));
@@ -95,13 +95,9 @@ fn tried(root: &Path) -> Vec<(Number, String)> {
     found
 }
 
-/// The comment of a line of Rust, C or a script. A page is a comment as a whole.
-fn comment(line: &str, page: bool) -> Option<&str> {
-    let start = line.trim_start();
-    if page || start.starts_with(['#', '*']) || start.starts_with("/*") {
-        return Some(start);
-    }
-    line.split_once("//").map(|(_, rest)| rest)
+/// The rules that a line names, in a comment or in a text that is printed: the numbers after the word `rule` or `rules`.
+fn rules_named(line: &str) -> Vec<Number> {
+    line.find("rule").map_or(Vec::new(), |at| numbers_in(&line[at..]))
 }
 
 #[cfg(test)]
@@ -109,9 +105,10 @@ mod tests {
     use super::*;
 
     #[test]
-    fn comments_of_lines() {
-        assert_eq!(comment("    let x = 1.5; // rule 6.19", false), Some(" rule 6.19"));
-        assert_eq!(comment("let x = 1.5;", false), None);
-        assert_eq!(comment("# rule 13.3", false), Some("# rule 13.3"));
+    fn a_line_names_rules() {
+        let named = |line| rules_named(line).iter().map(Number::to_string).collect::<Vec<_>>().join(" ");
+        assert_eq!(named("    let x = 1.5; // rules 6.19 and 7.3"), "6.19 7.3");
+        assert_eq!(named("Group::new(\"the cells of rule 3.14\");"), "3.14");
+        assert_eq!(named("let x = 1.5;"), "");
     }
 }

@@ -110,7 +110,7 @@ fn promised(found: &Found) -> String {
     let mut parts = vec![short(&functions, MOST_FUNCTIONS)];
     if found.rule.run {
         let tests: Vec<String> = found.tests.iter().map(|test| format!("[{test}](../{test})")).collect();
-        parts = vec![format!("only run: {}", short(&tests, MOST_TESTS))];
+        parts = vec![format!("only run: {}", short(&tests, MOST_TESTS)).trim_end_matches(": ").to_string()];
     }
     parts.extend(found.exception.map(str::to_string));
     for (_, file, names) in &found.laws {
