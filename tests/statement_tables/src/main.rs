@@ -18,7 +18,7 @@ use std::process::ExitCode;
 
 const MOST_LINES: usize = 5;
 
-/// The first lines in which two texts differ.
+/// The first lines in which two texts differ, each from a little before the difference on.
 fn difference(stored: &str, written: &str) -> Vec<String> {
     let lines = stored.lines().count().max(written.lines().count());
     let (mut old, mut new) = (stored.lines(), written.lines());
@@ -26,7 +26,9 @@ fn difference(stored: &str, written: &str) -> Vec<String> {
     for i in 1..=lines {
         let (a, b) = (old.next(), new.next());
         if a != b {
-            shown.push(format!("line {i}\n  stored:  {}\n  written: {}", a.unwrap_or("nothing"), b.unwrap_or("nothing")));
+            let (a, b) = (a.unwrap_or("nothing"), b.unwrap_or("nothing"));
+            let same = a.chars().zip(b.chars()).take_while(|(x, y)| x == y).count();
+            shown.push(format!("line {i}\n  stored:  {}\n  written: {}", part(a, same), part(b, same)));
         }
     }
     let more = shown.len().saturating_sub(MOST_LINES);
@@ -35,6 +37,13 @@ fn difference(stored: &str, written: &str) -> Vec<String> {
         shown.push(format!("and {more} lines more"));
     }
     shown
+}
+
+/// The part of a line around one of its places.
+fn part(line: &str, place: usize) -> String {
+    let from = place.saturating_sub(40);
+    let front = if from > 0 { ".." } else { "" };
+    format!("{front}{}", line.chars().skip(from).take(120).collect::<String>())
 }
 
 fn main() -> ExitCode {
@@ -79,5 +88,7 @@ mod tests {
         assert!(difference("a\nb\n", "a\nb\n").is_empty());
         assert_eq!(difference("a\nb\n", "a\nc\n"), ["line 2\n  stored:  b\n  written: c"]);
         assert_eq!(difference("", "1\n2\n3\n4\n5\n6\n7\n").len(), MOST_LINES + 1);
+        let long = "x".repeat(300);
+        assert_eq!(part(&format!("{long}a{long}"), 300).len(), 122);
     }
 }
