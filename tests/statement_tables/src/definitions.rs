@@ -12,18 +12,28 @@ pub struct Definition {
 
 /// The name that a line begins to define.
 fn head(line: &str) -> Option<&str> {
-    let rest = line.strip_prefix("unfoldable ").or_else(|| line.strip_prefix("abbrev ")).unwrap_or(line);
+    let rest = line
+        .strip_prefix("unfoldable ")
+        .or_else(|| line.strip_prefix("abbrev "))
+        .unwrap_or(line);
     let public = rest.strip_prefix("pub ").unwrap_or(rest);
-    let kind = public.strip_prefix("record ").or_else(|| public.strip_prefix("data "));
+    let kind = public
+        .strip_prefix("record ")
+        .or_else(|| public.strip_prefix("data "));
     let name = kind.unwrap_or(public).split_whitespace().next()?;
-    let begins = kind.is_some() || (rest.len() < line.len() || public.len() < rest.len()) && !public.starts_with("mod ");
+    let begins = kind.is_some()
+        || (rest.len() < line.len() || public.len() < rest.len()) && !public.starts_with("mod ");
     begins.then_some(name)
 }
 
 /// All definitions of a file, in its order.
 pub fn definitions(krate: &str, file: &str, text: &str) -> Vec<Definition> {
     let mut imports = imports(text);
-    let key = |name: &str| Key { krate: krate.to_string(), file: file.to_string(), name: name.to_string() };
+    let key = |name: &str| Key {
+        krate: krate.to_string(),
+        file: file.to_string(),
+        name: name.to_string(),
+    };
     let mut found: Vec<(Definition, String)> = Vec::new();
     let mut comment: Option<String> = None;
     let mut numbers: Vec<Number> = Vec::new();
@@ -41,9 +51,18 @@ pub fn definitions(krate: &str, file: &str, text: &str) -> Vec<Definition> {
             numbers.clear();
         } else if let Some(name) = head(line) {
             imports.insert(name.to_string(), key(name));
-            found.push((Definition { key: key(name), numbers: numbers.clone(), names: Vec::new() }, String::new()));
+            found.push((
+                Definition {
+                    key: key(name),
+                    numbers: numbers.clone(),
+                    names: Vec::new(),
+                },
+                String::new(),
+            ));
         }
-        let Some((definition, text)) = found.last_mut() else { continue };
+        let Some((definition, text)) = found.last_mut() else {
+            continue;
+        };
         match line.trim().strip_prefix("--") {
             Some(words) => definition.numbers.extend(numbers_at_start(words.trim())),
             None => text.push_str(&format!("{line}\n")),
@@ -54,12 +73,18 @@ pub fn definitions(krate: &str, file: &str, text: &str) -> Vec<Definition> {
         let own = definition.key.clone();
         definition.names.retain(|name| *name != own);
     }
-    found.into_iter().map(|(definition, _)| definition).collect()
+    found
+        .into_iter()
+        .map(|(definition, _)| definition)
+        .collect()
 }
 
 /// Every number that comments of a file have.
 pub fn cited(text: &str) -> Vec<Number> {
-    text.lines().filter_map(|line| line.trim().strip_prefix("--")).flat_map(numbers_in).collect()
+    text.lines()
+        .filter_map(|line| line.trim().strip_prefix("--"))
+        .flat_map(numbers_in)
+        .collect()
 }
 
 #[cfg(test)]
@@ -76,9 +101,28 @@ mod tests {
         let found = definitions("separator", "Rule", FILE);
         let shown: Vec<String> = found
             .iter()
-            .map(|d| format!("{} {}", d.key.name, d.numbers.iter().map(Number::to_string).collect::<Vec<_>>().join(" ")))
+            .map(|d| {
+                format!(
+                    "{} {}",
+                    d.key.name,
+                    d.numbers
+                        .iter()
+                        .map(Number::to_string)
+                        .collect::<Vec<_>>()
+                        .join(" ")
+                )
+            })
             .collect();
-        assert_eq!(shown, ["reading 3.3", "twice 3.3", "helper ", "Window 3.4 3.5 3.6", "Track 3.7"]);
+        assert_eq!(
+            shown,
+            [
+                "reading 3.3",
+                "twice 3.3",
+                "helper ",
+                "Window 3.4 3.5 3.6",
+                "Track 3.7"
+            ]
+        );
         let names: Vec<&str> = found[1].names.iter().map(|key| key.name.as_str()).collect();
         assert_eq!(names, ["reading"]);
         assert_eq!(found[0].names[0].krate, "cells");

@@ -13,7 +13,11 @@ pub struct Function {
 }
 
 /// Programs have no public function. These make their promises.
-const OF_PROGRAMS: [(&str, &str); 3] = [("track_listing", "list_input"), ("scp_track", "read_choice"), ("scp_track", "list_input")];
+const OF_PROGRAMS: [(&str, &str); 3] = [
+    ("track_listing", "list_input"),
+    ("scp_track", "read_choice"),
+    ("scp_track", "list_input"),
+];
 
 pub fn is_of_program(krate: &str, name: &str) -> bool {
     OF_PROGRAMS.contains(&(krate, name))
@@ -30,17 +34,25 @@ pub fn functions(krate: &str, file: &str, text: &str) -> Vec<Function> {
         } else if line.starts_with('}') {
             of_type.clear();
         }
-        let Some((name, public)) = function(line.trim()) else { continue };
+        let Some((name, public)) = function(line.trim()) else {
+            continue;
+        };
         if !public && !is_of_program(krate, name) {
             continue;
         }
         let contract = contract(&lines[i..]);
         let clause = |word: &str| contract.lines().any(|line| line.trim().starts_with(word));
-        let promise: String = contract.find("ensures").map_or(String::new(), |at| contract[at..].to_string());
+        let promise: String = contract
+            .find("ensures")
+            .map_or(String::new(), |at| contract[at..].to_string());
         found.push(Function {
             krate: krate.to_string(),
             file: file.to_string(),
-            name: if of_type.is_empty() { name.to_string() } else { format!("{of_type}::{name}") },
+            name: if of_type.is_empty() {
+                name.to_string()
+            } else {
+                format!("{of_type}::{name}")
+            },
             names: named(&promise, &imports),
             promises: clause("ensures"),
             requires: clause("requires"),
@@ -53,7 +65,10 @@ pub fn functions(krate: &str, file: &str, text: &str) -> Vec<Function> {
 fn function(line: &str) -> Option<(&str, bool)> {
     let public = line.strip_prefix("pub ");
     let rest = public.unwrap_or(line);
-    let rest = rest.strip_prefix("extern \"C\" ").unwrap_or(rest).strip_prefix("fn ")?;
+    let rest = rest
+        .strip_prefix("extern \"C\" ")
+        .unwrap_or(rest)
+        .strip_prefix("fn ")?;
     Some((rest.split(['(', '<']).next()?, public.is_some()))
 }
 
@@ -88,15 +103,37 @@ mod tests {
         let found = functions("separator", "src/lib.rt", FILE);
         let shown: Vec<String> = found
             .iter()
-            .map(|f| format!("{} {} {}", f.name, f.requires, f.names.iter().map(|key| key.name.clone()).collect::<Vec<_>>().join(" ")))
+            .map(|f| {
+                format!(
+                    "{} {} {}",
+                    f.name,
+                    f.requires,
+                    f.names
+                        .iter()
+                        .map(|key| key.name.clone())
+                        .collect::<Vec<_>>()
+                        .join(" ")
+                )
+            })
             .collect();
-        assert_eq!(shown, ["Separator::new false ", "Separator::step true stepAnswer", "thikbromu_step false stepAnswer"]);
+        assert_eq!(
+            shown,
+            [
+                "Separator::new false ",
+                "Separator::step true stepAnswer",
+                "thikbromu_step false stepAnswer"
+            ]
+        );
         assert!(found.iter().all(|function| function.promises));
     }
 
     #[test]
     fn a_program_promises_by_one_function() {
-        let found = functions("scp_track", "src/main.rt", "fn list_input(a: u8) -> usize\n    ensures { λ r. ⌜ r ⌝ }\n{\n}\n\nfn main() {\n}\n");
+        let found = functions(
+            "scp_track",
+            "src/main.rt",
+            "fn list_input(a: u8) -> usize\n    ensures { λ r. ⌜ r ⌝ }\n{\n}\n\nfn main() {\n}\n",
+        );
         assert_eq!(found.len(), 1);
         assert_eq!(found[0].name, "list_input");
     }

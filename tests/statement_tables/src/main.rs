@@ -28,7 +28,11 @@ fn difference(stored: &str, written: &str) -> Vec<String> {
         if a != b {
             let (a, b) = (a.unwrap_or("nothing"), b.unwrap_or("nothing"));
             let same = a.chars().zip(b.chars()).take_while(|(x, y)| x == y).count();
-            shown.push(format!("line {i}\n  stored:  {}\n  written: {}", part(a, same), part(b, same)));
+            shown.push(format!(
+                "line {i}\n  stored:  {}\n  written: {}",
+                part(a, same),
+                part(b, same)
+            ));
         }
     }
     let more = shown.len().saturating_sub(MOST_LINES);
@@ -43,11 +47,17 @@ fn difference(stored: &str, written: &str) -> Vec<String> {
 fn part(line: &str, place: usize) -> String {
     let from = place.saturating_sub(40);
     let front = if from > 0 { ".." } else { "" };
-    format!("{front}{}", line.chars().skip(from).take(120).collect::<String>())
+    format!(
+        "{front}{}",
+        line.chars().skip(from).take(120).collect::<String>()
+    )
 }
 
 fn main() -> ExitCode {
-    let root = Path::new(env!("CARGO_MANIFEST_DIR")).join("../..").canonicalize().expect("the repository");
+    let root = Path::new(env!("CARGO_MANIFEST_DIR"))
+        .join("../..")
+        .canonicalize()
+        .expect("the repository");
     let repository = repository::read(&root);
     let page = tables::page(&repository);
     let path = root.join(tables::PAGE);
@@ -66,12 +76,23 @@ fn main() -> ExitCode {
     let mut all = checks::checks(&repository);
     all.extend(checks::of_laws(&repository));
     all.extend(links::links(&root));
-    all.push((format!("{} is what statement_tables --write makes", tables::PAGE), stored == page));
-    let failed: Vec<&String> = all.iter().filter(|(_, good)| !good).map(|(name, _)| name).collect();
+    all.push((
+        format!("{} is what statement_tables --write makes", tables::PAGE),
+        stored == page,
+    ));
+    let failed: Vec<&String> = all
+        .iter()
+        .filter(|(_, good)| !good)
+        .map(|(name, _)| name)
+        .collect();
     for name in &failed {
         println!("FAILED: {name}");
     }
-    println!("{} passed, {} failed", all.len() - failed.len(), failed.len());
+    println!(
+        "{} passed, {} failed",
+        all.len() - failed.len(),
+        failed.len()
+    );
     if failed.is_empty() {
         ExitCode::SUCCESS
     } else {
@@ -86,8 +107,14 @@ mod tests {
     #[test]
     fn the_first_differences_are_shown() {
         assert!(difference("a\nb\n", "a\nb\n").is_empty());
-        assert_eq!(difference("a\nb\n", "a\nc\n"), ["line 2\n  stored:  b\n  written: c"]);
-        assert_eq!(difference("", "1\n2\n3\n4\n5\n6\n7\n").len(), MOST_LINES + 1);
+        assert_eq!(
+            difference("a\nb\n", "a\nc\n"),
+            ["line 2\n  stored:  b\n  written: c"]
+        );
+        assert_eq!(
+            difference("", "1\n2\n3\n4\n5\n6\n7\n").len(),
+            MOST_LINES + 1
+        );
         let long = "x".repeat(300);
         assert_eq!(part(&format!("{long}a{long}"), 300).len(), 122);
     }

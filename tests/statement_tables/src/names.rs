@@ -16,8 +16,16 @@ pub fn imports(text: &str) -> Imports {
     let mut imports = Imports::new();
     for line in text.lines() {
         let line = line.trim().trim_end_matches(';');
-        let Some(rest) = line.strip_prefix("ghost ").unwrap_or(line).strip_prefix("use Rattle·") else { continue };
-        let Some((path, names)) = rest.split_once(".{") else { continue };
+        let Some(rest) = line
+            .strip_prefix("ghost ")
+            .unwrap_or(line)
+            .strip_prefix("use Rattle·")
+        else {
+            continue;
+        };
+        let Some((path, names)) = rest.split_once(".{") else {
+            continue;
+        };
         let parts: Vec<&str> = path.split('.').collect();
         let krate = parts[0].trim_end_matches("·specs");
         if parts.len() < 3 || parts[1] != "specs" || parts[2] == "declared" {
@@ -26,7 +34,14 @@ pub fn imports(text: &str) -> Imports {
         for name in names.trim_end_matches('}').split(',').map(str::trim) {
             let (own, here) = name.split_once(" as ").unwrap_or((name, name));
             let own = if parts.len() > 3 { parts[3] } else { own };
-            imports.insert(here.to_string(), Key { krate: krate.to_string(), file: parts[2].to_string(), name: own.to_string() });
+            imports.insert(
+                here.to_string(),
+                Key {
+                    krate: krate.to_string(),
+                    file: parts[2].to_string(),
+                    name: own.to_string(),
+                },
+            );
         }
     }
     imports
@@ -55,7 +70,11 @@ mod tests {
              use Rattle.refusals.specs.RefusedCalls.Answer.{gives}\n\
              use Rattle.separator.specs.declared.Taken.{Taken}\nuse lib.ListN.{length}\n",
         );
-        let place = |name: &str| found.get(name).map(|key| format!("{}/{}/{}", key.krate, key.file, key.name));
+        let place = |name: &str| {
+            found
+                .get(name)
+                .map(|key| format!("{}/{}/{}", key.krate, key.file, key.name))
+        };
         assert_eq!(place("packed").unwrap(), "cells/CellsAndBytes/packed");
         assert_eq!(place("cellWord").unwrap(), "cells/CellsAndBytes/word");
         assert_eq!(place("halved").unwrap(), "separator/Rule/halved");

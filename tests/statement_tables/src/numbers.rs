@@ -16,11 +16,16 @@ impl fmt::Display for Number {
 /// A word that is a number of a rule and nothing else.
 pub fn number(word: &str) -> Option<Number> {
     let (section, item) = word.split_once('.')?;
-    let digits = |part: &str| !part.is_empty() && part.len() <= 3 && part.bytes().all(|b| b.is_ascii_digit());
+    let digits = |part: &str| {
+        !part.is_empty() && part.len() <= 3 && part.bytes().all(|b| b.is_ascii_digit())
+    };
     if !digits(section) || !digits(item) {
         return None;
     }
-    Some(Number { section: section.parse().ok()?, item: item.parse().ok()? })
+    Some(Number {
+        section: section.parse().ok()?,
+        item: item.parse().ok()?,
+    })
 }
 
 /// What a list of numbers names: `3.7, 3.8` or `3.7 and 3.8` are two, `4.1 to 4.3` is all from one to the other. None where it has anything else.
@@ -38,7 +43,10 @@ pub fn numbers_of_list(list: &str) -> Option<Vec<Number>> {
                     if first.section != next.section || next.item < first.item {
                         return None;
                     }
-                    found.extend((first.item + 1..next.item).map(|item| Number { section: first.section, item }));
+                    found.extend((first.item + 1..next.item).map(|item| Number {
+                        section: first.section,
+                        item,
+                    }));
                     range = false;
                 }
                 found.push(next);
@@ -53,7 +61,10 @@ pub fn numbers_of_list(list: &str) -> Option<Vec<Number>> {
 
 /// The numbers with which a comment begins, as `3.7, 3.8: a step ..`. None where it does not begin so.
 pub fn numbers_at_start(comment: &str) -> Vec<Number> {
-    comment.split_once(':').and_then(|(list, _)| numbers_of_list(list.trim())).unwrap_or_default()
+    comment
+        .split_once(':')
+        .and_then(|(list, _)| numbers_of_list(list.trim()))
+        .unwrap_or_default()
 }
 
 /// Every number of a rule that a text has. A number of another kind, as 0.1.0, is none.
@@ -74,7 +85,10 @@ mod tests {
     #[test]
     fn a_comment_begins_with_its_numbers() {
         assert_eq!(numbers_at_start("3.7, 3.8: a step"), [n(3, 7), n(3, 8)]);
-        assert_eq!(numbers_at_start("4.1 to 4.3 and 4.6: the premises"), [n(4, 1), n(4, 2), n(4, 3), n(4, 6)]);
+        assert_eq!(
+            numbers_at_start("4.1 to 4.3 and 4.6: the premises"),
+            [n(4, 1), n(4, 2), n(4, 3), n(4, 6)]
+        );
         assert_eq!(numbers_at_start("7.18: see 7.37"), [n(7, 18)]);
         assert_eq!(numbers_at_start("the cells: see 7.37"), []);
         assert_eq!(numbers_at_start("12 bytes: a row"), []);

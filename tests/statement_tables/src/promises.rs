@@ -15,7 +15,10 @@ impl Promises {
         let mut users: BTreeMap<Key, Vec<Key>> = BTreeMap::new();
         for definition in definitions {
             for name in &definition.names {
-                users.entry(name.clone()).or_default().push(definition.key.clone());
+                users
+                    .entry(name.clone())
+                    .or_default()
+                    .push(definition.key.clone());
             }
         }
         let mut by_name: BTreeMap<Key, Vec<usize>> = BTreeMap::new();
@@ -24,7 +27,10 @@ impl Promises {
                 by_name.entry(name.clone()).or_default().push(i);
             }
         }
-        Promises { users, functions: by_name }
+        Promises {
+            users,
+            functions: by_name,
+        }
     }
 
     /// The functions, by their index, that promise one of these definitions: those that name it come before those that come to it by others.
@@ -48,11 +54,21 @@ impl Promises {
         let mut now = seen.clone();
         let mut steps = 0;
         while !now.is_empty() {
-            let found: BTreeSet<usize> = now.iter().filter_map(|key| self.functions.get(*key)).flatten().copied().collect();
+            let found: BTreeSet<usize> = now
+                .iter()
+                .filter_map(|key| self.functions.get(*key))
+                .flatten()
+                .copied()
+                .collect();
             if !found.is_empty() {
                 return (steps, found);
             }
-            now = now.iter().filter_map(|key| self.users.get(*key)).flatten().filter(|key| !seen.contains(key)).collect();
+            now = now
+                .iter()
+                .filter_map(|key| self.users.get(*key))
+                .flatten()
+                .filter(|key| !seen.contains(key))
+                .collect();
             seen.extend(now.iter());
             steps += 1;
         }
@@ -72,7 +88,11 @@ mod tests {
         let text = "ghost use Rattle.a.specs.F.{middle, high};\npub fn near() -> u8\n    ensures { middle }\n{\n}\n\npub fn far() -> u8\n    ensures { high }\n{\n}\n";
         let functions = functions("a", "src/lib.rt", text);
         let promises = Promises::new(&definitions, &functions);
-        let key = |name: &str| Key { krate: "a".into(), file: "F".into(), name: name.into() };
+        let key = |name: &str| Key {
+            krate: "a".into(),
+            file: "F".into(),
+            name: name.into(),
+        };
         let of = |name: &str| promises.of_all(&[&key(name)]);
         assert_eq!(of("low"), [0]);
         assert_eq!(of("middle"), [0]);

@@ -25,8 +25,12 @@ pub fn text(path: &Path) -> String {
 
 /// The files of a folder, by name. None where there is no such folder.
 pub fn files(folder: &Path) -> Vec<PathBuf> {
-    let Ok(entries) = fs::read_dir(folder) else { return Vec::new() };
-    let mut found: Vec<PathBuf> = entries.filter_map(|entry| entry.ok().map(|entry| entry.path())).collect();
+    let Ok(entries) = fs::read_dir(folder) else {
+        return Vec::new();
+    };
+    let mut found: Vec<PathBuf> = entries
+        .filter_map(|entry| entry.ok().map(|entry| entry.path()))
+        .collect();
     found.sort();
     found
 }
@@ -36,7 +40,13 @@ pub fn all_files(folder: &Path) -> Vec<PathBuf> {
     files(folder)
         .into_iter()
         .filter(|path| !path.ends_with("target") && !path.ends_with(".git"))
-        .flat_map(|path| if path.is_dir() { all_files(&path) } else { vec![path] })
+        .flat_map(|path| {
+            if path.is_dir() {
+                all_files(&path)
+            } else {
+                vec![path]
+            }
+        })
         .collect()
 }
 
@@ -45,7 +55,10 @@ fn stem(path: &Path) -> String {
 }
 
 fn with_ending(folder: PathBuf, ending: &str) -> Vec<PathBuf> {
-    files(&folder).into_iter().filter(|path| path.extension().is_some_and(|e| e == ending)).collect()
+    files(&folder)
+        .into_iter()
+        .filter(|path| path.extension().is_some_and(|e| e == ending))
+        .collect()
 }
 
 pub fn read(root: &Path) -> Repository {
@@ -58,19 +71,34 @@ pub fn read(root: &Path) -> Repository {
         cited: Vec::new(),
         tried: tried(root),
     };
-    for line in text(&root.join("crates.txt")).lines().filter(|line| !line.starts_with('#')) {
+    for line in text(&root.join("crates.txt"))
+        .lines()
+        .filter(|line| !line.starts_with('#'))
+    {
         let krate = line.split(':').next().unwrap();
         let folder = root.join("crates").join(krate);
         for path in with_ending(folder.join("specs"), "antt") {
             let text = text(&path);
-            repository.definitions.extend(definitions(krate, &stem(&path), &text));
-            repository.cited.extend(cited(&text).into_iter().map(|number| (number, format!("{krate}/specs/{}", stem(&path)))));
+            repository
+                .definitions
+                .extend(definitions(krate, &stem(&path), &text));
+            repository.cited.extend(
+                cited(&text)
+                    .into_iter()
+                    .map(|number| (number, format!("{krate}/specs/{}", stem(&path)))),
+            );
         }
         for path in with_ending(folder.join("src"), "rt") {
-            repository.functions.extend(functions(krate, &format!("src/{}.rt", stem(&path)), &text(&path)));
+            repository.functions.extend(functions(
+                krate,
+                &format!("src/{}.rt", stem(&path)),
+                &text(&path),
+            ));
         }
         for path in with_ending(folder.join("must-fail"), "edit") {
-            repository.edits.push(edit(krate, &stem(&path), &text(&path)));
+            repository
+                .edits
+                .push(edit(krate, &stem(&path), &text(&path)));
         }
     }
     repository
@@ -81,8 +109,14 @@ fn tried(root: &Path) -> Vec<(Number, String)> {
     let mut found = Vec::new();
     for folder in ["tests", ".ci", "bindings", "samples"] {
         for path in all_files(&root.join(folder)) {
-            let name = path.strip_prefix(root).unwrap().to_string_lossy().to_string();
-            let Ok(text) = fs::read_to_string(&path) else { continue };
+            let name = path
+                .strip_prefix(root)
+                .unwrap()
+                .to_string_lossy()
+                .to_string();
+            let Ok(text) = fs::read_to_string(&path) else {
+                continue;
+            };
             if name.starts_with("tests/statement_tables") {
                 continue;
             }
@@ -97,7 +131,8 @@ fn tried(root: &Path) -> Vec<(Number, String)> {
 
 /// The rules that a line names, in a comment or in a text that is printed: the numbers after the word `rule` or `rules`.
 fn rules_named(line: &str) -> Vec<Number> {
-    line.find("rule").map_or(Vec::new(), |at| numbers_in(&line[at..]))
+    line.find("rule")
+        .map_or(Vec::new(), |at| numbers_in(&line[at..]))
 }
 
 #[cfg(test)]
@@ -106,7 +141,13 @@ mod tests {
 
     #[test]
     fn a_line_names_rules() {
-        let named = |line| rules_named(line).iter().map(Number::to_string).collect::<Vec<_>>().join(" ");
+        let named = |line| {
+            rules_named(line)
+                .iter()
+                .map(Number::to_string)
+                .collect::<Vec<_>>()
+                .join(" ")
+        };
         assert_eq!(named("    let x = 1.5; // rules 6.19 and 7.3"), "6.19 7.3");
         assert_eq!(named("Group::new(\"the cells of rule 3.14\");"), "3.14");
         assert_eq!(named("let x = 1.5;"), "");

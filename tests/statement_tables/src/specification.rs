@@ -23,12 +23,20 @@ pub fn sections(page: &str) -> Vec<Section> {
     let lines: Vec<&str> = page.lines().collect();
     for (i, line) in lines.iter().enumerate() {
         if let Some(title) = line.strip_prefix("## ") {
-            sections.push(Section { title: title.to_string(), rules: Vec::new() });
+            sections.push(Section {
+                title: title.to_string(),
+                rules: Vec::new(),
+            });
         }
-        let Some(rule) = rule(line, lines.get(i + 1).copied().unwrap_or("")) else { continue };
+        let Some(rule) = rule(line, lines.get(i + 1).copied().unwrap_or("")) else {
+            continue;
+        };
         match sections.last_mut() {
             Some(section) => section.rules.push(rule),
-            None => sections.push(Section { title: String::new(), rules: vec![rule] }),
+            None => sections.push(Section {
+                title: String::new(),
+                rules: vec![rule],
+            }),
         }
     }
     sections.retain(|section| !section.rules.is_empty());
@@ -45,14 +53,22 @@ fn rule(line: &str, next: &str) -> Option<Rule> {
         Some(text) => (true, text.trim()),
         None => (false, text),
     };
-    let words = if row { of_row(text) } else { first_words(&format!("{text} {next}")) };
+    let words = if row {
+        of_row(text)
+    } else {
+        first_words(&format!("{text} {next}"))
+    };
     Some(Rule { number, run, words })
 }
 
 /// A row's first cell that is no number; where that is a single word, the next one too.
 fn of_row(row: &str) -> String {
     let mut words = String::new();
-    for cell in row.split('|').map(str::trim).filter(|cell| cell.chars().any(char::is_alphabetic)) {
+    for cell in row
+        .split('|')
+        .map(str::trim)
+        .filter(|cell| cell.chars().any(char::is_alphabetic))
+    {
         if !words.is_empty() {
             words.push_str(": ");
         }
@@ -98,7 +114,10 @@ mod tests {
         assert_eq!(found[0].title, "3 The separator");
         assert_eq!(found[0].rules[0].words, "A timing is short");
         assert!(found[0].rules[1].run && !found[0].rules[0].run);
-        assert_eq!(found[0].rules[1].words, "An example of one two three four five ..");
+        assert_eq!(
+            found[0].rules[1].words,
+            "An example of one two three four five .."
+        );
         assert_eq!(found[1].rules[0].words, "LGT: long track");
         assert_eq!(found[1].rules[1].words, "T is more than 83, or H is ..");
     }

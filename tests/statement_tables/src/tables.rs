@@ -33,16 +33,34 @@ pub struct Found<'a> {
 
 pub fn found<'a>(repository: &'a Repository, promises: &Promises, rule: &'a Rule) -> Found<'a> {
     let states = |number: &Number| *number == rule.number;
-    let definitions: Vec<&Key> = repository.definitions.iter().filter(|d| d.numbers.iter().any(states)).map(|d| &d.key).collect();
-    let mut functions: Vec<&Function> = promises.of_all(&definitions).into_iter().map(|i| &repository.functions[i]).collect();
+    let definitions: Vec<&Key> = repository
+        .definitions
+        .iter()
+        .filter(|d| d.numbers.iter().any(states))
+        .map(|d| &d.key)
+        .collect();
+    let mut functions: Vec<&Function> = promises
+        .of_all(&definitions)
+        .into_iter()
+        .map(|i| &repository.functions[i])
+        .collect();
     // The functions for C promise the same as those that they call, which come first.
     functions.sort_by_key(|function| function.krate == "thikbromu");
     Found {
         rule,
         definitions,
         functions,
-        edits: repository.edits.iter().filter(|edit| edit.numbers.iter().flatten().any(states)).collect(),
-        tests: repository.tried.iter().filter(|(number, _)| states(number)).map(|(_, file)| file.as_str()).collect(),
+        edits: repository
+            .edits
+            .iter()
+            .filter(|edit| edit.numbers.iter().flatten().any(states))
+            .collect(),
+        tests: repository
+            .tried
+            .iter()
+            .filter(|(number, _)| states(number))
+            .map(|(_, file)| file.as_str())
+            .collect(),
         laws: laws(rule.number),
         exception: exception(rule.number),
     }
@@ -63,7 +81,12 @@ pub fn page(repository: &Repository) -> String {
 /// How many rules have what.
 pub fn counts(repository: &Repository) -> String {
     let promises = Promises::new(&repository.definitions, &repository.functions);
-    let all: Vec<Found> = repository.sections.iter().flat_map(|section| &section.rules).map(|rule| found(repository, &promises, rule)).collect();
+    let all: Vec<Found> = repository
+        .sections
+        .iter()
+        .flat_map(|section| &section.rules)
+        .map(|rule| found(repository, &promises, rule))
+        .collect();
     let count = |test: &dyn Fn(&Found) -> bool| all.iter().filter(|found| test(found)).count();
     format!(
         "{} rules: {} with a definition, {} with a promise, {} with a law, {} with an edit, {} only run\n{} definitions, {} of them with a number; {} functions; {} edits",
@@ -102,20 +125,37 @@ fn definitions(keys: &[&Key]) -> String {
             _ => files.push((file, vec![name])),
         }
     }
-    files.iter().map(|(file, names)| format!("[{file}](../crates/{file}.antt): {}", names.join(", "))).collect::<Vec<_>>().join("; ")
+    files
+        .iter()
+        .map(|(file, names)| format!("[{file}](../crates/{file}.antt): {}", names.join(", ")))
+        .collect::<Vec<_>>()
+        .join("; ")
 }
 
 fn promised(found: &Found) -> String {
-    let functions: Vec<String> = found.functions.iter().map(|function| shown(function)).collect();
+    let functions: Vec<String> = found
+        .functions
+        .iter()
+        .map(|function| shown(function))
+        .collect();
     let mut parts = vec![short(&functions, MOST_FUNCTIONS)];
     if found.rule.run {
-        let tests: Vec<String> = found.tests.iter().map(|test| format!("[{test}](../{test})")).collect();
-        parts = vec![format!("only run: {}", short(&tests, MOST_TESTS)).trim_end_matches(": ").to_string()];
+        let tests: Vec<String> = found
+            .tests
+            .iter()
+            .map(|test| format!("[{test}](../{test})"))
+            .collect();
+        parts = vec![format!("only run: {}", short(&tests, MOST_TESTS))
+            .trim_end_matches(": ")
+            .to_string()];
     }
     parts.extend(found.exception.map(str::to_string));
     for (_, file, names) in &found.laws {
         let names: Vec<String> = names.iter().map(|name| format!("`{name}`")).collect();
-        parts.push(format!("law: [{file}](../crates/{file}.antt): {}", names.join(", ")));
+        parts.push(format!(
+            "law: [{file}](../crates/{file}.antt): {}",
+            names.join(", ")
+        ));
     }
     parts.retain(|part| !part.is_empty());
     parts.join("; ")
@@ -127,8 +167,15 @@ fn shown(function: &Function) -> String {
     } else {
         format!("{}::{}", function.krate, function.name)
     };
-    let program = if is_of_program(&function.krate, &function.name) { ", a program" } else { "" };
-    format!("[`{name}`](../crates/{}/{}){program}", function.krate, function.file)
+    let program = if is_of_program(&function.krate, &function.name) {
+        ", a program"
+    } else {
+        ""
+    };
+    format!(
+        "[`{name}`](../crates/{}/{}){program}",
+        function.krate, function.file
+    )
 }
 
 fn short(all: &[String], most: usize) -> String {
@@ -148,7 +195,11 @@ fn edits(edits: &[&Edit]) -> String {
             _ => crates.push((&edit.krate, vec![name])),
         }
     }
-    crates.iter().map(|(krate, names)| format!("{krate}: {}", names.join(", "))).collect::<Vec<_>>().join("; ")
+    crates
+        .iter()
+        .map(|(krate, names)| format!("{krate}: {}", names.join(", ")))
+        .collect::<Vec<_>>()
+        .join("; ")
 }
 
 #[cfg(test)]
@@ -167,8 +218,17 @@ pub mod tests {
             definitions: definitions::definitions("separator", "Rule", specs),
             functions: functions::functions("separator", "src/lib.rt", source),
             edits: vec![edit("separator", "half_window_1001", edit_text)],
-            cited: definitions::cited(specs).into_iter().map(|number| (number, "separator/specs/Rule".to_string())).collect(),
-            tried: vec![(Number { section: 3, item: 14 }, "tests/a.rs".to_string())],
+            cited: definitions::cited(specs)
+                .into_iter()
+                .map(|number| (number, "separator/specs/Rule".to_string()))
+                .collect(),
+            tried: vec![(
+                Number {
+                    section: 3,
+                    item: 14,
+                },
+                "tests/a.rs".to_string(),
+            )],
         }
     }
 
@@ -181,7 +241,10 @@ pub mod tests {
             "rule: 3.3\nfile: src/lib.rt\n",
         );
         let page = page(&repository);
-        let rows: Vec<&str> = page.lines().filter(|line| line.starts_with("| [")).collect();
+        let rows: Vec<&str> = page
+            .lines()
+            .filter(|line| line.starts_with("| ["))
+            .collect();
         assert_eq!(
             rows[0],
             "| [3.3](SPECIFICATION.md#3-the-separator) | A step | [separator/specs/Rule](../crates/separator/specs/Rule.antt): `reading` | \
