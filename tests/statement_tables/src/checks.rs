@@ -53,10 +53,11 @@ pub fn checks(repository: &Repository) -> Vec<Check> {
     }
     for function in &repository.functions {
         let good = function.promises
+            && !function.proofs
             && (!function.requires || is_of_program(&function.krate, &function.name));
         checks.push((
             format!(
-                "{}::{} promises something and has no `requires`",
+                "{}::{} promises something, has no `requires` and cites no proofs",
                 function.krate, function.name
             ),
             good,

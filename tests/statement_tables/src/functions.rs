@@ -10,6 +10,8 @@ pub struct Function {
     pub names: Vec<Key>,
     pub promises: bool,
     pub requires: bool,
+    /// Its file takes names from proofs, which no promise may cite.
+    pub proofs: bool,
 }
 
 /// Programs have no public function. These make their promises.
@@ -56,6 +58,9 @@ pub fn functions(krate: &str, file: &str, text: &str) -> Vec<Function> {
             names: named(&promise, &imports),
             promises: clause("ensures"),
             requires: clause("requires"),
+            proofs: text
+                .lines()
+                .any(|line| line.starts_with("ghost use ") && line.contains("proofs.")),
         });
     }
     found
@@ -124,7 +129,11 @@ mod tests {
                 "thikbromu_step false stepAnswer"
             ]
         );
-        assert!(found.iter().all(|function| function.promises));
+        assert!(found
+            .iter()
+            .all(|function| function.promises && !function.proofs));
+        let with_proofs = format!("ghost use Rattle.cells.proofs.Packing.{{cell-packed}};\n{FILE}");
+        assert!(functions("separator", "src/lib.rt", &with_proofs)[0].proofs);
     }
 
     #[test]
