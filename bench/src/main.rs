@@ -9,14 +9,10 @@ mod search;
 
 use second_program::check_word;
 use second_program::findings;
-use second_program::flux_tracks::{flux_track, timings_of_cells, Choice};
 use second_program::listing::listing;
-use second_program::random::Random;
 use second_program::separator::{self, SeparatorState};
 use second_program::track_block;
-use second_program::track_blocks::standard_track_block;
-use second_program::track_builder::{standard_track, SectorPlan, TrackBuilder};
-use second_program::track_files::{file_of_cells, file_of_timings};
+use second_program::track_file;
 use second_program::{cells, mfm, sectors};
 use std::fs::File;
 use std::hint::black_box;
@@ -24,7 +20,12 @@ use std::io::{Read, Write};
 use std::path::Path;
 use std::process::{Command, Stdio};
 use std::time::Instant;
-use thikbromu::boundary::{self, FILE_NUMBERS, FINDING_NUMBERS, SECTOR_NUMBERS};
+use test_inputs::block_inputs::standard_track_block;
+use test_inputs::file_inputs::{file_of_cells, file_of_timings};
+use test_inputs::flux_inputs::{flux_track, timings_of_cells, Choice};
+use test_inputs::random::Random;
+use test_inputs::track_builder::{standard_track, SectorPlan, TrackBuilder};
+use thikbromu::boundary::{self, FINDING_NUMBERS, PLACE_NUMBERS, SECTOR_NUMBERS};
 use thikbromu::{
     RevolutionReader, Separator, TrackBlock, HISTOGRAM_COUNTS, LONGEST_LISTING, MOST_CELL_BYTES, MOST_FINDINGS, MOST_TIMINGS,
 };
@@ -100,14 +101,13 @@ fn separating(random: &mut Random) {
     }
     let timings = flux_track(random, 40_000, Choice::Any).timings;
     row(
-        "separator, 40,000 timings step by step, over the exports",
+        "separator, 40,000 timings step by step, over the export",
         (21, 10),
         Some((40_000, "timings")),
         || {
-            // The cells of a step and the residual after it are two exports.
             let mut state = Separator::new();
             for &timing in &timings {
-                state = black_box(state.step(timing)).next;
+                let _ = black_box(state.step_in_place(timing));
             }
         },
         || {
@@ -239,20 +239,23 @@ fn listing_sectors(name: &str, bytes: &[u8], n: usize) {
     );
 }
 
-/// The listing of a whole file that is in memory, without a process of its own.
-fn listing_in_memory(name: &str, file: &[u8]) {
-    let mut state = [0; FILE_NUMBERS];
+/// The cells and the listing of a whole file that is in memory, without a process of its own.
+fn file_in_memory(name: &str, file: &[u8]) {
     let mut packed = [0; MOST_CELL_BYTES];
+    let mut place = [0; PLACE_NUMBERS];
+    row(
+        &format!("cells of a file, {name}"),
+        (21, 10),
+        Some((1, "files")),
+        || boundary::file_cells(black_box(file), &mut packed, &mut place),
+        || track_file::read_cells(black_box(file)),
+    );
     let mut out = [0; LONGEST_LISTING];
     row(
         &format!("whole listing, {name}"),
         (21, 10),
         Some((1, "files")),
-        || {
-            boundary::file_start(&mut state, &mut packed);
-            boundary::file_feed(&mut state, black_box(file), &mut packed);
-            boundary::file_listing(&state, &mut packed, &mut out)
-        },
+        || boundary::file_listing(black_box(file), &mut out),
         || listing(black_box(file)),
     );
 }
@@ -297,7 +300,7 @@ fn whole_files() {
     }
     let path = std::env::temp_dir().join(format!("thikbromu-bench-{}.track", std::process::id()));
     for (name, file) in files {
-        listing_in_memory(&name, &file);
+        file_in_memory(&name, &file);
         std::fs::write(&path, file).expect("a file to list");
         row(
             &format!("whole file through the program, {name}"),

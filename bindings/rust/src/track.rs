@@ -23,8 +23,8 @@ pub const MOST_CELL_BYTES: usize = MOST_CELLS / 8;
 /// The most sectors of a track.
 pub const MOST_SECTORS: usize = 64;
 
-/// A track: cells that are packed eight to a byte, highest bit first, and the track and side of the drive. It is circular: the cell after
-/// the last is cell 0, the index.
+/// A track: packed cells, and the track and side of the drive. A byte holds eight cells, the first as its highest bit. The cells form a
+/// ring: after the last comes cell 0, which stands at the index (rules 1.1 to 1.3).
 ///
 /// Nothing is judged when it is made. The calls on sectors and findings judge it, and each refuses
 /// [`TrackOrSide`](Refusal::TrackOrSide), [`CellCount`](Refusal::CellCount), [`TooFewBytes`](Refusal::TooFewBytes) and
@@ -63,7 +63,7 @@ impl<'a> Track<'a> {
         self.side
     }
 
-    /// Whether cell `place`, counted on past the index, is a one. Cells past the bytes are zeros.
+    /// Whether the cell at a place, which may lie behind the index, is a one. A cell for which there is no byte is none.
     pub fn cell(&self, place: usize) -> bool {
         boundary::cell(self.packed, self.cells, place) == 1
     }
@@ -73,14 +73,14 @@ impl<'a> Track<'a> {
         boundary::word(self.packed, self.cells, place, length)
     }
 
-    /// The least place from `from` and before `to`, counted on past the index, at which the word of `length` cells stands.
+    /// The least place from `from` on and before `to` at which the word of `length` cells stands. Places may lie behind the index.
     pub fn find_word(&self, word: u64, length: usize, from: usize, to: usize) -> Option<usize> {
         // Where there is none, the library gives the greater of the ends.
         let place = boundary::find_word(self.packed, self.cells, word, length, from, to);
         (place < to).then_some(place)
     }
 
-    /// The sector of an index, from 0, in the order of their places. Refuses [`NoSuchSector`](Refusal::NoSuchSector).
+    /// The sector of an index, which counts from 0, in the order of their places. Refuses [`NoSuchSector`](Refusal::NoSuchSector).
     pub fn sector(&self, index: usize) -> Result<Sector, Refusal> {
         let mut numbers = [0; SECTOR_NUMBERS];
         boundary::sector(self.packed, self.cells, self.track, self.side, index, &mut numbers)?;
@@ -118,16 +118,16 @@ impl<'a> Track<'a> {
         Ok(SectorData { bytes, check_good })
     }
 
-    /// The findings, ordered by kind, then place. The list has room for all that a track can bring, so that
-    /// [`ListTooShort`](Refusal::ListTooShort) is never given.
+    /// The findings, in the order of their kinds, those of one kind by their places (rule 7.32). The list has room for all that a track can
+    /// bring, so that [`ListTooShort`](Refusal::ListTooShort) is never given.
     pub fn findings(&self) -> Result<Vec<Finding>, Refusal> {
         let mut records = vec![FindingRecord::default(); MOST_FINDINGS];
         let count = boundary::finding_records(self.packed, self.cells, self.track, self.side, &mut records)?;
         let findings = records[..count].iter().map(|&record| Finding::try_from(record));
-        Ok(findings.collect::<Result<_, _>>().expect("the library gives the kinds of 01's table alone"))
+        Ok(findings.collect::<Result<_, _>>().expect("the library gives kinds 1 to 21 alone"))
     }
 
-    /// The listing: a header and a line for each finding, or "refused" and a number.
+    /// The listing (section 11 of the specification): a header and a line for each finding, or the word `refused` and a number.
     pub fn listing(&self) -> String {
         crate::track_file::listing_of(|out| boundary::listing(self.packed, self.cells, self.track, self.side, out))
     }
@@ -157,15 +157,24 @@ mod tests {
         }
     }
 
+    /// The fields of the record stand where the library writes them: the kind, the level, the place and the detail of each of these
+    /// findings are four different numbers, and the library gives them once by their order alone.
     #[test]
     fn records_and_numbers_are_the_same_findings() {
-        let mut records = [FindingRecord::default(); 2];
-        let mut numbers = [0; 8];
-        assert_eq!(boundary::finding_records(&ZEROS, 100_000, 80, 0, &mut records), Ok(2));
-        assert_eq!(boundary::findings(&ZEROS, 100_000, 80, 0, &mut numbers), Ok(2));
-        let record_numbers =
-            records.map(|record| [record.kind.into(), record.level.into(), record.place, record.detail]);
-        assert_eq!(record_numbers.concat(), numbers);
+        // No flux in the data of the standard track's second sector: SBD, MTV and NFA.
+        let mut packed = include_bytes!("../../../samples/standard.track")[10..12_510].to_vec();
+        packed[2_000..2_200].fill(0);
+        let mut records = [FindingRecord::default(); 3];
+        let mut numbers = [0; 12];
+        assert_eq!(boundary::finding_records(&packed, 100_000, 0, 0, &mut records), Ok(3));
+        assert_eq!(boundary::findings(&packed, 100_000, 0, 0, &mut numbers), Ok(3));
+        for (record, numbers) in records.iter().zip(numbers.chunks(4)) {
+            assert_eq!([record.kind.into(), record.level.into(), record.place, record.detail], *numbers);
+            for (place, number) in numbers.iter().enumerate() {
+                assert!(!numbers[..place].contains(number), "{numbers:?}");
+            }
+        }
+        assert_eq!(records[0], FindingRecord { kind: 15, level: 1, place: 10_976, detail: 2 });
     }
 
     #[test]

@@ -1,92 +1,100 @@
-//! Track files, taken in portions, and listings.
+//! Track files, and listings.
 
-use crate::boundary::{self, FILE_NUMBERS, PLACE_NUMBERS};
+use crate::boundary::{self, PLACE_NUMBERS};
+use crate::flux::MOST_TIMINGS;
 use crate::refusal::Refusal;
 use crate::track::{Track, MOST_CELL_BYTES};
+use std::borrow::Cow;
 use std::io::{self, Read};
 
 /// The longest listing, in bytes.
 pub const LONGEST_LISTING: usize = 65_536;
 
-/// A track file that is being read. It is taken in portions, cut anywhere between two bytes, and gives the same however it is cut.
+/// The bytes of a file with both sections at their longest: six of the place, four of each count, the packed cells, and four of each
+/// timing. A longer file is answered as its first `LONGEST_FILE + 1` bytes are: all its counts stand before, so that what a count is
+/// refused for is the same, and bytes are left over in both.
+pub const LONGEST_FILE: usize = 6 + 4 + MOST_CELL_BYTES + 4 + 4 * MOST_TIMINGS;
+
+/// A track file, whole in memory (rules 10.1 to 10.3): the number 2, the track and the side; how many cells there are, and these, packed;
+/// how many timings there are, and these. The track and the side have a byte, the other numbers four bytes, the lowest first. A file has
+/// cells or timings, and 0 as the number of the others.
+///
+/// Nothing is judged when it is made.
 ///
 /// ```
-/// use thikbromu::TrackFile;
+/// use thikbromu::{Refusal, TrackFile};
 ///
-/// let mut file = TrackFile::new();
-/// file.feed(&[2, 0, 0]);
-/// file.feed(&[0, 5, 0, 0xA0, 0x86, 1, 0]);
-/// file.feed(&[0xAA; 12_500]);
-/// file.feed(&[0; 4]);
-/// let read = file.finish()?;
-/// assert_eq!(read.track().cells(), 100_000);
-/// # Ok::<(), thikbromu::Refusal>(())
+/// // Track 5, side 0, and 100,000 cells; no timings.
+/// let place_and_count = [2, 0, 0, 0, 5, 0, 0xA0, 0x86, 1, 0];
+/// let bytes = [&place_and_count[..], &[0xAA; 12_500], &[0; 4]].concat();
+/// let file = TrackFile::new(&bytes);
+/// let read = file.cells()?;
+/// assert_eq!((read.track().cells(), read.track().track(), read.track().side()), (100_000, 5, 0));
+/// assert_eq!(file.listing().lines().count(), 3);
+/// // One byte is missing.
+/// let short = TrackFile::new(&bytes[1..]);
+/// assert_eq!(short.cells().err(), Some(Refusal::NotATrackFile));
+/// assert_eq!(short.listing(), "refused 15\n");
+/// # Ok::<(), Refusal>(())
 /// ```
 #[derive(Clone, Debug)]
-pub struct TrackFile {
-    state: [u64; FILE_NUMBERS],
-    packed: Vec<u8>,
+pub struct TrackFile<'a> {
+    bytes: Cow<'a, [u8]>,
 }
 
-impl TrackFile {
-    /// The beginning, before any byte.
-    pub fn new() -> TrackFile {
-        let mut file = TrackFile { state: [0; FILE_NUMBERS], packed: vec![0; MOST_CELL_BYTES] };
-        boundary::file_start(&mut file.state, &mut file.packed);
-        file
+impl<'a> TrackFile<'a> {
+    /// The file of these bytes.
+    pub const fn new(bytes: &'a [u8]) -> TrackFile<'a> {
+        TrackFile { bytes: Cow::Borrowed(bytes) }
     }
 
-    /// A whole file from a reader, to its end or to a refusal that is given at once.
-    pub fn read_from(mut reader: impl Read) -> io::Result<TrackFile> {
-        let mut file = TrackFile::new();
-        let mut portion = [0; 4_096];
-        loop {
-            match reader.read(&mut portion) {
-                Ok(0) => return Ok(file),
-                Ok(count) => {
-                    if file.feed(&portion[..count]) {
-                        return Ok(file);
-                    }
-                }
-                Err(error) if error.kind() == io::ErrorKind::Interrupted => {}
-                Err(error) => return Err(error),
-            }
-        }
-    }
-
-    /// A portion more of the file. Yes where a refusal has been given at once, so that no more of the file need be read.
-    pub fn feed(&mut self, portion: &[u8]) -> bool {
-        boundary::file_feed(&mut self.state, portion, &mut self.packed) == 1
-    }
-
-    /// The end of the file: its cells, with their track and side.
+    /// The file that a reader gives to its end. What it is refused for is said by the calls on it; an error here is the reader's own, and
+    /// then nothing is known of the file. Of a file that is too long `LONGEST_FILE + 1` bytes are read, and no more: they have the same
+    /// answers.
     ///
-    /// Refuses at once, where its count is read: [`NotATrackFile`](Refusal::NotATrackFile) for a place count that is not 2,
-    /// [`CellCount`](Refusal::CellCount) for more than 131,072 cells, [`TooManyTimings`](Refusal::TooManyTimings) for more than 65,536
-    /// timings. Otherwise [`NotATrackFile`](Refusal::NotATrackFile), [`TimingOutOfRange`](Refusal::TimingOutOfRange),
-    /// [`TooManyCells`](Refusal::TooManyCells). What else a track can be refused for is judged by the calls on it.
-    pub fn finish(mut self) -> Result<TrackCells, Refusal> {
+    /// ```
+    /// use std::io;
+    /// use thikbromu::TrackFile;
+    ///
+    /// let file = TrackFile::read_from(io::repeat(2))?;
+    /// assert_eq!(file.listing(), "refused 15\n");
+    /// # Ok::<(), io::Error>(())
+    /// ```
+    pub fn read_from(reader: impl Read) -> io::Result<TrackFile<'static>> {
+        let mut bytes = Vec::new();
+        reader.take(LONGEST_FILE as u64 + 1).read_to_end(&mut bytes)?;
+        Ok(TrackFile { bytes: Cow::Owned(bytes) })
+    }
+
+    /// The bytes of the file.
+    pub fn bytes(&self) -> &[u8] {
+        &self.bytes
+    }
+
+    /// The cells, with their track and side. There is room for the most cells, so that [`NoRoom`](Refusal::NoRoom) is never given.
+    ///
+    /// Refuses at once, whatever follows (rule 10.4), [`NotATrackFile`](Refusal::NotATrackFile) where the place's count is not 2,
+    /// [`CellCount`](Refusal::CellCount) where there are more than 131,072 cells, [`TooManyTimings`](Refusal::TooManyTimings) where there
+    /// are more than 65,536 timings; after these [`NotATrackFile`](Refusal::NotATrackFile),
+    /// [`TimingOutOfRange`](Refusal::TimingOutOfRange), [`TooManyCells`](Refusal::TooManyCells). What else a track can be refused for is
+    /// judged by the calls on it.
+    pub fn cells(&self) -> Result<TrackCells, Refusal> {
+        let mut packed = vec![0; MOST_CELL_BYTES];
         let mut place = [0; PLACE_NUMBERS];
-        let cells = boundary::file_finish(&self.state, &mut self.packed, &mut place)?;
+        let cells = boundary::file_cells(&self.bytes, &mut packed, &mut place)?;
         let [track, side] = place;
-        self.packed.truncate(cells.div_ceil(8));
-        Ok(TrackCells { packed: self.packed, cells, track, side })
+        packed.truncate(cells.div_ceil(8));
+        Ok(TrackCells { packed, cells, track, side })
     }
 
-    /// The end of the file: its listing, a header and a line for each finding, or "refused" and a number.
-    pub fn listing(mut self) -> String {
-        listing_of(|out| boundary::file_listing(&self.state, &mut self.packed, out))
-    }
-}
-
-impl Default for TrackFile {
-    fn default() -> TrackFile {
-        TrackFile::new()
+    /// The listing (section 11 of the specification): a header and a line for each finding, or the word `refused` and a number.
+    pub fn listing(&self) -> String {
+        listing_of(|out| boundary::file_listing(&self.bytes, out))
     }
 }
 
 /// The cells that a track file gave, with their track and side.
-#[derive(Clone, Debug)]
+#[derive(Clone, Debug, PartialEq, Eq)]
 pub struct TrackCells {
     packed: Vec<u8>,
     cells: usize,

@@ -3,7 +3,7 @@
 use thikbromu::boundary::*;
 use thikbromu::{Refusal, HISTOGRAM_COUNTS};
 
-/// 01's standard track, at track 0 and side 0, in a track file.
+/// The standard track, at track 0 and side 0, in a track file.
 const STANDARD: &[u8] = include_bytes!("../../../samples/standard.track");
 
 /// Its packed cells, 100,000.
@@ -51,23 +51,46 @@ fn counts_of_any_room() {
 }
 
 #[test]
-fn a_state_that_is_too_short_is_kept_and_refused() {
-    let mut packed = vec![0; 16_384];
-    for numbers in 0..=FILE_NUMBERS {
-        let mut state = vec![7; numbers];
-        let mut place = [7; PLACE_NUMBERS];
-        file_start(&mut state, &mut packed);
-        assert_eq!(file_feed(&mut state, STANDARD, &mut packed), 0);
-        let read = file_finish(&state, &mut packed, &mut place);
-        if numbers < FILE_NUMBERS {
-            assert_eq!(read, Err(Refusal::NotATrackFile));
-            assert!(state.iter().all(|&number| number == 7));
-            assert_eq!(place, [7; PLACE_NUMBERS]);
+fn a_residual_is_kept_beside_a_refusal() {
+    for (residual, timing) in [(3, 0), (-500, 10_000_001), (700, 0), (i32::MIN, u32::MAX)] {
+        let mut lent = residual;
+        assert_eq!(step(&mut lent, timing), Err(Refusal::TimingOutOfRange(0)));
+        assert_eq!(lent, residual);
+    }
+    // One that is out of range is stepped as 0.
+    let mut lent = 500;
+    assert_eq!(step(&mut lent, 4_900), Ok(2));
+    assert_eq!(lent, 450);
+}
+
+#[test]
+fn cells_and_a_place_of_any_room() {
+    let mut file = STANDARD.to_vec();
+    (file[4], file[5]) = (84, 2);
+    let rooms = [0, 1, 12_499, 12_500, 12_501, 16_384].into_iter();
+    for (room, places) in rooms.flat_map(|room| (0..4).map(move |places| (room, places))) {
+        let (mut cells, mut place) = (vec![7; room], vec![7; places]);
+        let read = file_cells(&file, &mut cells, &mut place);
+        if room < 12_500 {
+            assert_eq!(read, Err(Refusal::NoRoom(12_500)));
+            assert_eq!((cells, place), (vec![7; room], vec![7; places]));
         } else {
             assert_eq!(read, Ok(100_000));
-            assert_eq!(place, [0, 0]);
-            assert_eq!(packed[..12_500], *standard());
+            assert_eq!(cells[..12_500], *standard());
+            assert!(cells[12_500..].iter().all(|&byte| byte == 7));
+            assert_eq!(place, &[84, 2, 7][..places]);
         }
+    }
+}
+
+#[test]
+fn a_refused_file_writes_nothing() {
+    let short = &STANDARD[..STANDARD.len() - 1];
+    // Too little room is judged last.
+    for room in [0, 12_500, 16_384] {
+        let (mut cells, mut place) = (vec![7; room], [7; PLACE_NUMBERS]);
+        assert_eq!(file_cells(short, &mut cells, &mut place), Err(Refusal::NotATrackFile));
+        assert_eq!((cells, place), (vec![7; room], [7; PLACE_NUMBERS]));
     }
 }
 
@@ -76,9 +99,12 @@ fn as_much_of_a_listing_as_there_is_room_for() {
     let whole = b"T00 H0 cells 100000 sectors 9 findings 0\n";
     for room in [0, 1, whole.len(), whole.len() + 1] {
         let front = room.min(whole.len());
-        let mut out = vec![7; room];
+        let (mut out, mut out_of_file) = (vec![7; room], vec![7; room]);
         assert_eq!(listing(standard(), 100_000, 0, 0, &mut out), whole.len());
-        assert_eq!(out[..front], whole[..front]);
-        assert!(out[front..].iter().all(|&byte| byte == 7));
+        assert_eq!(file_listing(STANDARD, &mut out_of_file), whole.len());
+        for out in [out, out_of_file] {
+            assert_eq!(out[..front], whole[..front]);
+            assert!(out[front..].iter().all(|&byte| byte == 7));
+        }
     }
 }

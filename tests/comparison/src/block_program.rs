@@ -1,26 +1,25 @@
-//! 02, ticket 3: the program `scp_track` beside the second program, on whole blocks and on blocks that come in portions, and what it does
-//! with inputs that fail and with other arguments.
+//! Section 13 of the specification: the program `scp_track` beside the second program, on whole blocks and on blocks that come in portions,
+//! and what it does with inputs that fail and with other arguments.
 
 use crate::program::{
-    built, ends_within, four_reads, in_portions, in_shell, left_after_pipe, left_after_socket, started, text, through_pipe, Seen,
-    SocketEnd,
+    built, ends_within, in_portions, in_shell, left_after_pipe, left_after_socket, listed_alone, not_listed, says_one_line,
+    sockets_as_expected, started, text, through_pipe, Seen, SocketEnd,
 };
-use crate::report::Group;
+use crate::report::{Group, Report};
 use second_program::listing::listing;
-use second_program::random::Random;
 use second_program::track_block::printed;
-use second_program::track_blocks::{
+use std::ffi::OsStr;
+use std::fs::File;
+use std::os::unix::ffi::OsStrExt;
+use std::process::{Command, Stdio};
+use std::time::Duration;
+use test_inputs::block_inputs::{
     block_of_parts, block_of_values, bytes_of_values, odd_track_block, random_portions, samplings, standard_track_block,
     track_that_ends_in_a_one, BlockPlan, BETWEEN_SECTORS, GROUPS, IN_A_SECTOR,
 };
-use second_program::track_builder::standard_track as standard_track_cells;
-use second_program::track_files::file_of_cells;
-use std::ffi::OsStr;
-use std::fs::File;
-use std::io::ErrorKind;
-use std::os::unix::ffi::OsStrExt;
-use std::process::{Command, Output, Stdio};
-use std::time::Duration;
+use test_inputs::file_inputs::file_of_cells;
+use test_inputs::random::Random;
+use test_inputs::track_builder::standard_track as standard_track_cells;
 use thikbromu::TrackBlock;
 
 /// The most bytes of a block that the program takes.
@@ -68,7 +67,7 @@ const PLACES: [(u8, u8); 8] = [(5, 0), (0, 0), (5, 1), (79, 1), (80, 0), (83, 1)
 const CASES_OF_A_GROUP: usize = 120;
 
 /// Cases of all groups, and odd tracks.
-pub fn whole_blocks(totals: &mut (usize, usize)) {
+pub fn whole_blocks(report: &mut Report) {
     let mut group = Group::new("the block program on whole blocks");
     let mut seen = Seen::default();
     let mut places = PLACES.into_iter().cycle();
@@ -96,11 +95,11 @@ pub fn whole_blocks(totals: &mut (usize, usize)) {
     }
     // There are always enough bytes and always room: 3, 5 and 10 do not arise. 11 to 15 are of other calls.
     seen.reached(&mut group, &[1, 2, 4, 6, 7, 8, 9, 16, 17]);
-    group.close(totals);
+    group.close(report);
 }
 
 /// The standard track's flux, whose revolutions list as the track itself does.
-pub fn standard_track(totals: &mut (usize, usize)) {
+pub fn standard_track(report: &mut Report) {
     let mut group = Group::new("the block program on the standard track's flux");
     for (seed, track, side, filler, revolutions) in [(11, 0, 0, 0xE5, 2), (12, 40, 1, 0x00, 5), (13, 79, 0, 0x4E, 3)] {
         let standard = standard_track_cells(track, side, filler);
@@ -119,14 +118,14 @@ pub fn standard_track(totals: &mut (usize, usize)) {
     }
     let block = standard_track_block(14, 0, 0, 0xE5, 1).bytes();
     let ours = text(&through_pipe(program_with([1, 0, 0, 0]), &block));
-    group.same(ours, "T00 H0 cells 100000 sectors 9 findings 0\n".to_string(), || "as 01 prints it".to_string());
-    group.close(totals);
+    group.same(ours, "T00 H0 cells 100000 sectors 9 findings 0\n".to_string(), || "the listing of rule 11.10".to_string());
+    group.close(report);
 }
 
 /// The standard track's flux as the device samples it, from the index on: every later revolution lists as the track itself does, and where
 /// the index lies in a sector, as the track turned to it. The first timing of revolution 0 is no difference of two pulses, so that demand 3
 /// says nothing of it: it is only compared with the second program.
-pub fn standard_track_from_index(totals: &mut (usize, usize)) {
+pub fn standard_track_from_index(report: &mut Report) {
     let mut group = Group::new("the block program on the standard track from the index on");
     let mut random = Random::new(75);
     let all = samplings(&[&BETWEEN_SECTORS[..], &IN_A_SECTOR].concat());
@@ -155,7 +154,7 @@ pub fn standard_track_from_index(totals: &mut (usize, usize)) {
             }
         }
     }
-    group.close(totals);
+    group.close(report);
 }
 
 /// A short block of two revolutions, the second of 20,000 cells.
@@ -180,32 +179,10 @@ fn program_that_may_fail(numbers: [u8; 4]) -> Command {
     command
 }
 
-/// Whether standard error has one line, and it begins so.
-fn says_one_line(output: &Output, start: &str) -> bool {
-    let error = text(&output.stderr);
-    error.starts_with(start) && error.ends_with('\n') && error.lines().count() == 1
-}
-
-/// An input that is too long or cannot be read to its end: nothing is listed, since the block is not known, and one line says why.
-fn not_listed(group: &mut Group, output: &Output, given: impl Fn() -> String) {
-    let ours = (text(&output.stdout), says_one_line(output, "scp_track: "), output.status.success());
-    group.same(ours, (String::new(), true, true), || format!("{}, which says {:?}", given(), text(&output.stderr)));
-}
-
-/// A block that is listed, and nothing said beside it.
-fn listed_alone(group: &mut Group, output: &Output, listed: &str, given: impl Fn() -> String) {
-    group.same((text(&output.stdout), text(&output.stderr)), (listed.to_string(), String::new()), given);
-}
-
 /// Inputs through stream sockets that end, and inputs that fail once and then end: of these nothing is listed, however much was read.
-pub fn failing_inputs(totals: &mut (usize, usize)) {
+pub fn failing_inputs(report: &mut Report) {
     let mut group = Group::new("the block program on inputs that fail");
-    // What the system gives, without which the cases below would say nothing.
-    let (ends, fails_once) = (four_reads(b"TRK", SocketEnd::Ends), four_reads(b"TRK", SocketEnd::FailsOnce));
-    group.same(ends, vec![Ok(3), Ok(0), Ok(0), Ok(0)], || "a socket that ends".to_string());
-    let reset = Err(ErrorKind::ConnectionReset);
-    group.same(fails_once, vec![Ok(3), reset, Ok(0), Ok(0)], || "a socket that fails once".to_string());
-
+    sockets_as_expected(&mut group);
     let mut random = Random::new(76);
     for (name, block, numbers) in [
         ("two revolutions", two_revolutions(), [2, 1, 5, 1]),
@@ -231,7 +208,7 @@ pub fn failing_inputs(totals: &mut (usize, usize)) {
             let front = &block[..place];
             let given = || format!("{place} bytes of {name}");
             let output = left_after_socket(program_that_may_fail(numbers), front, SocketEnd::FailsOnce);
-            not_listed(&mut group, &output, || format!("{}, then a failure", given()));
+            not_listed(&mut group, "scp_track", &output, || format!("{}, then a failure", given()));
             let output = left_after_socket(program_that_may_fail(numbers), front, SocketEnd::Ends);
             listed_alone(&mut group, &output, &expected(front, numbers), given);
         }
@@ -239,7 +216,7 @@ pub fn failing_inputs(totals: &mut (usize, usize)) {
     // No input, or one that cannot be read at all.
     let numbers = [2, 1, 5, 1];
     for redirection in ["<&-", "< /", "< /proc/self/mem"] {
-        not_listed(&mut group, &in_shell(&program_with(numbers), redirection), || redirection.to_string());
+        not_listed(&mut group, "scp_track", &in_shell(&program_with(numbers), redirection), || redirection.to_string());
     }
 
     // The longest block, and longer ones.
@@ -253,7 +230,7 @@ pub fn failing_inputs(totals: &mut (usize, usize)) {
             for numbers in [[1, 0, 5, 0], [6, 0, 5, 0]] {
                 let output = left_after_pipe(program_that_may_fail(numbers), &block);
                 if block.len() > LONGEST_BLOCK {
-                    not_listed(&mut group, &output, given);
+                    not_listed(&mut group, "scp_track", &output, given);
                 } else {
                     listed_alone(&mut group, &output, &expected(&block, numbers), given);
                 }
@@ -267,12 +244,12 @@ pub fn failing_inputs(totals: &mut (usize, usize)) {
         child.kill().expect("a program that reads without end");
     }
     let output = child.wait_with_output().expect("the program's output");
-    not_listed(&mut group, &output, || "zeros without end".to_string());
-    group.close(totals);
+    not_listed(&mut group, "scp_track", &output, || "zeros without end".to_string());
+    group.close(report);
 }
 
 /// Other arguments, blocks that come in portions, and outputs that fail.
-pub fn system(totals: &mut (usize, usize)) {
+pub fn system(report: &mut Report) {
     let mut group = Group::new("the block program's arguments, and the system");
     let block = two_revolutions();
     let numbers = [2, 1, 5, 1];
@@ -386,5 +363,5 @@ pub fn system(totals: &mut (usize, usize)) {
     drop(child.stdout.take());
     group.same(ends_within(&mut child, Duration::from_secs(20)), true, || "the output's reader has gone".to_string());
     group.same(text(&through_pipe(command, &[])), "refused 16\n".to_string(), || "no bytes".to_string());
-    group.close(totals);
+    group.close(report);
 }

@@ -1,17 +1,17 @@
-//! 02, ticket 3: the timings and the cells of a revolution of a track block, and its values in portions.
+//! Section 12 of the specification: the timings and the cells of a revolution of a track block, and its values in portions.
 
-use crate::report::{Group, Lent};
+use crate::report::{Group, Lent, Report};
 use crate::terms::answer;
-use second_program::random::Random;
 use second_program::refusal::{Refusal, MOST_TIMINGS};
 use second_program::track_block::{self, revolution_bytes, BytesSoFar, Carried, PortionAnswer};
-use second_program::track_blocks::{any_carried, any_portion, cases, equal_portions, random_portions, with_empty_portions};
 use std::collections::HashSet;
+use test_inputs::block_inputs::{any_carried, any_portion, cases, equal_portions, random_portions, with_empty_portions};
+use test_inputs::random::Random;
 use thikbromu::boundary::{revolution_cells, revolution_portion, revolution_timings};
 use thikbromu::{RevolutionReader, TrackBlock, MOST_CELL_BYTES};
 
 /// The whole call on all cases, with rooms around what is needed.
-pub fn timings(totals: &mut (usize, usize)) {
+pub fn timings(report: &mut Report) {
     let mut group = Group::new("the timings of a revolution");
     for case in cases() {
         let (block, revolutions, revolution) = (&case.block, case.revolutions, case.revolution);
@@ -28,11 +28,11 @@ pub fn timings(totals: &mut (usize, usize)) {
         let ours = answer(TrackBlock::new(block, revolutions).timings(revolution));
         group.same(ours, second.map(|(_, timings)| timings), || format!("{}, as a vector", case.name));
     }
-    group.close(totals);
+    group.close(report);
 }
 
 /// From a block to cells, on all cases.
-pub fn cells(totals: &mut (usize, usize)) {
+pub fn cells(report: &mut Report) {
     let mut group = Group::new("the cells of a revolution");
     for case in cases() {
         let (block, revolutions, revolution) = (&case.block, case.revolutions, case.revolution);
@@ -49,7 +49,7 @@ pub fn cells(totals: &mut (usize, usize)) {
         let ours = answer(TrackBlock::new(block, revolutions).cells(revolution)).map(|cells| (cells.count, cells.packed));
         group.same(ours, second, || format!("{}, as a vector", case.name));
     }
-    group.close(totals);
+    group.close(report);
 }
 
 /// The number that the library has for a state: held + 257 * (zeros + 8 * timings), held being 1 more than the byte, or 0 without one.
@@ -200,7 +200,7 @@ fn cuts<'a>(random: &mut Random, bytes: &'a [u8]) -> Vec<Vec<&'a [u8]>> {
 }
 
 /// Revolutions in portions, sound ones and those that are refused with 7 and 8.
-pub fn portions(totals: &mut (usize, usize)) {
+pub fn portions(report: &mut Report) {
     let mut group = Group::new("a revolution in portions");
     let mut random = Random::new(71);
     let all = revolutions();
@@ -229,7 +229,7 @@ pub fn portions(totals: &mut (usize, usize)) {
             }
         }
     }
-    group.close(totals);
+    group.close(report);
 
     let mut group = Group::new("a revolution of the standard track, byte by byte");
     let standard = all.iter().find(|revolution| revolution.name.starts_with("standard track"));
@@ -241,11 +241,11 @@ pub fn portions(totals: &mut (usize, usize)) {
         timings.extend(both.take(&mut group, portion, 1, || name.clone()).timings);
     }
     group.same(Ok(timings), whole.clone(), || name.clone());
-    group.close(totals);
+    group.close(report);
 }
 
 /// Rooms that are one short within a sequence: the portion is refused and changes nothing, and is then taken with room for it.
-pub fn short_rooms(totals: &mut (usize, usize)) {
+pub fn short_rooms(report: &mut Report) {
     let mut group = Group::new("portions with too little room, taken again");
     let mut random = Random::new(72);
     for Revolution { name, bytes, whole } in revolutions() {
@@ -268,7 +268,7 @@ pub fn short_rooms(totals: &mut (usize, usize)) {
             group.same(Ok(timings), whole, || name.clone());
         }
     }
-    group.close(totals);
+    group.close(report);
 }
 
 /// A number that some calls leave, for the most part; now and then any.
@@ -282,7 +282,7 @@ fn any_number(random: &mut Random) -> u32 {
 }
 
 /// States that calls leave and that none leaves, with any portions.
-pub fn states(totals: &mut (usize, usize)) {
+pub fn states(report: &mut Report) {
     let mut group = Group::new("any portion after any state");
     let mut random = Random::new(73);
     for _ in 0..20_000 {
@@ -293,7 +293,7 @@ pub fn states(totals: &mut (usize, usize)) {
             Both::of_number(number).take(&mut group, &portion, room, || format!("{number}"));
         }
     }
-    group.close(totals);
+    group.close(report);
 
     let mut group = Group::new("each byte held, after each number of zeros");
     for timings in [0, 1, 65_535, 65_536, 65_537] {
@@ -316,7 +316,7 @@ pub fn states(totals: &mut (usize, usize)) {
             }
         }
     }
-    group.close(totals);
+    group.close(report);
 
     let mut group = Group::new("each value, after some zeros");
     let mut value_case = |zeros: u32, value: u16| {
@@ -331,5 +331,5 @@ pub fn states(totals: &mut (usize, usize)) {
             value_case(zeros, value);
         }
     }
-    group.close(totals);
+    group.close(report);
 }

@@ -1,9 +1,9 @@
-//! 01, "Cells and bytes": coding, decoding and the check word.
+//! Coding and decoding (rules 1.10 to 1.19), and the check word (section 2 of the specification).
 
-use crate::report::Group;
+use crate::report::{Group, Report};
 use crate::terms::answer;
-use second_program::random::Random;
 use second_program::{check_word, mfm};
+use test_inputs::random::Random;
 
 fn bytes_of(random: &mut Random, length: usize) -> Vec<u8> {
     // Runs of equal bytes now and then: the clock rule looks at neighbours.
@@ -43,7 +43,7 @@ fn rooms(needed: usize) -> [usize; 5] {
     [needed.saturating_sub(1), needed, needed + 1, needed + 37, 0]
 }
 
-pub fn coding(totals: &mut (usize, usize)) {
+pub fn coding(report: &mut Report) {
     let mut group = Group::new("coding, every length to 64 and around 8,192");
     let mut random = Random::new(1);
     for length in (0..=64).chain([8_191, 8_192, 8_193, 8_194, 20_000]) {
@@ -54,7 +54,7 @@ pub fn coding(totals: &mut (usize, usize)) {
             }
         }
     }
-    group.close(totals);
+    group.close(report);
 
     let mut group = Group::new("coding, each byte after each bit");
     for byte in 0..=255 {
@@ -62,7 +62,7 @@ pub fn coding(totals: &mut (usize, usize)) {
             code_case(&mut group, &[byte], before, 2);
         }
     }
-    group.close(totals);
+    group.close(report);
 
     let mut group = Group::new("coding, random");
     for _ in 0..8_000 {
@@ -72,10 +72,10 @@ pub fn coding(totals: &mut (usize, usize)) {
         let room = (2 * length + random.below(6) as usize).saturating_sub(3);
         code_case(&mut group, &bytes, random.one_in(2), room);
     }
-    group.close(totals);
+    group.close(report);
 }
 
-pub fn decoding(totals: &mut (usize, usize)) {
+pub fn decoding(report: &mut Report) {
     let mut group = Group::new("decoding, every length to 64 and around 16,384");
     let mut random = Random::new(2);
     for length in (0..=64).chain([16_383, 16_384, 16_385, 16_386, 40_000]) {
@@ -84,7 +84,7 @@ pub fn decoding(totals: &mut (usize, usize)) {
             decode_case(&mut group, &cells, room);
         }
     }
-    group.close(totals);
+    group.close(report);
 
     let mut group = Group::new("decoding, each pair of bytes");
     for first in 0..=255 {
@@ -92,7 +92,7 @@ pub fn decoding(totals: &mut (usize, usize)) {
             decode_case(&mut group, &[first, second], 1);
         }
     }
-    group.close(totals);
+    group.close(report);
 
     let mut group = Group::new("decoding, random");
     for _ in 0..8_000 {
@@ -102,10 +102,10 @@ pub fn decoding(totals: &mut (usize, usize)) {
         let room = (length / 2 + random.below(6) as usize).saturating_sub(3);
         decode_case(&mut group, &cells, room);
     }
-    group.close(totals);
+    group.close(report);
 }
 
-pub fn round_trip(totals: &mut (usize, usize)) {
+pub fn round_trip(report: &mut Report) {
     let mut group = Group::new("decoding what was coded");
     let mut random = Random::new(3);
     for length in (0..=64).chain([8_191, 8_192]) {
@@ -120,12 +120,12 @@ pub fn round_trip(totals: &mut (usize, usize)) {
             });
         }
     }
-    group.close(totals);
+    group.close(report);
 }
 
-/// The numbers that 01 prints.
-pub fn printed(totals: &mut (usize, usize)) {
-    let mut group = Group::new("01's codings and check words");
+/// The codings and check words to know.
+pub fn known(report: &mut Report) {
+    let mut group = Group::new("the codings of rule 1.17 and the check words of rule 2.4");
     let codings: [(u8, &[bool], [u8; 2]); 6] = [
         (0x4E, &[false], [0x92, 0x54]),
         (0x00, &[false], [0xAA, 0xAA]),
@@ -149,10 +149,10 @@ pub fn printed(totals: &mut (usize, usize)) {
     for (bytes, word) in words {
         group.same(thikbromu::check_word(bytes), word, || format!("{bytes:02X?}"));
     }
-    group.close(totals);
+    group.close(report);
 }
 
-pub fn check_words(totals: &mut (usize, usize)) {
+pub fn check_words(report: &mut Report) {
     let mut group = Group::new("check words, every length to 64 and random");
     let mut random = Random::new(4);
     for i in 0..8_000 {
@@ -166,5 +166,5 @@ pub fn check_words(totals: &mut (usize, usize)) {
             || format!("{length} bytes {:02X?}, from {start:04X}", &bytes[..length.min(16)]),
         );
     }
-    group.close(totals);
+    group.close(report);
 }

@@ -1,11 +1,13 @@
-//! 01, "Findings": the list of a track's findings.
+//! Section 7 of the specification: the list of a track's findings.
 
-use crate::report::{Element, Group};
+use crate::report::{Element, Group, Report};
 use crate::terms::{self, answer};
 use second_program::cells;
 use second_program::findings::{self, Finding};
-use second_program::random::Random;
-use second_program::track_builder::{filled, nine_sectors, odd_track, standard_track, turn, SectorPlan, TrackBuilder};
+use second_program::refusal::Refusal;
+use std::fmt::Display;
+use test_inputs::random::Random;
+use test_inputs::track_builder::{filled, nine_sectors, odd_track, standard_track, turn, SectorPlan, TrackBuilder};
 use thikbromu::boundary::{self, FindingRecord, FINDING_NUMBERS};
 use thikbromu::Track;
 
@@ -32,47 +34,65 @@ impl Element for FindingRecord {
     }
 }
 
-/// One call: the answer, the list and the bytes afterwards. `room` counts numbers.
-fn case(group: &mut Group, bytes: &[u8], n: usize, drive: (u32, u32), room: usize) {
-    group.same_written(
-        bytes,
-        room,
-        |input, list| boundary::findings(input, n, drive.0, drive.1, list),
-        findings::findings(drive.0, drive.1, bytes, n, room / FINDING_NUMBERS).map(|list| (list.len(), numbers(&list))),
-        || format!("n {n}, T {}, H {}, room {room}", drive.0, drive.1),
-    );
+/// A track, and what the second program finds on it, whatever the room is.
+struct Judged<'a> {
+    bytes: &'a [u8],
+    n: usize,
+    drive: (u32, u32),
+    second: Result<Vec<Finding>, Refusal>,
 }
 
-/// As `case`, on a list of records. `room` counts records.
-fn record_case(group: &mut Group, bytes: &[u8], n: usize, drive: (u32, u32), room: usize) {
-    group.same_written(
-        bytes,
-        room,
-        |input, list| boundary::finding_records(input, n, drive.0, drive.1, list),
-        findings::findings(drive.0, drive.1, bytes, n, room).map(|list| (list.len(), records(&list))),
-        || format!("n {n}, T {}, H {}, room for {room} records", drive.0, drive.1),
-    );
+impl Judged<'_> {
+    /// What the second program answers with room for so many findings.
+    fn second_in_room(&self, room: usize) -> Result<Vec<Finding>, Refusal> {
+        findings::in_room(self.second.clone()?, room)
+    }
+
+    fn given(&self, room: impl Display) -> String {
+        format!("n {}, T {}, H {}, room for {room}", self.n, self.drive.0, self.drive.1)
+    }
+
+    /// One call: the answer, the list and the bytes afterwards. `room` counts numbers.
+    fn case(&self, group: &mut Group, room: usize) {
+        group.same_written(
+            self.bytes,
+            room,
+            |input, list| boundary::findings(input, self.n, self.drive.0, self.drive.1, list),
+            self.second_in_room(room / FINDING_NUMBERS).map(|list| (list.len(), numbers(&list))),
+            || self.given(format!("{room} numbers")),
+        );
+    }
+
+    /// As `case`, on a list of records. `room` counts records.
+    fn record_case(&self, group: &mut Group, room: usize) {
+        group.same_written(
+            self.bytes,
+            room,
+            |input, list| boundary::finding_records(input, self.n, self.drive.0, self.drive.1, list),
+            self.second_in_room(room).map(|list| (list.len(), records(&list))),
+            || self.given(format!("{room} records")),
+        );
+    }
 }
 
 /// A track with a list that is too short by one number or record, just long enough, and longer.
 fn whole_track(group: &mut Group, seen: &mut [usize; 22], track_cells: &[u8], drive: (u32, u32)) {
     let bytes = cells::pack(track_cells);
     let n = track_cells.len();
-    let second = findings::findings(drive.0, drive.1, &bytes, n, usize::MAX);
-    let list = second.clone().unwrap_or_default();
+    // The second program's findings are made once.
+    let judged = Judged { bytes: &bytes, n, drive, second: findings::findings(drive.0, drive.1, &bytes, n, usize::MAX) };
+    let list = judged.second.clone().unwrap_or_default();
     for finding in &list {
         seen[finding.kind as usize] += 1;
     }
     let ours = answer(Track::new(&bytes, n, drive.0, drive.1).findings());
-    group.same(ours.map(|list| list.into_iter().map(terms::finding).collect()), second, || {
-        format!("n {n}, T {}, H {}, as a vector", drive.0, drive.1)
-    });
+    group.same(ours.map(|list| list.into_iter().map(terms::finding).collect()), judged.second.clone(), || judged.given("all"));
     let needed = list.len();
     for room in [4 * needed, (4 * needed).saturating_sub(1), 4 * needed + 7] {
-        case(group, &bytes, n, drive, room);
+        judged.case(group, room);
     }
     for room in [needed, needed.saturating_sub(1), needed + 2] {
-        record_case(group, &bytes, n, drive, room);
+        judged.record_case(group, room);
     }
 }
 
@@ -88,7 +108,7 @@ fn sectors_on(count: usize, n: usize, drive_track: u8) -> Vec<u8> {
 }
 
 /// Each kind just inside and just outside its rule.
-pub fn edges(totals: &mut (usize, usize)) {
+pub fn edges(report: &mut Report) {
     let mut group = Group::new("each kind just inside and just outside its rule");
     let mut seen = [0; 22];
     for n in [96_999, 97_000, 100_000, 103_000, 103_001, 20_000, 131_072] {
@@ -189,10 +209,10 @@ pub fn edges(totals: &mut (usize, usize)) {
     for kind in 1..=21 {
         group.same(seen[kind] > 0, true, || format!("kind {kind} was reached"));
     }
-    group.close(totals);
+    group.close(report);
 }
 
-pub fn any_tracks(totals: &mut (usize, usize)) {
+pub fn any_tracks(report: &mut Report) {
     let mut group = Group::new("findings of odd tracks");
     let mut random = Random::new(30);
     let mut seen = [0; 22];
@@ -203,5 +223,5 @@ pub fn any_tracks(totals: &mut (usize, usize)) {
     for kind in 1..=21 {
         group.same(seen[kind] > 0, true, || format!("kind {kind} was reached"));
     }
-    group.close(totals);
+    group.close(report);
 }

@@ -1,12 +1,12 @@
-//! 01, "The separator": the step by value and on a lent state, the call on a list, and the histogram.
+//! Sections 3 to 5 of the specification: the separator's step on a lent residual and by value, its call on a list, and the histogram.
 
-use crate::report::{Group, Lent};
+use crate::report::{Group, Lent, Report};
 use crate::terms::answer;
 use second_program::cells;
-use second_program::flux_tracks::{flux_track, flux_track_of, timings_of_cells, Choice, FluxTrack};
-use second_program::random::Random;
 use second_program::refusal::Refusal;
 use second_program::separator::{self, SeparatorState};
+use test_inputs::flux_inputs::{flux_track, flux_track_of, timings_of_cells, Choice, FluxTrack};
+use test_inputs::random::Random;
 use thikbromu::{boundary, separate, Separator};
 
 /// The list call: answer, buffer and the timings afterwards.
@@ -16,17 +16,35 @@ fn list_case(group: &mut Group, timings: &[u32], room: usize) {
     });
 }
 
-/// A step by value: what it answers, and the residual afterwards.
+/// A step by the crate's state, by value: what it answers, and the residual afterwards.
 fn step(residual: i32, timing: u32) -> (Result<usize, Refusal>, i32) {
     let stepped = Separator::with_residual(residual).step(timing);
     (answer(stepped.cells), stepped.next.residual())
 }
 
-/// A step by way of a state that is lent.
-fn step_lent(residual: i32, timing: u32) -> (Result<usize, Refusal>, i32) {
+/// A step by the crate's state, in its place.
+fn step_in_place(residual: i32, timing: u32) -> (Result<usize, Refusal>, i32) {
     let mut state = Separator::with_residual(residual);
     let ours = answer(state.step_in_place(timing));
     (ours, state.residual())
+}
+
+/// A step over the export: what it answers, and the lent residual afterwards, with its margins.
+fn step_lent(residual: i32, timing: u32) -> (Result<usize, Refusal>, Vec<i32>) {
+    let mut lent = Lent::new(1);
+    lent.part()[0] = residual;
+    let ours = answer(boundary::step(&mut lent.part()[0], timing));
+    (ours, lent.into_all())
+}
+
+/// One step in all three ways: the cells, or a refusal, and the residual, which beside a refusal is the one that came.
+fn step_case(group: &mut Group, residual: i32, timing: u32, expected: (Result<usize, Refusal>, i32), given: impl Fn() -> String) {
+    let after = if expected.0.is_err() { residual } else { expected.1 };
+    group.same(
+        (step(residual, timing), step_in_place(residual, timing), step_lent(residual, timing)),
+        (expected, (expected.0, after), (expected.0, Lent::expected(1, &[after]))),
+        given,
+    );
 }
 
 /// The bytes that the cells of timings need, whatever the room is.
@@ -42,9 +60,9 @@ fn offset_of(residual: i32, timing: u32, count: usize) -> i64 {
     i64::from(timing) + i64::from(residual) - 2_000 * count as i64
 }
 
-/// The rows and the cells that 01 prints.
-pub fn printed(totals: &mut (usize, usize)) {
-    let mut group = Group::new("01's rows of the separator, and its cells");
+/// The rows and the cells to know.
+pub fn known(report: &mut Report) {
+    let mut group = Group::new("the rows of rule 3.13 and the cells of rule 3.14");
     // Timings, n, e, r after.
     let rows: [(&[u32], &[usize], &[i64], &[i32]); 6] = [
         (&[4_900, 4_000], &[2, 2], &[900, 450], &[450, 225]),
@@ -61,7 +79,9 @@ pub fn printed(totals: &mut (usize, usize)) {
             group.same(offset, offsets[i], || format!("{timings:?}, e of timing {i}"));
             let expected = (Ok(counts[i]), residuals[i]);
             group.same(step(residual, timing), expected, || format!("{timings:?}, timing {i}"));
-            group.same(step_lent(residual, timing), expected, || format!("{timings:?}, timing {i}, lent"));
+            group.same(step_in_place(residual, timing), expected, || format!("{timings:?}, timing {i}, in place"));
+            let lent = Lent::expected(1, &[residuals[i]]);
+            group.same(step_lent(residual, timing), (Ok(counts[i]), lent), || format!("{timings:?}, timing {i}, lent"));
             residual = residuals[i];
         }
     }
@@ -69,7 +89,7 @@ pub fn printed(totals: &mut (usize, usize)) {
     let ours = answer(separate(&[5_000, 5_000], &mut packed));
     group.same((ours, packed), (Ok(5), [0b0010_1000, 0xFF]), || "5000, 5000".to_string());
     group.same(answer(separate(&[500], &mut [])), Ok(0), || "500, no room".to_string());
-    group.close(totals);
+    group.close(report);
 }
 
 /// A residual in range, at its bounds, or any.
@@ -92,7 +112,7 @@ fn any_timing(random: &mut Random) -> u32 {
     }
 }
 
-pub fn steps(totals: &mut (usize, usize)) {
+pub fn steps(report: &mut Report) {
     let mut group = Group::new("separator steps, by value and lent");
     let mut random = Random::new(10);
     for _ in 0..40_000 {
@@ -100,13 +120,30 @@ pub fn steps(totals: &mut (usize, usize)) {
         let timing = any_timing(&mut random);
         let (next, second) = SeparatorState { residual: i64::from(residual) }.step(timing);
         let expected = (second.map(|step| step.cells as usize), next.residual as i32);
-        let ours = (step(residual, timing), step_lent(residual, timing));
-        group.same(ours, (expected, expected), || format!("residual {residual}, timing {timing}"));
+        step_case(&mut group, residual, timing, expected, || format!("residual {residual}, timing {timing}"));
     }
-    group.close(totals);
+    group.close(report);
+
+    // One residual stepped on and on, as the second program's: a timing out of range, which is refused, changes nothing of what follows.
+    let mut group = Group::new("one residual, through timings in and out of range");
+    for _ in 0..200 {
+        let (mut ours, mut second) = (Lent::new(1), SeparatorState { residual: 0 });
+        ours.part()[0] = 0;
+        for i in 0..50 {
+            let timing = any_timing(&mut random);
+            let taken = answer(boundary::step(&mut ours.part()[0], timing));
+            let (next, step) = second.step(timing);
+            let left = Lent::expected(1, &[next.residual as i32]);
+            group.same((taken, ours.clone().into_all()), (step.map(|step| step.cells as usize), left), || {
+                format!("step {i} by {timing}")
+            });
+            second = next;
+        }
+    }
+    group.close(report);
 }
 
-pub fn lists(totals: &mut (usize, usize)) {
+pub fn lists(report: &mut Report) {
     let mut group = Group::new("separator lists within demand 3's tolerance");
     let mut random = Random::new(11);
     for i in 0..3_000 {
@@ -133,7 +170,7 @@ pub fn lists(totals: &mut (usize, usize)) {
             list_case(&mut group, &track.timings, packed.len() - 1);
         }
     }
-    group.close(totals);
+    group.close(report);
 
     let mut group = Group::new("separator lists without jitter and drift");
     for _ in 0..1_000 {
@@ -145,7 +182,7 @@ pub fn lists(totals: &mut (usize, usize)) {
         let ours = answer(separate(&timings, &mut buffer));
         group.same((ours, &buffer), (Ok(track.cells.len()), &packed), || format!("{length} timings"));
     }
-    group.close(totals);
+    group.close(report);
 
     let mut group = Group::new("separator lists of any timings");
     for _ in 0..8_000 {
@@ -159,7 +196,7 @@ pub fn lists(totals: &mut (usize, usize)) {
             list_case(&mut group, &timings, room);
         }
     }
-    group.close(totals);
+    group.close(report);
 
     let mut group = Group::new("the list call beside step after step");
     for _ in 0..1_000 {
@@ -181,7 +218,7 @@ pub fn lists(totals: &mut (usize, usize)) {
         let ours = answer(separate(&timings, &mut buffer));
         group.same((ours, &buffer), (Ok(list.len()), &packed), || format!("{timings:?}"));
     }
-    group.close(totals);
+    group.close(report);
 }
 
 /// How far the farthest window centre lies from the true place of its pulse.
@@ -199,7 +236,7 @@ fn farthest_centre(track: &FluxTrack) -> i64 {
 
 /// Demand 3 at its extremes: tracks of 100,000 cells, of 1,950 and 2,050 ns, with pulses 250 ns off. No cell is lost, and no centre
 /// lies farther off than 651 ns.
-pub fn extremes(totals: &mut (usize, usize)) {
+pub fn extremes(report: &mut Report) {
     let mut group = Group::new("demand 3 at its extremes, 1,000 tracks of 100,000 cells");
     let mut random = Random::new(13);
     let mut farthest = 0;
@@ -228,11 +265,11 @@ pub fn extremes(totals: &mut (usize, usize)) {
             format!("track {i}, farthest centre {distance}")
         });
     }
-    println!("    the farthest centre lay {farthest} ns off");
-    group.close(totals);
+    group.close(report);
+    report.say(format!("    the farthest centre lay {farthest} ns off"));
 }
 
-pub fn limits(totals: &mut (usize, usize)) {
+pub fn limits(report: &mut Report) {
     let mut group = Group::new("separator lists at the limits of each refusal");
     // 6 and 7, and the most timings; 131,072 cells from 65,536 timings, then one and two more.
     for length in [0, 1, 65_535, 65_536, 65_537, 70_000] {
@@ -267,10 +304,10 @@ pub fn limits(totals: &mut (usize, usize)) {
         }
     }
     list_case(&mut group, &vec![10_000_000; 65_536], 16_384);
-    group.close(totals);
+    group.close(report);
 }
 
-pub fn histograms(totals: &mut (usize, usize)) {
+pub fn histograms(report: &mut Report) {
     let mut group = Group::new("histograms");
     let mut random = Random::new(12);
     for i in 0..4_000 {
@@ -308,5 +345,5 @@ pub fn histograms(totals: &mut (usize, usize)) {
             );
         }
     }
-    group.close(totals);
+    group.close(report);
 }

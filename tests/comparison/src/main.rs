@@ -4,8 +4,8 @@
 //! The library is called over its Rust crate: over `thikbromu::boundary`, which lends buffers of any length, and where the crate's other
 //! types have the call, over these as well.
 //!
-//! An argument names the groups to run, by their module; without one all run. The last line is 'N passed, M failed'; the exit status is 1
-//! where something failed.
+//! An argument names the groups to run, by their module; without one all run. They run side by side, one on each processor, and are printed
+//! in their order. The last line is 'N passed, M failed'; the exit status is 1 where something failed.
 
 mod block_program;
 mod blocks;
@@ -19,44 +19,50 @@ mod sectors;
 mod terms;
 mod track_cells;
 
+use report::Report;
+use std::collections::BTreeMap;
+use std::sync::mpsc::{channel, Receiver, Sender};
 use std::sync::Mutex;
+use std::thread;
 
-type Part = fn(&mut (usize, usize));
+type Part = fn(&mut Report);
 
-/// The groups of cases, by their module.
-const PARTS: [(&str, Part); 37] = [
+/// The parts, by their modules. The long ones come first, so that no worker is left alone with one at the end.
+const PARTS: [(&str, Part); 39] = [
+    ("files", files::in_memory),
+    ("findings", findings::any_tracks),
+    ("sectors", sectors::standard),
+    ("program", program::whole_files),
+    ("sectors", sectors::any_tracks),
+    ("files", files::from_readers),
+    ("block_program", block_program::whole_blocks),
+    ("flux", flux::extremes),
+    ("blocks", blocks::cells),
+    ("blocks", blocks::portions),
+    ("findings", findings::edges),
+    ("program", program::portions),
+    ("blocks", blocks::timings),
+    ("blocks", blocks::short_rooms),
     ("terms", terms::tables),
     ("track_cells", track_cells::reading),
     ("track_cells", track_cells::finding),
     ("track_cells", track_cells::marks),
     ("track_cells", track_cells::packing),
-    ("coding", coding::printed),
+    ("coding", coding::known),
     ("coding", coding::check_words),
     ("coding", coding::coding),
     ("coding", coding::decoding),
     ("coding", coding::round_trip),
-    ("flux", flux::printed),
+    ("flux", flux::known),
     ("flux", flux::steps),
     ("flux", flux::lists),
-    ("flux", flux::extremes),
     ("flux", flux::limits),
     ("flux", flux::histograms),
-    ("sectors", sectors::standard),
     ("sectors", sectors::shapes),
-    ("sectors", sectors::any_tracks),
-    ("findings", findings::edges),
-    ("findings", findings::any_tracks),
-    ("files", files::portions),
-    ("files", files::states),
-    ("blocks", blocks::timings),
-    ("blocks", blocks::cells),
-    ("blocks", blocks::portions),
-    ("blocks", blocks::short_rooms),
+    ("files", files::short_rooms),
     ("blocks", blocks::states),
     ("program", program::samples),
-    ("program", program::whole_files),
-    ("block_program", block_program::whole_blocks),
-    ("program", program::portions),
+    ("program", program::failing_inputs),
     ("program", program::system),
     ("block_program", block_program::standard_track),
     ("block_program", block_program::standard_track_from_index),
@@ -67,24 +73,49 @@ const PARTS: [(&str, Part); 37] = [
 fn main() {
     let chosen: Vec<String> = std::env::args().skip(1).collect();
     let parts = PARTS.iter().filter(|(name, _)| chosen.is_empty() || chosen.iter().any(|choice| choice == name));
-    let left = Mutex::new(parts);
-    let totals = std::thread::scope(|scope| {
-        let workers = [scope.spawn(|| run_all(&left)), scope.spawn(|| run_all(&left))];
-        workers.map(|worker| worker.join().expect("a group stopped"))
+    let left = Mutex::new(parts.map(|(_, part)| part).enumerate());
+    let workers = thread::available_parallelism().map_or(2, |number| number.get());
+    let (passed, failed) = thread::scope(|scope| {
+        let (sender, reports) = channel();
+        for _ in 0..workers {
+            let (left, sender) = (&left, sender.clone());
+            scope.spawn(move || run_all(left, sender));
+        }
+        drop(sender);
+        print_all(reports)
     });
-    let (passed, failed) = (totals[0].0 + totals[1].0, totals[0].1 + totals[1].1);
     println!("{passed} passed, {failed} failed");
     if failed > 0 {
         std::process::exit(1);
     }
 }
 
-/// Runs groups as long as some are left. The groups share nothing, so two workers take them in turn.
-fn run_all<'a>(left: &Mutex<impl Iterator<Item = &'a (&'a str, Part)>>) -> (usize, usize) {
-    let mut totals = (0, 0);
+/// Runs parts as long as some are left. They share nothing, so the workers take them in turn.
+fn run_all<'a>(left: &Mutex<impl Iterator<Item = (usize, &'a Part)>>, reports: Sender<(usize, Report)>) {
     loop {
-        let next = left.lock().expect("taking a group does not stop").next();
-        let Some((_, run)) = next else { return totals };
-        run(&mut totals);
+        let next = left.lock().expect("taking a part does not stop").next();
+        let Some((index, part)) = next else { return };
+        let mut report = Report::default();
+        part(&mut report);
+        reports.send((index, report)).expect("reports are taken until the last worker ends");
     }
+}
+
+/// Prints the reports in the order of the parts, each as soon as those before it are there, and adds them up.
+fn print_all(reports: Receiver<(usize, Report)>) -> (usize, usize) {
+    let (mut passed, mut failed) = (0, 0);
+    let mut waiting = BTreeMap::new();
+    let mut next = 0;
+    for (index, report) in reports {
+        passed += report.passed;
+        failed += report.failed;
+        waiting.insert(index, report.lines);
+        while let Some(lines) = waiting.remove(&next) {
+            lines.iter().for_each(|line| println!("{line}"));
+            next += 1;
+        }
+    }
+    // There is something left only where a part stopped, which ends this program when all others are done.
+    waiting.values().flatten().for_each(|line| println!("{line}"));
+    (passed, failed)
 }

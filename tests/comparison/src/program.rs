@@ -1,15 +1,11 @@
-//! 01, "Track file and listing": the program `track_listing` beside the second program, on whole files and on files that come in
+//! Section 13 of the specification: the program `track_listing` beside the second program, on whole files and on files that come in
 //! portions.
 
 use crate::block_program;
-use crate::report::Group;
-use second_program::flux_tracks::timings_of_cells;
+use crate::report::{Group, Report};
 use second_program::listing::listing;
-use second_program::random::Random;
 use second_program::track_block;
-use second_program::track_builder::{odd_track, standard_track};
 use second_program::track_file::at_once;
-use second_program::track_files::{self, NamedFile};
 use std::ffi::OsStr;
 use std::fs::File;
 use std::io::{ErrorKind, Read, Write};
@@ -18,6 +14,10 @@ use std::os::unix::net::{UnixDatagram, UnixStream};
 use std::path::Path;
 use std::process::{Child, Command, Output, Stdio};
 use std::time::{Duration, Instant};
+use test_inputs::file_inputs::{self, NamedFile};
+use test_inputs::flux_inputs::timings_of_cells;
+use test_inputs::random::Random;
+use test_inputs::track_builder::{odd_track, standard_track};
 
 /// A program, as `rt ci` builds it.
 pub fn built(name: &str) -> Command {
@@ -84,7 +84,7 @@ pub fn left_after_socket(command: Command, file: &[u8], end: SocketEnd) -> Outpu
 }
 
 /// What four reads of a stream socket give: how many bytes, or which failure.
-pub fn four_reads(file: &[u8], end: SocketEnd) -> Vec<Result<usize, ErrorKind>> {
+fn four_reads(file: &[u8], end: SocketEnd) -> Vec<Result<usize, ErrorKind>> {
     let (mut writer, mut reader) = sockets(end);
     writer.write_all(file).expect("room for a short file");
     drop(writer);
@@ -110,6 +110,32 @@ pub fn in_portions<'a>(command: Command, portions: impl Iterator<Item = &'a [u8]
 
 fn printed(child: Child) -> Vec<u8> {
     child.wait_with_output().expect("the program's output").stdout
+}
+
+/// Whether standard error has one line, and it begins so.
+pub fn says_one_line(output: &Output, start: &str) -> bool {
+    let error = text(&output.stderr);
+    error.starts_with(start) && error.ends_with('\n') && error.lines().count() == 1
+}
+
+/// An input that cannot be read to its end, or is too long: nothing is listed, since it is not known, and one line, which begins with the
+/// program's name, says why.
+pub fn not_listed(group: &mut Group, name: &str, output: &Output, given: impl Fn() -> String) {
+    let ours = (text(&output.stdout), says_one_line(output, &format!("{name}: ")), output.status.success());
+    group.same(ours, (String::new(), true, true), || format!("{}, which says {:?}", given(), text(&output.stderr)));
+}
+
+/// An input that is listed, and nothing said beside it.
+pub fn listed_alone(group: &mut Group, output: &Output, listed: &str, given: impl Fn() -> String) {
+    group.same((text(&output.stdout), text(&output.stderr)), (listed.to_string(), String::new()), given);
+}
+
+/// What the system gives, without which a case of an input that fails would say nothing.
+pub fn sockets_as_expected(group: &mut Group) {
+    let (ends, fails_once) = (four_reads(b"TRK", SocketEnd::Ends), four_reads(b"TRK", SocketEnd::FailsOnce));
+    group.same(ends, vec![Ok(3), Ok(0), Ok(0), Ok(0)], || "a socket that ends".to_string());
+    let reset = Err(ErrorKind::ConnectionReset);
+    group.same(fails_once, vec![Ok(3), reset, Ok(0), Ok(0)], || "a socket that fails once".to_string());
 }
 
 pub fn text(bytes: &[u8]) -> String {
@@ -152,17 +178,17 @@ impl Seen {
 }
 
 /// Many files, whole: sound and broken ones.
-pub fn whole_files(totals: &mut (usize, usize)) {
+pub fn whole_files(report: &mut Report) {
     let mut group = Group::new("the program on whole files");
     let mut seen = Seen::default();
-    for file in track_files::files() {
+    for file in file_inputs::files() {
         let expected = text(&listing(&file.bytes));
         seen.note(&expected);
         group.same(text(&through_pipe(program(), &file.bytes)), expected, || file.name.clone());
     }
     // 3 gives way to 15, 6 to 15, and there is always room: 5 and 10 do not arise. The others are of other calls.
     seen.reached(&mut group, &[1, 2, 4, 7, 8, 9, 15]);
-    group.close(totals);
+    group.close(report);
 }
 
 /// Ten files for portions: cells and timings, sound, odd and broken.
@@ -172,23 +198,23 @@ fn ten_files() -> Vec<NamedFile> {
     let mut add = |name: &str, bytes: Vec<u8>| files.push(NamedFile { name: name.to_string(), bytes });
     let standard = standard_track(0, 0, 0xE5);
     let odd = odd_track(&mut random, 33);
-    add("standard track", track_files::file_of_cells(0, 0, &standard));
-    add("standard track as timings", track_files::file_of_timings(0, 0, &timings_of_cells(&standard)));
-    add("odd track", track_files::file_of_cells(33, 1, &odd));
-    add("odd track as timings", track_files::file_of_timings(33, 1, &timings_of_cells(&odd)));
-    add("131,069 cells", track_files::file_of_cells(82, 0, &vec![1; 131_069]));
-    add("20,000 cells from four timings", track_files::file_of_timings(79, 0, &[10_000_000; 4]));
-    add("a timing out of range", track_files::file_of_timings(1, 0, &[4_000, 4_000, 10_000_001, 0, 4_000]));
-    add("too many cells", track_files::file_of_timings(1, 0, &[10_000_000; 30]));
-    let mut left_over = track_files::file_of_cells(2, 0, &vec![0; 20_001]);
+    add("standard track", file_inputs::file_of_cells(0, 0, &standard));
+    add("standard track as timings", file_inputs::file_of_timings(0, 0, &timings_of_cells(&standard)));
+    add("odd track", file_inputs::file_of_cells(33, 1, &odd));
+    add("odd track as timings", file_inputs::file_of_timings(33, 1, &timings_of_cells(&odd)));
+    add("131,069 cells", file_inputs::file_of_cells(82, 0, &vec![1; 131_069]));
+    add("20,000 cells from four timings", file_inputs::file_of_timings(79, 0, &[10_000_000; 4]));
+    add("a timing out of range", file_inputs::file_of_timings(1, 0, &[4_000, 4_000, 10_000_001, 0, 4_000]));
+    add("too many cells", file_inputs::file_of_timings(1, 0, &[10_000_000; 30]));
+    let mut left_over = file_inputs::file_of_cells(2, 0, &vec![0; 20_001]);
     left_over.extend([0; 70]);
     add("bytes left over", left_over);
-    add("65,536 timings", track_files::file_of_timings(3, 0, &vec![4_000; 65_536]));
+    add("65,536 timings", file_inputs::file_of_timings(3, 0, &vec![4_000; 65_536]));
     files
 }
 
 /// Files that come in portions, and the same files cut short.
-pub fn portions(totals: &mut (usize, usize)) {
+pub fn portions(report: &mut Report) {
     let mut group = Group::new("the program on files in portions");
     let mut random = Random::new(62);
     for file in ten_files() {
@@ -224,7 +250,57 @@ pub fn portions(totals: &mut (usize, usize)) {
             group.same(text(&in_portions(program(), parts.iter().copied())), expected.clone(), given);
         }
     }
-    group.close(totals);
+    group.close(report);
+}
+
+/// The program, its standard error kept.
+fn program_that_may_fail() -> Command {
+    let mut command = program();
+    command.stderr(Stdio::piped());
+    command
+}
+
+/// Inputs through stream sockets that end, and inputs that fail once and then end: of these nothing is listed, however much was read,
+/// unless a count was refused, after which nothing more is read.
+pub fn failing_inputs(report: &mut Report) {
+    let mut group = Group::new("the program on inputs that fail");
+    sockets_as_expected(&mut group);
+    let mut random = Random::new(65);
+    let refused_by_a_count = [
+        ("place count 3", vec![3, 0, 0, 0, 7, 7, 7]),
+        ("131,073 cells", vec![2, 0, 0, 0, 5, 0, 1, 0, 2, 0, 7, 7]),
+        ("65,537 timings", vec![2, 0, 0, 0, 5, 0, 8, 0, 0, 0, 0xAA, 1, 0, 1, 0, 7]),
+    ];
+    let refused = refused_by_a_count.map(|(name, bytes)| NamedFile { name: name.to_string(), bytes });
+    for NamedFile { name, bytes } in ten_files().into_iter().chain(refused) {
+        let mut places = vec![0, 1, 3, 4, 5, 6, 9, 10, 14, bytes.len() - 5, bytes.len() - 1, bytes.len()];
+        if bytes.len() < 100 {
+            places.extend(0..bytes.len());
+        } else {
+            // Around the room of one read.
+            places.extend([4_096, 65_535, 65_536, 65_537, 131_072]);
+            places.extend((0..6).map(|_| random.below(bytes.len() as u64) as usize));
+        }
+        places.retain(|&place| place <= bytes.len());
+        places.sort_unstable();
+        places.dedup();
+        for place in places {
+            let front = &bytes[..place];
+            let given = || format!("{place} bytes of {name}");
+            let output = left_after_socket(program_that_may_fail(), front, SocketEnd::FailsOnce);
+            match at_once(front) {
+                Some(refusal) => listed_alone(&mut group, &output, &format!("refused {}\n", refusal.number), given),
+                None => not_listed(&mut group, "track_listing", &output, || format!("{}, then a failure", given())),
+            }
+            let output = left_after_socket(program_that_may_fail(), front, SocketEnd::Ends);
+            listed_alone(&mut group, &output, &text(&listing(front)), given);
+        }
+    }
+    // No input, or one that cannot be read at all.
+    for redirection in ["<&-", "< /", "< /proc/self/mem"] {
+        not_listed(&mut group, "track_listing", &in_shell(&program(), redirection), || redirection.to_string());
+    }
+    group.close(report);
 }
 
 /// Waits until a program has ended, for at most so long; whether it has.
@@ -249,8 +325,8 @@ pub fn in_shell(command: &Command, redirection: &str) -> Output {
     shell.output().expect("sh")
 }
 
-/// When the program stops reading, and inputs and outputs that fail.
-pub fn system(totals: &mut (usize, usize)) {
+/// When the program stops reading, and outputs that fail.
+pub fn system(report: &mut Report) {
     let mut group = Group::new("the program and the system");
     // A refusal that is given at once does not wait for the end of the input; everything else does.
     let place = [2, 0, 0, 0, 5, 0];
@@ -280,11 +356,6 @@ pub fn system(totals: &mut (usize, usize)) {
         drop(input);
         group.same(text(&printed(child)), text(&listing(&prefix)), || name.to_string());
     }
-    // No input, or one that cannot be read: nothing is known of a file, and nothing is said.
-    for redirection in ["<&-", "< /", "< /proc/self/mem"] {
-        let output = in_shell(&program(), redirection);
-        group.same((text(&output.stdout), output.status.success()), (String::new(), true), || redirection.to_string());
-    }
     // An output that cannot be written: the program ends all the same.
     for redirection in [">&-", "> /dev/full"] {
         let output = in_shell(&program(), redirection);
@@ -294,7 +365,7 @@ pub fn system(totals: &mut (usize, usize)) {
     let mut child = started(program(), Stdio::piped());
     drop(child.stdout.take());
     let mut input = child.stdin.take().expect("a pipe");
-    input.write_all(&track_files::file_of_cells(5, 0, &vec![1; 20_000])).expect("the program reads");
+    input.write_all(&file_inputs::file_of_cells(5, 0, &vec![1; 20_000])).expect("the program reads");
     drop(input);
     group.same(ends_within(&mut child, Duration::from_secs(20)), true, || "the output's reader has gone".to_string());
     // An empty input is a short file; so is a file on the disk, read as such.
@@ -304,11 +375,11 @@ pub fn system(totals: &mut (usize, usize)) {
     File::open(&path).and_then(|mut file| file.read_to_end(&mut own)).expect("this program");
     let child = started(program(), Stdio::from(File::open(&path).expect("this program")));
     group.same(text(&printed(child)), text(&listing(&own)), || "a file that is no track file".to_string());
-    group.close(totals);
+    group.close(report);
 }
 
 /// The shipped samples: both programs give the listings beside them. A block's is that of revolution 1 of 2, at track 0 and side 0.
-pub fn samples(totals: &mut (usize, usize)) {
+pub fn samples(report: &mut Report) {
     let mut group = Group::new("samples");
     let folder = concat!(env!("CARGO_MANIFEST_DIR"), "/../../samples");
     for entry in std::fs::read_dir(folder).expect("samples") {
@@ -325,5 +396,5 @@ pub fn samples(totals: &mut (usize, usize)) {
         let child = started(command, Stdio::from(File::open(&path).expect("a sample")));
         group.same(text(&printed(child)), expected, name);
     }
-    group.close(totals);
+    group.close(report);
 }

@@ -4,9 +4,25 @@ use crate::terms::answer;
 use second_program::refusal::Refusal;
 use std::fmt::Debug;
 
-/// The cases of one group that agreed, and those that did not.
+/// What the groups of one part came to: the lines to print, and how many cases agreed and how many did not.
+#[derive(Default)]
+pub struct Report {
+    pub lines: Vec<String>,
+    pub passed: usize,
+    pub failed: usize,
+}
+
+impl Report {
+    /// A line more.
+    pub fn say(&mut self, line: String) {
+        self.lines.push(line);
+    }
+}
+
+/// The cases of one group that agreed, and those that did not, with what is told of these.
 pub struct Group {
     name: &'static str,
+    differences: Vec<String>,
     passed: usize,
     failed: usize,
 }
@@ -16,7 +32,7 @@ const MOST_PRINTED: usize = 5;
 
 impl Group {
     pub fn new(name: &'static str) -> Group {
-        Group { name, passed: 0, failed: 0 }
+        Group { name, differences: Vec::new(), passed: 0, failed: 0 }
     }
 
     /// One case: what the library made of an input, what it should be, and what was given.
@@ -27,9 +43,9 @@ impl Group {
         }
         self.failed += 1;
         if self.failed <= MOST_PRINTED {
-            println!("{}: given {}", self.name, given());
-            println!("    library {}", short(&ours));
-            println!("    expected {}", short(&expected));
+            self.differences.push(format!("{}: given {}", self.name, given()));
+            self.differences.push(format!("    library {}", short(&ours)));
+            self.differences.push(format!("    expected {}", short(&expected)));
         }
     }
 
@@ -53,11 +69,12 @@ impl Group {
         self.same((ours, lent.into_all(), &passed[..]), (expected, Lent::expected(room, &written), input), given);
     }
 
-    /// Prints the group's line and adds it to the totals.
-    pub fn close(self, totals: &mut (usize, usize)) {
-        println!("{}: {} cases, {} differ", self.name, self.passed + self.failed, self.failed);
-        totals.0 += self.passed;
-        totals.1 += self.failed;
+    /// Adds the group's lines and its cases to the report.
+    pub fn close(self, report: &mut Report) {
+        report.lines.extend(self.differences);
+        report.say(format!("{}: {} cases, {} differ", self.name, self.passed + self.failed, self.failed));
+        report.passed += self.passed;
+        report.failed += self.failed;
     }
 }
 
@@ -86,9 +103,9 @@ impl Element for u32 {
     }
 }
 
-impl Element for u64 {
-    fn from_pattern(pattern: u32) -> u64 {
-        u64::from(pattern) * 0x1_0000_0001
+impl Element for i32 {
+    fn from_pattern(pattern: u32) -> i32 {
+        pattern as i32
     }
 }
 

@@ -1,12 +1,12 @@
-//! 01, "Sectors": records, the sector by index, and reading out.
+//! Section 6 of the specification: records, the sector by index, and reading out.
 
-use crate::report::{Group, Lent};
+use crate::report::{Group, Lent, Report};
 use crate::terms::{self, answer};
 use second_program::cells;
-use second_program::random::Random;
 use second_program::refusal::Refusal;
 use second_program::sectors::{self, SectorRecord};
-use second_program::track_builder::{filled, odd_track, standard_track, turn, SectorPlan, TrackBuilder};
+use test_inputs::random::Random;
+use test_inputs::track_builder::{filled, odd_track, standard_track, turn, SectorPlan, TrackBuilder};
 use thikbromu::boundary::{self, SECTOR_NUMBERS};
 
 /// A packed track: its bytes and its number of cells.
@@ -111,9 +111,9 @@ fn whole_track(group: &mut Group, random: &mut Random, track: &Track, drive: (u3
     read_case(group, track, drive, index, room);
 }
 
-/// The standard track, as 01 gives it, and turned so that the index falls on every cell of a record.
-pub fn standard(totals: &mut (usize, usize)) {
-    let mut group = Group::new("the standard track, by 01's numbers");
+/// The standard track of rule 6.19 as it is, and turned so that the index falls on every cell of a record.
+pub fn standard(report: &mut Report) {
+    let mut group = Group::new("the standard track, by the numbers of rule 6.19");
     let mut random = Random::new(20);
     let standard_cells = standard_track(3, 1, 0xE5);
     let track = packed(&standard_cells);
@@ -139,7 +139,7 @@ pub fn standard(totals: &mut (usize, usize)) {
         }
     }
     whole_track(&mut group, &mut random, &track, (3, 1));
-    group.close(totals);
+    group.close(report);
 
     let mut group = Group::new("the standard track, turned under the index cell by cell");
     for before in 0..9_824 {
@@ -151,10 +151,10 @@ pub fn standard(totals: &mut (usize, usize)) {
             read_case(&mut group, &track, (3, 1), 8, 512);
         }
     }
-    group.close(totals);
+    group.close(report);
 }
 
-pub fn shapes(totals: &mut (usize, usize)) {
+pub fn shapes(report: &mut Report) {
     let mut random = Random::new(21);
     let mut group = Group::new("data marks at every distance from 150 to 800");
     for distance in 150..=800 {
@@ -179,7 +179,7 @@ pub fn shapes(totals: &mut (usize, usize)) {
             read_case(&mut group, &track, (0, 0), 0, 512);
         }
     }
-    group.close(totals);
+    group.close(report);
 
     let mut group = Group::new("size codes 0 to 255, and marks F6 to FF");
     for code in 0..=255u8 {
@@ -194,7 +194,7 @@ pub fn shapes(totals: &mut (usize, usize)) {
         let track = packed(&filled(builder.cells().to_vec(), 20_001));
         whole_track(&mut group, &mut random, &track, (0, 1));
     }
-    group.close(totals);
+    group.close(report);
 
     let mut group = Group::new("many ID marks, and tracks of syncs");
     for count in [0, 1, 62, 63, 64, 65, 66, 200] {
@@ -221,10 +221,10 @@ pub fn shapes(totals: &mut (usize, usize)) {
             whole_track(&mut group, &mut random, &track, (0, 0));
         }
     }
-    group.close(totals);
+    group.close(report);
 }
 
-pub fn any_tracks(totals: &mut (usize, usize)) {
+pub fn any_tracks(report: &mut Report) {
     let mut random = Random::new(22);
     let mut group = Group::new("odd tracks");
     for _ in 0..2_500 {
@@ -232,7 +232,7 @@ pub fn any_tracks(totals: &mut (usize, usize)) {
         let track = packed(&odd_track(&mut random, drive.0 as u8));
         whole_track(&mut group, &mut random, &track, drive);
     }
-    group.close(totals);
+    group.close(report);
 
     let mut group = Group::new("random cells, and the limits of refusals 1, 2 and 3");
     for i in 0..300 {
@@ -261,5 +261,5 @@ pub fn any_tracks(totals: &mut (usize, usize)) {
             }
         }
     }
-    group.close(totals);
+    group.close(report);
 }

@@ -1,7 +1,7 @@
 //! What the library's crate answers, in the second program's terms. Each is set out by its names, so that a number, a value or a field
 //! that the crate mixes up shows as a difference.
 
-use crate::report::Group;
+use crate::report::{Group, Report};
 use second_program::findings::{self, Finding};
 use second_program::refusal::Refusal;
 use second_program::sectors::SectorRecord;
@@ -64,8 +64,8 @@ pub fn finding(ours: thikbromu::Finding) -> Finding {
     }
 }
 
-/// 01's tables of refusals and kinds, and the refusals that 02 adds, as the crate and as the second program has them.
-pub fn tables(totals: &mut (usize, usize)) {
+/// The tables of refusals and kinds, as the crate and as the second program has them.
+pub fn tables(report: &mut Report) {
     let mut group = Group::new("the tables of refusals and kinds");
     let rows = [
         Refusal::drive_place_out_of_range(),
@@ -105,5 +105,5 @@ pub fn tables(totals: &mut (usize, usize)) {
         let second = (kind, findings::name_of(number), findings::level_of(number));
         group.same(ours, Ok(second), || format!("kind {kind}"));
     }
-    group.close(totals);
+    group.close(report);
 }

@@ -1,8 +1,8 @@
-//! 01, "Cells and bytes": cells of a circular track, words of cells, the least place of a word, and packing.
+//! Rules 1.1 to 1.9: cells of the ring, words of cells, the least place of a word, and packing.
 
-use crate::report::{Group, Lent};
+use crate::report::{Group, Lent, Report};
 use second_program::cells;
-use second_program::random::Random;
+use test_inputs::random::Random;
 use thikbromu::{boundary, clear, put_one, Track};
 
 fn track(random: &mut Random) -> (Vec<u8>, usize) {
@@ -40,7 +40,7 @@ fn word_length(random: &mut Random) -> usize {
     }
 }
 
-pub fn reading(totals: &mut (usize, usize)) {
+pub fn reading(report: &mut Report) {
     let mut group = Group::new("cells and words of a track");
     let mut random = Random::new(5);
     for _ in 0..20_000 {
@@ -56,10 +56,10 @@ pub fn reading(totals: &mut (usize, usize)) {
             || format!("{bytes:02X?}, n {n}, p {p}, k {k}"),
         );
     }
-    group.close(totals);
+    group.close(report);
 }
 
-pub fn finding(totals: &mut (usize, usize)) {
+pub fn finding(report: &mut Report) {
     let mut group = Group::new("the least place of a word");
     let mut random = Random::new(6);
     for _ in 0..20_000 {
@@ -86,11 +86,11 @@ pub fn finding(totals: &mut (usize, usize)) {
             || format!("{bytes:02X?}, n {n}, word {x:X} of {k}, from {from} to {to}"),
         );
     }
-    group.close(totals);
+    group.close(report);
 }
 
 /// Three syncs 4489 on tracks of real sizes, at places round the index in every phase.
-pub fn marks(totals: &mut (usize, usize)) {
+pub fn marks(report: &mut Report) {
     const SYNCS: u64 = 0x4489_4489_4489;
     let mut group = Group::new("three syncs on whole tracks");
     let mut random = Random::new(8);
@@ -118,10 +118,10 @@ pub fn marks(totals: &mut (usize, usize)) {
             }
         }
     }
-    group.close(totals);
+    group.close(report);
 }
 
-pub fn packing(totals: &mut (usize, usize)) {
+pub fn packing(report: &mut Report) {
     let mut group = Group::new("packing cells");
     let mut random = Random::new(7);
     for _ in 0..4_000 {
@@ -151,5 +151,5 @@ pub fn packing(totals: &mut (usize, usize)) {
             group.same(lent.into_all(), Lent::expected(room, &zeros), || format!("clear {k} of {room}"));
         }
     }
-    group.close(totals);
+    group.close(report);
 }

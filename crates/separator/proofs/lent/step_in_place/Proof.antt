@@ -49,7 +49,8 @@ use Rattle.separator.proofs.Stepped as S
 use Rattle.separator.proofs.Stepped.Laws as S′
 use Rattle.separator.proofs.Taken as N
 use Rattle.separator.proofs.Taken.Laws as N′
-use Rattle.separator.proofs.Lending.{state-vals, taken-vals, Answers, Moves, says-both}
+use Rattle.basis.proofs.Walks.{says-both}
+use Rattle.separator.proofs.Lending.{state-vals, taken-vals, Answers, Moves}
 use Rattle.separator.proofs.Separator.step as step
 use Rattle.separator.proofs.Separator.step.Symbol as step-def
 use Rattle.separator.proofs.Separator.step.Symbol.{name as #step}

@@ -53,7 +53,8 @@ use Rattle.separator.proofs.Stepped as S
 use Rattle.separator.proofs.Stepped.Laws as S′
 use Rattle.separator.proofs.Taken as N
 use Rattle.separator.proofs.Taken.Laws as N′
-use Rattle.separator.proofs.Lending.{state-val, state-vals, taken-vals, Answers, Moves, says-both}
+use Rattle.basis.proofs.Walks.{says-both}
+use Rattle.separator.proofs.Lending.{state-val, state-vals, taken-vals, Answers, Moves}
 use Rattle.separator.proofs.lent.step_in_place as in-place
 use Rattle.separator.proofs.lent.step_in_place.Symbol as in-place-def
 use Rattle.separator.proofs.lent.step_in_place.Symbol.{name as #step-in-place}

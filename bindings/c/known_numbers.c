@@ -1,5 +1,6 @@
 /*
- * The numbers that 01 prints, and a small track block, through include/thikbromu.h: every routine is called, and every refusal is given.
+ * The numbers that docs/SPECIFICATION.md gives to know (rules 1.17, 2.4, 3.13, 3.14, 6.19 and 11.10), and a small track block, through
+ * include/thikbromu.h: every routine is called, and every refusal is given.
  * The argument is samples/standard.track. It compiles as C99 and as C++.
  */
 #include "thikbromu.h"
@@ -89,13 +90,11 @@ static void test_coding(void)
     EXPECT(thikbromu_check_word_from(0xCDB4, data_mark, 1) == 0xE295);
 }
 
-/* A row of 01's table, from a residual. */
+/* A step of a row of rule 3.13, from a residual. */
 static void test_step(int32_t residual, uint32_t timing, size_t cells, int32_t after)
 {
-    GIVES(thikbromu_step(residual, timing, &value), cells);
-    EXPECT(thikbromu_residual_after(residual, timing) == after);
-    GIVES(thikbromu_step_lent(residual, timing, &value), cells);
-    EXPECT(thikbromu_residual_after_lent(residual, timing) == after);
+    GIVES(thikbromu_step(&residual, timing, &value), cells);
+    EXPECT(residual == after);
 }
 
 static void test_separator(void)
@@ -110,10 +109,17 @@ static void test_separator(void)
     test_step(250, 3500, 2, -125);
     test_step(0, 10000000, 5000, 0);
     test_step(500, 4900, 2, 450);
-    REFUSES(thikbromu_step(3, 0, &value), TIMING_OUT_OF_RANGE, 0);
-    EXPECT(thikbromu_residual_after(3, 0) == 3);
-    REFUSES(thikbromu_step_lent(700, 10000001, &value), TIMING_OUT_OF_RANGE, 0);
-    EXPECT(thikbromu_residual_after_lent(700, 10000001) == 700);
+    int32_t residual = 3;
+    REFUSES(thikbromu_step(&residual, 0, &value), TIMING_OUT_OF_RANGE, 0);
+    EXPECT(residual == 3);
+    residual = 700;
+    REFUSES(thikbromu_step(&residual, 10000001, &value), TIMING_OUT_OF_RANGE, 0);
+    EXPECT(residual == 700);
+    /* Step by step, as the row 4900, 4000 has it. */
+    residual = 0;
+    GIVES(thikbromu_step(&residual, 4900, &value), 2);
+    GIVES(thikbromu_step(&residual, 4000, &value), 2);
+    EXPECT(residual == 225);
 
     const uint32_t two[2] = {5000, 5000};
     uint8_t cells[2] = {7, 7};
@@ -309,6 +315,35 @@ static void test_findings(const uint8_t *cells)
     REFUSES(thikbromu_findings(room, 2499, 20000, 83, 1, numbers, 0, &value), TOO_FEW_BYTES, 2500);
 }
 
+/* The records and the numbers of the same findings, by their names: the fields of the struct stand where the library writes them. In each
+ * of these findings the kind, the level, the place and the detail are four different numbers. */
+static void test_records(const uint8_t *cells)
+{
+    enum { FINDINGS = 3 };
+    struct thikbromu_finding records[FINDINGS];
+    uint32_t numbers[FINDINGS][THIKBROMU_FINDING_NUMBERS];
+    /* Zeros in the data of the second sector: its check is bad, two ones are far apart, and a stretch has no flux. */
+    memcpy(room, cells, TRACK_BYTES);
+    memset(room + 2000, 0, 200);
+    GIVES(thikbromu_finding_records(room, TRACK_BYTES, TRACK_CELLS, 0, 0, records, FINDINGS, &value), FINDINGS);
+    GIVES(thikbromu_findings(room, TRACK_BYTES, TRACK_CELLS, 0, 0, numbers[0], FINDINGS * THIKBROMU_FINDING_NUMBERS, &value),
+          FINDINGS);
+    for (size_t i = 0; i < FINDINGS; i++) {
+        EXPECT(records[i].kind == numbers[i][0]);
+        EXPECT(records[i].level == numbers[i][1]);
+        EXPECT(records[i].place == numbers[i][2]);
+        EXPECT(records[i].detail == numbers[i][3]);
+        for (size_t j = 0; j < THIKBROMU_FINDING_NUMBERS; j++) {
+            for (size_t k = 0; k < j; k++) {
+                EXPECT(numbers[i][j] != numbers[i][k]);
+            }
+        }
+    }
+    EXPECT(records[0].kind == THIKBROMU_KIND_SBD && records[0].level == 1 && records[0].place == 10976 && records[0].detail == 2);
+    EXPECT(records[1].kind == THIKBROMU_KIND_MTV && records[1].level == 3);
+    EXPECT(records[2].kind == THIKBROMU_KIND_NFA && records[2].level == 1 && records[2].detail >= 1600);
+}
+
 /* An ID mark every 40 bytes of cells, 65 in all. */
 static void test_too_many_sectors(void)
 {
@@ -321,63 +356,74 @@ static void test_too_many_sectors(void)
     REFUSES(thikbromu_findings(room, 65 * 40, 65 * 320, 0, 0, numbers, 4, &value), TOO_MANY_SECTORS, 65);
 }
 
-static uint64_t state[THIKBROMU_FILE_NUMBERS];
+/* What a refused file leaves as it was: the cells and the place. */
+#define KEPT() (room[0] == 7 && room[TRACK_BYTES - 1] == 7 && room[sizeof room - 1] == 7 && place[0] == 77 && place[1] == 77)
 
-/* The end of a file of which this is all. */
-static uint32_t finish(const uint8_t *file, size_t length, uint32_t *place)
+/* A file in its whole length, to all the room that there is. */
+#define CELLS_OF(file, length) thikbromu_file_cells(file, length, room, sizeof room, place, THIKBROMU_PLACE_NUMBERS, &value)
+
+static void test_file_cells(const uint8_t *file, size_t length)
 {
-    thikbromu_file_start(state, THIKBROMU_FILE_NUMBERS, room, sizeof room);
-    thikbromu_file_feed(state, THIKBROMU_FILE_NUMBERS, file, length, room, sizeof room);
-    return thikbromu_file_finish(state, THIKBROMU_FILE_NUMBERS, room, sizeof room, place, THIKBROMU_PLACE_NUMBERS, &value);
+    uint32_t place[THIKBROMU_PLACE_NUMBERS] = {77, 77};
+    memset(room, 7, sizeof room);
+
+    /* Refusals that a count gives, whatever follows it. */
+    const uint8_t other_place_count[5] = {3, 0, 0, 0, 7};
+    const uint8_t many_cells[11] = {2, 0, 0, 0, 0, 0, 1, 0, 2, 0, 7};
+    const uint8_t many_timings[15] = {2, 0, 0, 0, 0, 0, 0, 0, 0, 0, 1, 0, 1, 0, 7};
+    REFUSES(CELLS_OF(other_place_count, 5), NOT_A_TRACK_FILE, 0);
+    REFUSES(CELLS_OF(many_cells, 11), CELL_COUNT, 131073);
+    REFUSES(CELLS_OF(many_timings, 15), TOO_MANY_TIMINGS, 65537);
+    /* Those of a whole file: cut short, neither cells nor timings, a timing of 0 behind one of 256, 30 timings of 5,000 cells. */
+    const uint8_t neither[14] = {2, 0, 0, 0, 0, 0, 0, 0, 0, 0, 0, 0, 0, 0};
+    const uint8_t timing_of_0[22] = {2, 0, 0, 0, 0, 0, 0, 0, 0, 0, 2, 0, 0, 0, 0, 1, 0, 0, 0, 0, 0, 0};
+    uint8_t long_timings[14 + 30 * 4] = {2, 0, 0, 0, 0, 0, 0, 0, 0, 0, 30, 0, 0, 0};
+    for (size_t i = 14; i < sizeof long_timings; i += 4) {
+        long_timings[i] = 0x80; /* 10,000,000 is 989680 in hexadecimal */
+        long_timings[i + 1] = 0x96;
+        long_timings[i + 2] = 0x98;
+    }
+    REFUSES(CELLS_OF(nothing, 0), NOT_A_TRACK_FILE, 0);
+    REFUSES(CELLS_OF(file, length - 1), NOT_A_TRACK_FILE, 0);
+    REFUSES(CELLS_OF(neither, 14), NOT_A_TRACK_FILE, 0);
+    REFUSES(CELLS_OF(timing_of_0, 22), TIMING_OUT_OF_RANGE, 1);
+    REFUSES(CELLS_OF(long_timings, sizeof long_timings), TOO_MANY_CELLS, 150000);
+    /* Too little room is judged last. */
+    REFUSES(thikbromu_file_cells(file, length, room, TRACK_BYTES - 1, place, THIKBROMU_PLACE_NUMBERS, &value), NO_ROOM, 12500);
+    REFUSES(thikbromu_file_cells(file, length - 1, room, 0, place, THIKBROMU_PLACE_NUMBERS, &value), NOT_A_TRACK_FILE, 0);
+    EXPECT(KEPT());
+
+    GIVES(CELLS_OF(file, length), TRACK_CELLS);
+    EXPECT(place[0] == 0 && place[1] == 0);
+    EXPECT(memcmp(room, file + BEFORE_CELLS, TRACK_BYTES) == 0);
+    EXPECT(room[TRACK_BYTES] == 7 && room[sizeof room - 1] == 7);
+
+    /* Two timings, at track 83 and side 1; room for their 5 cells, and for the track alone. */
+    const uint8_t two_timings[22] = {2, 0, 0, 0, 83, 1, 0, 0, 0, 0, 2, 0, 0, 0, 0x88, 0x13, 0, 0, 0x88, 0x13, 0, 0};
+    uint32_t places[3] = {77, 77, 77};
+    GIVES(thikbromu_file_cells(two_timings, 22, room, 1, places, 1, &value), 5);
+    EXPECT(room[0] == 0x28 && places[0] == 83 && places[1] == 77);
+    GIVES(thikbromu_file_cells(two_timings, 22, room, 1, places, 3, &value), 5);
+    EXPECT(places[0] == 83 && places[1] == 1 && places[2] == 77);
 }
 
-static void test_files(const uint8_t *file, size_t length)
+static void test_listings(const uint8_t *file, size_t length)
 {
     static const char listing[] = "T00 H0 cells 100000 sectors 9 findings 0\n";
     static const char refused[] = "refused 15\n";
     uint8_t out[64];
-    uint32_t place[THIKBROMU_PLACE_NUMBERS] = {77, 77};
 
-    GIVES(finish(file, length, place), TRACK_CELLS);
-    EXPECT(place[0] == 0 && place[1] == 0);
-    EXPECT(memcmp(room, file + BEFORE_CELLS, TRACK_BYTES) == 0);
-    EXPECT(thikbromu_listing(room, sizeof room, TRACK_CELLS, 0, 0, out, sizeof out) == sizeof listing - 1);
+    EXPECT(thikbromu_listing(file + BEFORE_CELLS, TRACK_BYTES, TRACK_CELLS, 0, 0, out, sizeof out) == sizeof listing - 1);
     EXPECT(memcmp(out, listing, sizeof listing - 1) == 0);
-
-    /* Byte by byte, to its listing. */
-    thikbromu_file_start(state, THIKBROMU_FILE_NUMBERS, room, sizeof room);
-    uint32_t stopped = 0;
-    for (size_t i = 0; i < length; i++) {
-        stopped |= thikbromu_file_feed(state, THIKBROMU_FILE_NUMBERS, file + i, 1, room, sizeof room);
-    }
-    EXPECT(stopped == 0);
     memset(out, 7, sizeof out);
-    EXPECT(thikbromu_file_listing(state, THIKBROMU_FILE_NUMBERS, room, sizeof room, out, sizeof out) == sizeof listing - 1);
+    EXPECT(thikbromu_file_listing(file, length, out, sizeof out) == sizeof listing - 1);
     EXPECT(memcmp(out, listing, sizeof listing - 1) == 0 && out[sizeof listing - 1] == 7);
-
-    /* Cut short, it is refused at its end, and the cells are cleared. */
-    REFUSES(finish(file, length - 1, place), NOT_A_TRACK_FILE, 0);
-    EXPECT(thikbromu_word(room, sizeof room, TRACK_CELLS, 1152, 48) == 0);
-    EXPECT(thikbromu_file_listing(state, THIKBROMU_FILE_NUMBERS, room, sizeof room, out, sizeof out) == sizeof refused - 1);
+    /* As much as there is room for. */
+    memset(out, 7, sizeof out);
+    EXPECT(thikbromu_file_listing(file, length, out, 3) == sizeof listing - 1);
+    EXPECT(memcmp(out, "T00", 3) == 0 && out[3] == 7);
+    EXPECT(thikbromu_file_listing(file, length - 1, out, sizeof out) == sizeof refused - 1);
     EXPECT(memcmp(out, refused, sizeof refused - 1) == 0);
-
-    /* The refusals that are given at once. */
-    const uint8_t other_place_count[4] = {3, 0, 0, 0};
-    const uint8_t many_cells[10] = {2, 0, 0, 0, 0, 0, 1, 0, 2, 0};
-    const uint8_t many_timings[14] = {2, 0, 0, 0, 0, 0, 0, 0, 0, 0, 1, 0, 1, 0};
-    REFUSES(finish(other_place_count, 4, place), NOT_A_TRACK_FILE, 0);
-    EXPECT(thikbromu_file_feed(state, THIKBROMU_FILE_NUMBERS, file, 1, room, sizeof room) == 1);
-    REFUSES(finish(many_cells, 10, place), CELL_COUNT, 131073);
-    EXPECT(thikbromu_file_feed(state, THIKBROMU_FILE_NUMBERS, file, 1, room, sizeof room) == 1);
-    REFUSES(finish(many_timings, 14, place), TOO_MANY_TIMINGS, 65537);
-    EXPECT(thikbromu_file_feed(state, THIKBROMU_FILE_NUMBERS, file, 1, room, sizeof room) == 1);
-
-    /* Too little room for the cells. */
-    size_t less = sizeof room - 1;
-    thikbromu_file_start(state, THIKBROMU_FILE_NUMBERS, room, less);
-    EXPECT(thikbromu_file_feed(state, THIKBROMU_FILE_NUMBERS, file, length, room, less) == 1);
-    REFUSES(thikbromu_file_finish(state, THIKBROMU_FILE_NUMBERS, room, less, place, THIKBROMU_PLACE_NUMBERS, &value),
-            NO_ROOM, 16384);
 }
 
 int main(int count, char **arguments)
@@ -385,7 +431,7 @@ int main(int count, char **arguments)
     static uint8_t file[BEFORE_CELLS + TRACK_BYTES + 4];
     FILE *input = count == 2 ? fopen(arguments[1], "rb") : NULL;
     if (input == NULL || fread(file, 1, sizeof file, input) != sizeof file) {
-        fprintf(stderr, "usage: paper samples/standard.track\n");
+        fprintf(stderr, "usage: known_numbers samples/standard.track\n");
         return 2;
     }
     fclose(input);
@@ -398,8 +444,10 @@ int main(int count, char **arguments)
     test_portions();
     test_standard_track(file + BEFORE_CELLS);
     test_findings(file + BEFORE_CELLS);
+    test_records(file + BEFORE_CELLS);
     test_too_many_sectors();
-    test_files(file, sizeof file);
+    test_file_cells(file, sizeof file);
+    test_listings(file, sizeof file);
     printf("%d passed, %d failed\n", passed, failed);
     return failed == 0 ? 0 : 1;
 }
