@@ -1,7 +1,7 @@
-//! Made track blocks (ticket 3 of 02): sound ones, blocks at and past each limit, cut,
-//! too long or changed, that reach every refusal and try the order of the refusals;
-//! the flux of the standard track, from a pulse on and as the device samples it, from the
-//! index on; and portions to hand values over in.
+//! Track blocks (section 12 of the specification): sound ones, blocks at and past each
+//! limit, cut, too long or changed, that reach every refusal and try the order of the
+//! refusals; the flux of the standard track, from a pulse on and as the device samples it,
+//! from the index on; and portions to hand values over in.
 
 mod broken_blocks;
 mod flux_blocks;
@@ -10,7 +10,7 @@ mod random_blocks;
 mod sound_blocks;
 
 use crate::random::Random;
-use crate::track_block::{
+use second_program::track_block::{
     revolution_cells, revolution_timings, Carried, Entry, ENTRY_LENGTH, LETTERS, VALUE_LENGTH,
 };
 
@@ -225,7 +225,7 @@ pub struct BlockCase {
     pub name: String,
     /// The block.
     pub block: Vec<u8>,
-    /// The number of revolutions from the image header.
+    /// How many revolutions the caller says there are (rule 12.3).
     pub revolutions: u32,
     /// The chosen revolution.
     pub revolution: u32,

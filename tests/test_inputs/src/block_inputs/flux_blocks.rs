@@ -1,20 +1,17 @@
-//! Blocks with the flux of the standard track as a drive reports it (01, "What demand 3
-//! says"), at whole units of 25 ns.
-//!
-//! "Their true places are 1950g to 2050g apart. [...] The drive reports one pulse for
-//! each reversal, at a whole nanosecond at most 250 before or after its true place."
+//! Blocks with the flux of the standard track as a drive gives it within the tolerance
+//! (rules 4.1 to 4.5), at whole units of 25 ns.
 
 use super::{block_of_timings, BlockCase, BlockPlan, Cases};
-use crate::flux_tracks::{flux_track_of, timings_of_cells, Choice, FluxTrack};
+use crate::flux_inputs::{flux_track_of, timings_of_cells, Choice, FluxTrack};
 use crate::random::Random;
 use crate::track_builder::{odd_track, standard_track};
 
 /// The nanoseconds of a unit.
 pub(super) const UNIT: i64 = 25;
-/// The nanoseconds between true places for each cell.
+/// The nanoseconds between true places for each cell (rule 4.3).
 const LEAST_FOR_A_CELL: i64 = 1_950;
 const MOST_FOR_A_CELL: i64 = 2_050;
-/// How far a pulse lies at most from its true place.
+/// How far a pulse lies at most from its true place (rule 4.4).
 const MOST_SHIFT: i64 = 250;
 
 /// The track turned on until its last cell is a one, where a timing ends: the timings of
@@ -71,9 +68,9 @@ pub(super) fn gaps_of(track_cells: &[u8]) -> Vec<usize> {
     gaps
 }
 
-/// Reversals so many cells apart as a drive reports them: each pulse at a multiple of
-/// 25 ns that lies at most 250 ns from its true place. `choice` says how distances and
-/// shifts are chosen.
+/// Flux transitions so many cells apart as a drive gives them: each pulse at a multiple
+/// of 25 ns, and not too far from its true place. `choice` says how distances and shifts
+/// are chosen.
 pub(super) fn reported_flux(random: &mut Random, gaps: &[usize], choice: Choice) -> FluxTrack {
     let distances = distances(random, gaps, choice);
     let true_places = flux_track_of(gaps, &distances, &vec![0; gaps.len() + 1]).true_places;
@@ -154,11 +151,11 @@ pub(super) fn odd_tracks() -> Vec<BlockCase> {
 #[cfg(test)]
 mod tests {
     use super::*;
-    use crate::cells;
-    use crate::listing::listing;
-    use crate::separator::separate;
-    use crate::track_block::{printed, revolution_cells};
-    use crate::track_files::file_of_cells;
+    use crate::file_inputs::file_of_cells;
+    use second_program::cells;
+    use second_program::listing::listing;
+    use second_program::separator::separate;
+    use second_program::track_block::{printed, revolution_cells, revolution_timings};
 
     #[test]
     fn the_track_is_turned_until_it_ends_in_a_one() {
@@ -170,7 +167,7 @@ mod tests {
     }
 
     #[test]
-    fn the_pulses_follow_demand_3_at_whole_units() {
+    fn the_pulses_keep_to_the_tolerance_at_whole_units() {
         let mut random = Random::new(90);
         let track_cells = track_that_ends_in_a_one(&standard_track(7, 1, 0x4E));
         for choice in [Choice::Any, Choice::Bounds, Choice::LongDrift] {
@@ -215,16 +212,14 @@ mod tests {
                     revolution_cells(&block, 3, revolution.into(), 12_500),
                     Ok((100_000, cells::pack(&turned)))
                 );
-                timings_seen.push(
-                    crate::track_block::revolution_timings(&block, 3, revolution.into(), 65_536)
-                        .unwrap(),
-                );
+                timings_seen
+                    .push(revolution_timings(&block, 3, revolution.into(), 65_536).unwrap());
             }
             assert_ne!(timings_seen[0], timings_seen[1]);
             assert_ne!(timings_seen[1], timings_seen[2]);
             assert_eq!(printed(&block, 3, 3, track, side), b"refused 17\n");
         }
-        // As 01 prints it.
+        // The listing of rule 11.10.
         let block = standard_track_block(6, 0, 0, 0xE5, 1).bytes();
         assert_eq!(
             printed(&block, 1, 0, 0, 0),

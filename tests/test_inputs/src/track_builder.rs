@@ -1,11 +1,11 @@
-//! Made tracks as cells, among them 01's standard nine-sector track.
+//! Tracks made as cells, among them the standard track (rule 6.19).
 
-use crate::cells;
-use crate::check_word::check_word;
-use crate::mfm::{code_byte, SYNC_A1, SYNC_C2};
 use crate::random::Random;
+use second_program::cells;
+use second_program::check_word::check_word;
+use second_program::mfm::{code_byte, SYNC_A1, SYNC_C2};
 
-/// The cells of the standard track.
+/// How many cells the standard track has (rule 6.19).
 pub const STANDARD_TRACK_CELLS: usize = 100_000;
 
 /// Writes cells one after the other, one cell to an element.
@@ -163,8 +163,7 @@ pub struct SectorPlan {
 }
 
 impl SectorPlan {
-    /// A sector of the standard track: FE, 22 of 4E and 12 of 00 in the gap, FB,
-    /// 512 bytes of the filler.
+    /// A sector of the standard track, its data filled with one byte.
     pub fn standard(track: u8, side: u8, number: u8, filler: u8) -> SectorPlan {
         SectorPlan {
             id_mark: 0xFE,
@@ -181,10 +180,8 @@ impl SectorPlan {
     }
 }
 
-/// 01: "A standard nine-sector track: 60 bytes, nine records of 614, 664 bytes,
-/// 100,000 cells. The 60 and the 664 are 4E; a record is 12 of 00, three syncs A1,
-/// FE, four ID bytes, check, 22 of 4E, 12 of 00, three syncs A1, FB, 512 bytes,
-/// check, 40 of 4E." The numbers are 1 to 9. One cell to an element.
+/// The standard track (rule 6.19) with this track and side in its IDs and this byte as
+/// all its data. The numbers are 1 to 9. One cell to an element.
 pub fn standard_track(track: u8, side: u8, filler: u8) -> Vec<u8> {
     let mut builder = nine_sectors(track, side, filler, |_| {});
     builder.write_repeated(0x4E, 664);
@@ -346,7 +343,7 @@ pub fn odd_track(random: &mut Random, drive_track: u8) -> Vec<u8> {
 #[cfg(test)]
 mod tests {
     use super::*;
-    use crate::sectors;
+    use second_program::sectors;
 
     #[test]
     fn the_standard_track_has_6250_bytes_of_data() {

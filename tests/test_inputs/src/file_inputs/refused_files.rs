@@ -1,11 +1,11 @@
-//! Files at and past each limit of 01's "Track file and listing" and "Refused calls",
-//! cut or too long: each refusal of the program, and each order of two refusals.
+//! Files at and past each limit of sections 8 and 10 of the specification, cut or too
+//! long: each refusal of the program, and each order of two refusals.
 
 use super::made_tracks::ids_on;
 use super::{cut, file_of_cells, file_of_timings, named, FilePlan, Files, NamedFile};
-use crate::cells;
-use crate::flux_tracks::timings_of_cells;
+use crate::flux_inputs::timings_of_cells;
 use crate::track_builder::standard_track;
+use second_program::cells;
 
 /// The longest timing that is in range: 5,000 cells where r is 0.
 pub(super) const LONGEST: u32 = 10_000_000;
@@ -131,8 +131,8 @@ pub(super) fn flux_counts() -> Vec<NamedFile> {
     files.0
 }
 
-/// 15 for both or neither of the cell count and the flux count zero, before every
-/// refusal that is not given at once.
+/// 15 where cells and timings both stand in the file, or none of them does (rule 10.7). It
+/// goes before every refusal that is not given at once.
 pub(super) fn two_counts_or_none() -> Vec<NamedFile> {
     let mut files = Files::default();
     for n in [1, 8, 9, 19_999, 20_000, 131_072] {
@@ -339,8 +339,8 @@ pub(super) fn timings_at_their_limits() -> Vec<NamedFile> {
     files.0
 }
 
-/// 01's table of the separator, alone and after and before 20,000 cells that make the
-/// track long enough.
+/// The rows of rule 3.13, alone and after and before 20,000 cells that make the track long
+/// enough.
 pub(super) fn separator_rows() -> Vec<NamedFile> {
     let mut files = Files::default();
     for row in [

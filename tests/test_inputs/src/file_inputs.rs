@@ -1,13 +1,13 @@
-//! Made track files (01, "Track file and listing"): whole ones that reach every
-//! finding, and files at and past each limit, cut, too long or changed, that reach
-//! every refusal of the program and try the order of the refusals.
+//! Track files (section 10 of the specification): whole ones that reach every finding,
+//! and files at and past each limit, cut, too long or changed, that reach every refusal
+//! of the program and try the order of the refusals.
 
 mod made_tracks;
 mod random_files;
 mod refused_files;
 
-use crate::cells;
-use crate::flux_tracks::timings_of_cells;
+use crate::flux_inputs::timings_of_cells;
+use second_program::cells;
 
 pub use random_files::{changed_file, file_of_any_bytes, mixed_file, odd_file};
 
@@ -126,7 +126,7 @@ pub type FileGroup = (&'static str, fn() -> Vec<NamedFile>);
 
 /// All groups. The same files come each time.
 pub const GROUPS: [FileGroup; 19] = [
-    ("01's listings", made_tracks::printed_listings),
+    ("the listings of rule 11.10", made_tracks::known_listings),
     ("place counts", refused_files::place_counts),
     ("cell counts at their limit", refused_files::cell_counts),
     ("flux counts at their limit", refused_files::flux_counts),
@@ -165,9 +165,9 @@ pub fn files() -> impl Iterator<Item = NamedFile> {
 #[cfg(test)]
 mod tests {
     use super::*;
-    use crate::findings::KINDS;
-    use crate::refusal::MOST_SECTORS;
-    use crate::track_file::{self, ROOM_FOR_FINDINGS};
+    use second_program::findings::KINDS;
+    use second_program::refusal::MOST_SECTORS;
+    use second_program::track_file::{self, ROOM_FOR_FINDINGS};
     use std::collections::HashSet;
 
     #[test]
@@ -214,7 +214,7 @@ mod tests {
 
     #[test]
     fn the_groups_come_one_after_the_other() {
-        let first_group = made_tracks::printed_listings();
+        let first_group = made_tracks::known_listings();
         let second_group = refused_files::place_counts();
         let expected: Vec<NamedFile> = first_group.into_iter().chain(second_group).collect();
         let files: Vec<NamedFile> = files().take(expected.len()).collect();

@@ -181,7 +181,7 @@ pub(super) fn blocks_of_any_bytes() -> Vec<BlockCase> {
 #[cfg(test)]
 mod tests {
     use super::*;
-    use crate::track_block::revolution_bytes;
+    use second_program::track_block::revolution_bytes;
 
     #[test]
     fn broken_blocks_have_0_to_20_revolutions() {

@@ -1,5 +1,6 @@
 /*
- * The numbers that 01 prints, and a small track block, through include/thikbromu.h: every routine is called, and every refusal is given.
+ * The numbers that docs/SPECIFICATION.md gives to know (rules 1.17, 2.4, 3.13, 3.14, 6.19 and 11.10), and a small track block, through
+ * include/thikbromu.h: every routine is called, and every refusal is given.
  * The argument is samples/standard.track. It compiles as C99 and as C++.
  */
 #include "thikbromu.h"
@@ -89,7 +90,7 @@ static void test_coding(void)
     EXPECT(thikbromu_check_word_from(0xCDB4, data_mark, 1) == 0xE295);
 }
 
-/* A row of 01's table, from a residual. */
+/* A step of a row of rule 3.13, from a residual. */
 static void test_step(int32_t residual, uint32_t timing, size_t cells, int32_t after)
 {
     GIVES(thikbromu_step(&residual, timing, &value), cells);
@@ -430,7 +431,7 @@ int main(int count, char **arguments)
     static uint8_t file[BEFORE_CELLS + TRACK_BYTES + 4];
     FILE *input = count == 2 ? fopen(arguments[1], "rb") : NULL;
     if (input == NULL || fread(file, 1, sizeof file, input) != sizeof file) {
-        fprintf(stderr, "usage: paper samples/standard.track\n");
+        fprintf(stderr, "usage: known_numbers samples/standard.track\n");
         return 2;
     }
     fclose(input);

@@ -1,8 +1,8 @@
-//! The numbers that 01 prints, through the crate's functions.
+//! The numbers that docs/SPECIFICATION.md gives to know (rules 1.17, 2.4, 3.13, 3.14, 6.19 and 11.10), through the crate's functions.
 
 use thikbromu::*;
 
-/// 01's standard track, as a track file: six bytes of place, four of the count of cells, the cells, four of the count of timings.
+/// The standard track as a track file: six bytes of place, four of the count of cells, the cells, four of the count of timings.
 const STANDARD: &[u8] = include_bytes!("../../../samples/standard.track");
 
 /// A track like it, with bad checks and a sector without data.
@@ -51,7 +51,7 @@ fn coding_keeps_what_stands_behind() {
 
 #[test]
 fn decoding() {
-    // The sync A1 and the sync C2 decode to their bytes; an odd last byte is not read.
+    // The sync decodes to A1, and 5224 to C2; a last byte that stands alone is passed over.
     assert_eq!(decode_to_vec(&[0x44, 0x89, 0x52, 0x24, 0xFF]), Ok(vec![0xA1, 0xC2]));
     let mut bytes = [7; 1];
     assert_eq!(decode(&[0x55; 4], &mut bytes), Err(Refusal::NoRoomForBytes(2)));
@@ -84,7 +84,7 @@ fn check_words() {
     assert_eq!(check_word_from(after_syncs, &[0xFB]), 0xE295);
 }
 
-/// 01's table of timings: those of a row, the number of cells of each, and the residual after it.
+/// The rows of rule 3.13: the timings, the number of cells of each, and the residual after it.
 const ROWS: [(&[u32], &[usize], &[i32]); 6] = [
     (&[4900, 4000], &[2, 2], &[450, 225]),
     (&[4999], &[2], &[499]),
@@ -119,7 +119,7 @@ fn a_refused_step_keeps_the_state() {
             assert_eq!(stepped, Stepped { cells: Err(Refusal::TimingOutOfRange(0)), next: state });
         }
     }
-    // A residual outside its range is stepped as if it were 0.
+    // A residual outside its range counts as 0.
     assert_eq!(Separator::with_residual(500).step(4900), Separator::new().step(4900));
 }
 
@@ -130,7 +130,7 @@ fn cells_of_timings() {
     let mut room = [7; 2];
     assert_eq!(separate(&[5000, 5000], &mut room), Ok(5));
     assert_eq!(room, [0b0010_1000, 7]);
-    // Zero cells in all is accepted.
+    // Timings that give no cells are accepted.
     assert_eq!(separate_to_vec(&[1]), Ok(Cells { packed: vec![], count: 0 }));
 }
 
@@ -248,7 +248,7 @@ fn sectors_without_good_checks() {
 }
 
 #[test]
-fn listings_that_the_paper_prints() {
+fn the_listings_of_rule_11_10() {
     let nos = "3 NOS level 3 place 0 detail 0";
     assert_eq!(lines(Track::new(&[0xAA; 12_500], 100_000, 5, 0)), [nos, "4 TNF level 2 place 0 detail 0"]);
     assert_eq!(lines(Track::new(&[0xAA; 12_500], 100_000, 80, 0)), [nos]);
@@ -267,7 +267,7 @@ fn refused_tracks() {
         assert_eq!(track.sector(0), Err(refusal));
         assert_eq!(track.read_out_to_vec(0), Err(refusal));
     };
-    // In 01's order: the place, the number of cells, the bytes.
+    // In the order of rule 9.1: the place, the number of cells, the bytes.
     refused(Track::new(&[], 0, 84, 0), Refusal::TrackOrSide);
     refused(Track::new(packed, 100_000, 0, 2), Refusal::TrackOrSide);
     refused(Track::new(&[], FEWEST_CELLS - 1, 0, 0), Refusal::CellCount(19_999));

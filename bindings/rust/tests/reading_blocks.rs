@@ -118,11 +118,11 @@ fn what_is_no_track_block() {
     for length in 0..50 {
         refused(&THREE[..length]);
     }
-    // Values that start inside the table, which ends at 40.
+    // Offsets within the table, which ends at 40.
     refused(&with_entry(0, 3, 39));
     refused(&with_entry(1, 0, 39));
     accepted(&with_entry(1, 0, 40));
-    // Values that end beyond the block, at 50; also where 32 bits do not hold twice their number.
+    // Values beyond the block's last byte, at 50; also where 32 bits do not hold twice their number.
     refused(&with_entry(0, 1, 49));
     refused(&with_entry(1, 0, 51));
     refused(&with_entry(0, 6, 40));
@@ -130,7 +130,7 @@ fn what_is_no_track_block() {
     refused(&with_entry(0, 1, u32::MAX));
     accepted(&with_entry(0, 1, 48));
     accepted(&with_entry(1, 0, 50));
-    // Values that end in a 0: the bytes 46 to 48 are 0.
+    // A 0 as the last value: the bytes 46 to 48 are 0.
     refused(&with_entry(0, 4, 40));
     refused(&with_entry(1, 1, 46));
     refused(&with_entry(1, 1, 47));

@@ -157,7 +157,7 @@ pub(super) fn overlapping_blocks() -> Vec<BlockCase> {
 }
 
 /// 6: revolutions without values, their offset anywhere between the table's and the
-/// block's end; "both judged by its offset where it has none" just outside.
+/// block's end. Just outside of this, the offset alone brings 16 (rule 12.11).
 pub(super) fn without_values() -> Vec<BlockCase> {
     let mut cases = Cases::default();
     for empty in [vec![0], vec![1], vec![2], vec![0, 1], vec![0, 1, 2]] {

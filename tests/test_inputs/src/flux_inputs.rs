@@ -1,33 +1,27 @@
-//! 01, "What demand 3 says": made lists of flux transitions whose cells are known.
-//!
-//! "Reversals are written at true places in whole nanoseconds. Each after the first
-//! stands g cells after the one before, g being 2, 3 or 4, chosen anew each time,
-//! and their true places are 1950g to 2050g apart. [...] The drive reports one
-//! pulse for each reversal, at a whole nanosecond at most 250 before or after its
-//! true place. The timings are the differences of neighbouring reported pulses, in
-//! order."
+//! Lists of flux transitions whose cells are known: within the tolerance (rules 4.1 to
+//! 4.6), and without drift or shifts.
 
 use crate::random::Random;
 
-/// The least nanoseconds between true places for each cell.
+/// The least nanoseconds between true places for each cell (rule 4.3).
 const LEAST_FOR_A_CELL: i64 = 1_950;
-/// The most nanoseconds between true places for each cell.
+/// The most nanoseconds between true places for each cell (rule 4.3).
 const MOST_FOR_A_CELL: i64 = 2_050;
-/// How far a pulse lies at most from its true place.
+/// How far a pulse lies at most from its true place (rule 4.4).
 const MOST_SHIFT: i64 = 250;
 
-/// A list of flux transitions as demand 3 describes them.
+/// A list of flux transitions as section 4 of the specification has them.
 #[derive(Clone, Debug, PartialEq, Eq)]
 pub struct FluxTrack {
-    /// g for each flux transition after the first.
+    /// g for each flux transition but the first.
     pub gaps: Vec<usize>,
     /// The true places, one more than the gaps.
     pub true_places: Vec<i64>,
-    /// The reported pulses, one for each true place.
+    /// The pulses of the drive, one for each true place.
     pub pulses: Vec<i64>,
     /// The timings, one for each gap.
     pub timings: Vec<u32>,
-    /// The cells written, one to an element: for each g, g - 1 zeros and a one.
+    /// The cells written, one to an element (rule 4.6).
     pub cells: Vec<u8>,
 }
 
@@ -134,13 +128,13 @@ pub fn timings_of_cells(track_cells: &[u8]) -> Vec<u32> {
 #[cfg(test)]
 mod tests {
     use super::*;
-    use crate::cells;
-    use crate::refusal::Refusal;
-    use crate::separator;
+    use second_program::cells;
+    use second_program::refusal::Refusal;
+    use second_program::separator;
 
-    /// The whole claim of demand 3 about one list that is not refused. Gives the
-    /// greatest distance of a window centre from the pulse's true place.
-    fn assert_demand_3(track: &FluxTrack) -> i64 {
+    /// Rules 4.8 to 4.11 of one list that is not refused. Gives the greatest distance of
+    /// a window centre from the true place.
+    fn assert_within_tolerance(track: &FluxTrack) -> i64 {
         let needed = cells::bytes_needed(track.cells.len());
         let packed = cells::pack(&track.cells);
         assert_eq!(
@@ -168,7 +162,7 @@ mod tests {
     }
 
     #[test]
-    fn the_made_tracks_follow_demand_3() {
+    fn the_made_tracks_keep_to_the_tolerance() {
         let mut random = Random::new(3);
         for choice in [Choice::Any, Choice::Bounds, Choice::LongDrift] {
             let track = flux_track(&mut random, 500, choice);
@@ -191,10 +185,10 @@ mod tests {
         let mut random = Random::new(33);
         for choice in [Choice::Any, Choice::Bounds, Choice::LongDrift] {
             for timings in [1, 2, 3, 10, 1_000, 30_000] {
-                assert_demand_3(&flux_track(&mut random, timings, choice));
+                assert_within_tolerance(&flux_track(&mut random, timings, choice));
             }
             for _ in 0..100 {
-                assert_demand_3(&flux_track(&mut random, 20, choice));
+                assert_within_tolerance(&flux_track(&mut random, 20, choice));
             }
         }
     }
@@ -208,17 +202,18 @@ mod tests {
                     let gaps = vec![gap; 200];
                     let distances = vec![for_a_cell * gap as i64; 200];
                     let held = vec![first; 201];
-                    let distance = assert_demand_3(&flux_track_of(&gaps, &distances, &held));
+                    let distance =
+                        assert_within_tolerance(&flux_track_of(&gaps, &distances, &held));
                     greatest = greatest.max(distance);
                     let mut swapped = held.clone();
                     for shift in swapped.iter_mut().skip(100) {
                         *shift = -*shift;
                     }
-                    assert_demand_3(&flux_track_of(&gaps, &distances, &swapped));
+                    assert_within_tolerance(&flux_track_of(&gaps, &distances, &swapped));
                     for shift in swapped.iter_mut().step_by(2) {
                         *shift = -*shift;
                     }
-                    assert_demand_3(&flux_track_of(&gaps, &distances, &swapped));
+                    assert_within_tolerance(&flux_track_of(&gaps, &distances, &swapped));
                 }
             }
         }
@@ -264,6 +259,6 @@ mod tests {
         let shifts = vec![0; 65_537];
         let longest = flux_track_of(&gaps, &distances, &shifts);
         assert_eq!(longest.cells.len(), 131_072);
-        assert_demand_3(&longest);
+        assert_within_tolerance(&longest);
     }
 }

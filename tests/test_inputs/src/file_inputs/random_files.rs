@@ -3,7 +3,7 @@
 
 use super::refused_files::{short_files, timings_of_count, LONGEST, TOO_LONG};
 use super::{file_of_cells, file_of_timings, named, FilePlan, NamedFile};
-use crate::flux_tracks::timings_of_cells;
+use crate::flux_inputs::timings_of_cells;
 use crate::random::Random;
 use crate::track_builder::{filled, odd_sector, odd_track, turn, TrackBuilder};
 

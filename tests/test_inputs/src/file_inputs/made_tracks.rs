@@ -1,14 +1,14 @@
-//! Files of made tracks: 01's printed ones, and tracks just inside and just outside
-//! the rules of 01's "Findings".
+//! Files of made tracks: those of rule 11.10, and tracks just inside and just outside the
+//! rules of the findings.
 
 use super::{FilePlan, Files, NamedFile};
-use crate::cells;
 use crate::track_builder::{
     filled, nine_sectors, standard_track, turn, SectorPlan, TrackBuilder, STANDARD_TRACK_CELLS,
 };
+use second_program::cells;
 
-/// 01's four whole listings, and the same tracks as timings.
-pub(super) fn printed_listings() -> Vec<NamedFile> {
+/// The four tracks of rule 11.10 as cells, and again as timings.
+pub(super) fn known_listings() -> Vec<NamedFile> {
     let every_second = [1, 0].repeat(STANDARD_TRACK_CELLS / 2);
     let zeros = vec![0; STANDARD_TRACK_CELLS];
     let standard = standard_track(0, 0, 0xE5);
@@ -157,8 +157,8 @@ fn one_odd_sector(change: impl Fn(&mut SectorPlan)) -> Vec<u8> {
 /// One thing in a sector plan, and the values that it takes.
 type Change = (&'static str, fn(&mut SectorPlan, u32), &'static [u32]);
 
-/// What is changed in a sector, each value just inside or just outside a rule of 01's
-/// findings 6 to 15.
+/// What is changed in a sector, each value just inside or just outside the rule of one of
+/// the kinds 6 to 15.
 const CHANGES: [Change; 10] = [
     (
         "number",
@@ -215,7 +215,7 @@ fn overwritten(place: usize, written: &[u8]) -> Vec<u8> {
     track_cells
 }
 
-/// Tracks just inside and just outside 01's rules of findings.
+/// Tracks just inside and just outside the rules of the findings.
 fn tracks_at_the_rules() -> Vec<(String, u8, Vec<u8>)> {
     let mut tracks = Vec::new();
     for (what, change, values) in CHANGES {

@@ -1,13 +1,12 @@
-//! Blocks as the device writes them. "The sampling of transitions always starts at the
-//! index pulse" (source document 000, section 4.9.2), and "in (almost) all cases the index
-//! pulse and the data pulse are not synchronized". We read this so that the first value of
-//! revolution 0 runs from the index to the first flux transition, which is no time between
-//! two of them. The first value of each later revolution is the whole interval over the
-//! index.
+//! Blocks as the device writes them (the notes at the end of section 12 of the
+//! specification). It starts to count at the index, and a pulse hardly ever falls there.
+//! So the first value of revolution 0 runs from the index to the first flux transition,
+//! which is no time between two of them. The first value of each later revolution is the
+//! whole interval over the index.
 
 use super::flux_blocks::{gaps_of, reported_flux, UNIT};
 use super::{block_of_timings, track_that_ends_in_a_one, BlockCase, BlockPlan, Cases};
-use crate::flux_tracks::{flux_track_of, Choice, FluxTrack};
+use crate::flux_inputs::{flux_track_of, Choice, FluxTrack};
 use crate::random::Random;
 use crate::track_builder::{odd_track, standard_track, turn};
 
@@ -34,7 +33,7 @@ const PLACES: [IndexPlace; 4] = [
 ];
 
 /// How pulses are shifted: not at all, each 2,000 ns for each cell after the one before; or
-/// within demand 3's tolerance, in any of three manners.
+/// within the tolerance, in any of three manners.
 const JITTERS: [Option<Choice>; 4] = [
     None,
     Some(Choice::Any),
@@ -102,7 +101,8 @@ impl Sampling {
     }
 }
 
-/// Reversals so many cells apart, each pulse at its true place, 2,000 ns for each cell.
+/// Flux transitions so many cells apart, each pulse at its true place, 2,000 ns for each
+/// cell.
 fn even_flux(gaps: &[usize]) -> FluxTrack {
     let distances: Vec<i64> = gaps.iter().map(|&gap| 2_000 * gap as i64).collect();
     flux_track_of(gaps, &distances, &vec![0; gaps.len() + 1])
@@ -215,9 +215,8 @@ pub(super) fn odd_tracks() -> Vec<BlockCase> {
         let plan = sampling.block(&mut random, &track_cells);
         cases.add_all(&format!("odd track of seed {seed}"), &plan);
     }
-    // "It is possible to have the No Flux Area located over the Index pulse", of 4.3 ms as
-    // in the source, or of 12 ms, which is no timing: revolution 0 has only what comes
-    // after the index.
+    // A stretch without flux may lie over the index. One of 4.3 ms is known from a disk; one
+    // of 12 ms is out of range. Revolution 0 has only the part behind the index.
     let mut random = Random::new(84);
     for no_flux_cells in [2_150, 6_000] {
         let track_cells = track_with_no_flux_area(no_flux_cells);
@@ -241,10 +240,10 @@ pub(super) fn odd_tracks() -> Vec<BlockCase> {
 #[cfg(test)]
 mod tests {
     use super::*;
-    use crate::cells;
-    use crate::listing::listing;
-    use crate::track_block::{printed, revolution_cells, revolution_timings};
-    use crate::track_files::file_of_cells;
+    use crate::file_inputs::file_of_cells;
+    use second_program::cells;
+    use second_program::listing::listing;
+    use second_program::track_block::{printed, revolution_cells, revolution_timings};
 
     /// The timings of a revolution of a plan.
     fn timings_of(plan: &BlockPlan, revolution: u32) -> Vec<u32> {
@@ -370,9 +369,8 @@ mod tests {
             jitter: None,
             revolutions: 2,
         };
-        // ".. the No Flux Area is just not transmitted on the first rotation", here but for
-        // one unit. "On the second revolution the NFA is passed as if it was the first
-        // transition."
+        // The stretch lies before the index but for one unit, which is all that revolution
+        // 0 has of it. Revolution 1 has the whole stretch as its first timing.
         let plan = sampling.block(&mut Random::new(93), &track_with_no_flux_area(2_150));
         assert_eq!(timings_of(&plan, 0)[0], 25);
         assert!((4_300_000..4_310_000).contains(&timings_of(&plan, 1)[0]));
