@@ -1,14 +1,13 @@
 /*
  * The library's routines for C and C++. Link target/staticlib/libthikbromu.a, which `rt staticlib thikbromu` writes.
  *
- * "01" is the scope paper, docs/01-scope.md; "02" is the paper of later requests, whose ticket 3 adds track blocks. What each routine gives
- * is proved; the statements are the `ensures` clauses in crates/thikbromu/src. That these declarations are its own is not proved:
- * .ci/bindings compares the names and calls every routine.
+ * The numbers of rules are those of docs/SPECIFICATION.md. What each routine gives is proved; the statements are the `ensures` clauses in
+ * crates/thikbromu/src. That these declarations are its own is not proved: .ci/bindings compares the names and calls every routine.
  *
- * Answers. A routine of which some calls are refused returns 0 where it accepts the call, else the refusal's number
- * (enum thikbromu_refusal). At `value` it stores what the call gives, or what the refusal gives also. Beside a refusal nothing else is
- * written, but that a record or a count table is set to zeros. The refusals of a routine are judged in the order in which its comment names
- * them, and the first that holds is given.
+ * Answers (rules 8.31 to 8.33 and 9.31). A routine of which some calls are refused returns 0 where it accepts the call, else the refusal's
+ * number (enum thikbromu_refusal). At `value` it stores what the call gives, or what is given beside the refusal. A refused call writes
+ * nothing else, except that it sets the numbers of a record or the counts of a histogram to 0. The refusals of a routine are judged in the
+ * order in which its comment names them, and the first that holds is given.
  *
  * What a caller must see to:
  * - each address is valid for its length, counted in elements, and aligned for its type; it is not NULL, also where the length is 0;
@@ -29,7 +28,7 @@
 extern "C" {
 #endif
 
-/* 01's limits. */
+/* Limits (rules 3.1 and 8.1 to 8.14). */
 #define THIKBROMU_HIGHEST_TRACK 83
 #define THIKBROMU_HIGHEST_SIDE 1
 #define THIKBROMU_FEWEST_CELLS 20000
@@ -46,61 +45,61 @@ extern "C" {
 #define THIKBROMU_HISTOGRAM_COUNTS 256
 #define THIKBROMU_SECTOR_NUMBERS 11
 #define THIKBROMU_FINDING_NUMBERS 4
-#define THIKBROMU_MOST_FINDINGS 901 /* no track of 64 sectors brings more */
+#define THIKBROMU_MOST_FINDINGS 901 /* no track of 64 sectors brings more (rule 7.35) */
 #define THIKBROMU_LONGEST_SECTOR 1024
 #define THIKBROMU_PLACE_NUMBERS 2 /* the track and the side */
 #define THIKBROMU_LONGEST_LISTING 65536
 #define THIKBROMU_LONGEST_FILE 278542 /* both sections at their longest; a longer file is answered as its first 278,543 bytes are */
 
-/* 01's refusals and the two that 02 adds, by their numbers; behind each, what it gives also. */
+/* The refusals by their numbers: rule 8.K is refusal K. After the semicolon, what is given beside it. */
 enum thikbromu_refusal {
     THIKBROMU_REFUSED_TRACK_OR_SIDE = 1,        /* the track is above 83 or the side above 1; 0 */
-    THIKBROMU_REFUSED_CELL_COUNT = 2,           /* fewer than 20,000 or more than 131,072 cells; the cells */
-    THIKBROMU_REFUSED_TOO_FEW_BYTES = 3,        /* fewer bytes than the cells need; the bytes needed */
-    THIKBROMU_REFUSED_TOO_MANY_SECTORS = 4,     /* more than 64 sectors; the sectors on the track */
-    THIKBROMU_REFUSED_LIST_TOO_SHORT = 5,       /* the findings list is too short; the findings */
-    THIKBROMU_REFUSED_NO_TIMINGS = 6,           /* no timings; 0 */
-    THIKBROMU_REFUSED_TOO_MANY_TIMINGS = 7,     /* more than 65,536 timings; the timings */
-    THIKBROMU_REFUSED_TIMING_OUT_OF_RANGE = 8,  /* a timing outside 1 to 10,000,000; the index of the first */
-    THIKBROMU_REFUSED_TOO_MANY_CELLS = 9,       /* more than 131,072 cells in all; the cells */
-    THIKBROMU_REFUSED_NO_ROOM = 10,             /* too little room; the bytes that the cells need, or the timings needed */
-    THIKBROMU_REFUSED_NO_SUCH_SECTOR = 11,      /* no sector of that index; the sectors */
-    THIKBROMU_REFUSED_NO_DATA_READ = 12,        /* that sector has no data read; 0 */
-    THIKBROMU_REFUSED_NO_ROOM_FOR_BYTES = 13,   /* too little room for the bytes; the bytes needed */
-    THIKBROMU_REFUSED_TOO_MANY_BYTES = 14,      /* more than 8,192 bytes to code, 16,384 to decode; the bytes given */
-    THIKBROMU_REFUSED_NOT_A_TRACK_FILE = 15,    /* not a track file; 0 */
-    THIKBROMU_REFUSED_NOT_A_TRACK_BLOCK = 16,   /* not a track block; 0 */
-    THIKBROMU_REFUSED_NO_SUCH_REVOLUTION = 17   /* a revolution that the track block lacks; 0 */
+    THIKBROMU_REFUSED_CELL_COUNT = 2,           /* less than 20,000 cells, or more than 131,072; how many */
+    THIKBROMU_REFUSED_TOO_FEW_BYTES = 3,        /* bytes of the cells are missing; how many bytes they need */
+    THIKBROMU_REFUSED_TOO_MANY_SECTORS = 4,     /* more than 64 sectors; how many */
+    THIKBROMU_REFUSED_LIST_TOO_SHORT = 5,       /* more findings than the list holds; how many */
+    THIKBROMU_REFUSED_NO_TIMINGS = 6,           /* there is no timing; 0 */
+    THIKBROMU_REFUSED_TOO_MANY_TIMINGS = 7,     /* more than 65,536 timings; how many */
+    THIKBROMU_REFUSED_TIMING_OUT_OF_RANGE = 8,  /* some timing is not 1 to 10,000,000; the least index of such a one */
+    THIKBROMU_REFUSED_TOO_MANY_CELLS = 9,       /* more than 131,072 cells come of the timings; how many */
+    THIKBROMU_REFUSED_NO_ROOM = 10,             /* no room for the cells or the timings; how many bytes, or timings */
+    THIKBROMU_REFUSED_NO_SUCH_SECTOR = 11,      /* the index is not below the number of sectors; that number */
+    THIKBROMU_REFUSED_NO_DATA_READ = 12,        /* no data of this sector is read (rule 6.12); 0 */
+    THIKBROMU_REFUSED_NO_ROOM_FOR_BYTES = 13,   /* no room for the bytes; how many */
+    THIKBROMU_REFUSED_TOO_MANY_BYTES = 14,      /* over 8,192 bytes to code, or 16,384 to decode; how many */
+    THIKBROMU_REFUSED_NOT_A_TRACK_FILE = 15,    /* the bytes are no track file; 0 */
+    THIKBROMU_REFUSED_NOT_A_TRACK_BLOCK = 16,   /* the bytes are no track block; 0 */
+    THIKBROMU_REFUSED_NO_SUCH_REVOLUTION = 17   /* the block has no such revolution; 0 */
 };
 
-/* 01's kinds of findings, by their numbers; behind each, its level and when it stands. T is the drive's track, N the number of cells,
- * p the place of the sector's ID mark, q that of its data mark. The place is p for kinds 6 to 19 and 0 for kinds 1 to 5. */
+/* The kinds of findings by their numbers, with their levels: rule 7.K is that of kind K. T is the track of the drive, N how many cells
+ * there are, p the place of a sector, q that of its data mark. The finding's place is 0 for kinds 1 to 5 and p for kinds 6 to 19. */
 enum thikbromu_kind {
-    THIKBROMU_KIND_LGT = 1,   /* 1: N above 103,000; detail N */
-    THIKBROMU_KIND_SHT = 2,   /* 1: N below 97,000; detail N */
-    THIKBROMU_KIND_NOS = 3,   /* 3: sectors below 9 or above 10; detail sectors */
-    THIKBROMU_KIND_TNF = 4,   /* 2: no sector, T at most 79; detail 0 */
-    THIKBROMU_KIND_EXT = 5,   /* 2: a sector, T at least 80; detail sectors */
-    THIKBROMU_KIND_DSN = 6,   /* 1: an earlier sector has this number; detail number */
-    THIKBROMU_KIND_ISN = 7,   /* 1: number 245 to 247; detail number */
-    THIKBROMU_KIND_ITN = 8,   /* 2: ID track is not T; detail ID track */
-    THIKBROMU_KIND_IIF = 9,   /* 2: ID track above 83, side above 1 or size code above 3; detail side */
-    THIKBROMU_KIND_SSZ = 10,  /* 2: size code neither 2 nor 3; detail code */
-    THIKBROMU_KIND_NSI = 11,  /* 2: ID mark not FE; detail mark */
-    THIKBROMU_KIND_NSD = 12,  /* 2: a data mark, neither F8 nor FB; detail data mark */
-    THIKBROMU_KIND_SBI = 13,  /* 1: ID check bad; detail number */
-    THIKBROMU_KIND_SND = 14,  /* 1: ID check good, no data mark; detail number */
-    THIKBROMU_KIND_SBD = 15,  /* 1: data read, check bad; detail number */
-    THIKBROMU_KIND_DOI = 16,  /* 1: data read, q below N, its end above N; detail end - N */
-    THIKBROMU_KIND_DBI = 17,  /* 1: data mark with q at least N; detail q - N */
-    THIKBROMU_KIND_SWS = 18,  /* 1: p, or p + N, lies at or after q and before the end of another sector's data; detail number */
-    THIKBROMU_KIND_SID = 19,  /* 3: 4489 lies between p+64 and p+160 or between q+64 and the data end, any phase; detail how many */
-    THIKBROMU_KIND_MTV = 20,  /* 3: a one whose next one is 1 or more than 4 cells on; place the first such, detail how many */
-    THIKBROMU_KIND_NFA = 21   /* 1: the longest run of zeros has 1,000 or more; place its start, detail its length */
+    THIKBROMU_KIND_LGT = 1,   /* level 1: N is more than 103,000; detail: N */
+    THIKBROMU_KIND_SHT = 2,   /* level 1: N is less than 97,000; detail: N */
+    THIKBROMU_KIND_NOS = 3,   /* level 3: less than 9 sectors, or more than 10; detail: how many */
+    THIKBROMU_KIND_TNF = 4,   /* level 2: there are no sectors, and T is 79 or less; detail: 0 */
+    THIKBROMU_KIND_EXT = 5,   /* level 2: there are sectors, and T is 80 or more; detail: how many */
+    THIKBROMU_KIND_DSN = 6,   /* level 1: a sector with a smaller place has the same number; detail: the number */
+    THIKBROMU_KIND_ISN = 7,   /* level 1: the number is 245, 246 or 247; detail: the number */
+    THIKBROMU_KIND_ITN = 8,   /* level 2: the track in the ID differs from T; detail: the track in the ID */
+    THIKBROMU_KIND_IIF = 9,   /* level 2: the ID has a track from 84 on, a side from 2 on, or a size code from 4 on; detail: the ID's side */
+    THIKBROMU_KIND_SSZ = 10,  /* level 2: the size code is not 2 and not 3; detail: the size code */
+    THIKBROMU_KIND_NSI = 11,  /* level 2: the ID mark is FC, FD or FF; detail: the mark */
+    THIKBROMU_KIND_NSD = 12,  /* level 2: the data mark is F9 or FA; detail: the mark */
+    THIKBROMU_KIND_SBI = 13,  /* level 1: the ID check is bad; detail: the number */
+    THIKBROMU_KIND_SND = 14,  /* level 1: the ID check is good, but there is no data mark; detail: the number */
+    THIKBROMU_KIND_SBD = 15,  /* level 1: data is read, and its check is bad; detail: the number */
+    THIKBROMU_KIND_DOI = 16,  /* level 1: data is read, its mark before the index and its end behind it; detail: its end - N */
+    THIKBROMU_KIND_DBI = 17,  /* level 1: the data mark is behind the index, so q is N or more; detail: q - N */
+    THIKBROMU_KIND_SWS = 18,  /* level 1: the data of another sector covers p (rule 7.37); detail: the number */
+    THIKBROMU_KIND_SID = 19,  /* level 3: syncs stand in the ID or in the data (rule 7.38); detail: how many */
+    THIKBROMU_KIND_MTV = 20,  /* level 3: ones with a distance of 1, or of 5 or more, to the next; place: the first, detail: how many */
+    THIKBROMU_KIND_NFA = 21   /* level 1: a run of 1,000 zeros or more; place: the start of the longest, detail: its length */
 };
 
-/* A finding: its kind from 1 to 21, the kind's level, its place in cells, and its detail. Two bytes lie unused after the level, so that
- * the record has twelve. */
+/* A finding (rule 7.31): its kind, the level of the kind, its place in cells, and its detail. Two bytes lie unused after the level, so
+ * that the record has twelve. */
 struct thikbromu_finding {
     uint8_t kind;
     uint8_t level;
@@ -108,7 +107,7 @@ struct thikbromu_finding {
     uint32_t detail;
 };
 
-/* Where what stands among the eleven numbers of a sector's record. */
+/* Where what stands among the eleven numbers of a sector's record (rules 6.16 and 9.34). */
 enum thikbromu_sector_number {
     THIKBROMU_SECTOR_PLACE = 0,           /* p, the cell of the ID mark, 0 to N-1 */
     THIKBROMU_SECTOR_MARK = 1,            /* the byte of the ID mark, FC to FF */
@@ -117,25 +116,25 @@ enum thikbromu_sector_number {
     THIKBROMU_SECTOR_NUMBER = 4,          /* number */
     THIKBROMU_SECTOR_SIZE_CODE = 5,       /* and size code */
     THIKBROMU_SECTOR_ID_CHECK_GOOD = 6,   /* 1 where the ID check is good, else 0 */
-    THIKBROMU_SECTOR_DATA_PLACE = 7,      /* q, the cell of the data mark, counted on past N; 0 where there is none */
-    THIKBROMU_SECTOR_DATA_MARK = 8,       /* the byte of the data mark, F8 to FB; 0 where there is none */
-    THIKBROMU_SECTOR_DATA_LENGTH = 9,     /* L, the bytes of data; 0 where no data is read */
+    THIKBROMU_SECTOR_DATA_PLACE = 7,      /* q, the cell of the data mark, perhaps N or more; 0 where none is found */
+    THIKBROMU_SECTOR_DATA_MARK = 8,       /* the byte of the data mark, F8 to FB; 0 where none is found */
+    THIKBROMU_SECTOR_DATA_LENGTH = 9,     /* L, how many data bytes; 0 where no data is read */
     THIKBROMU_SECTOR_DATA_CHECK_GOOD = 10 /* 1 where the data check is good; 0 where it is bad or no data is read */
 };
 
 /*
- * Cells. A track is n cells, circular: cell n is cell 0, the index. They are packed eight to a byte, highest bit first, in `bytes`, of
- * which there are `length`. Cells past the bytes are 0, and so is every cell of a track of none.
+ * Cells (rules 1.1 to 1.9). A track is a ring of n cells. A byte holds eight of them, the first as its highest bit; `bytes` has `length`
+ * bytes. A cell for which there is no byte is 0, and so are all cells where n is 0. A place may be n or more.
  */
 
-/* Cell p of the track, counted on past n. */
+/* The cell at place p. */
 uint64_t thikbromu_cell(const uint8_t *bytes, size_t length, size_t n, size_t p);
 
 /* The word of k cells from p, the first of them its highest bit; a k above 64 counts as 64. */
 uint64_t thikbromu_word(const uint8_t *bytes, size_t length, size_t n, size_t p, size_t k);
 
-/* The least place from `from` and before `to`, counted on past n, at which the word x of k cells stands; a k above 64 counts as 64.
- * Where there is none, the greater of the two. */
+/* The least place from `from` on and before `to` at which the word x of k cells stands; a k above 64 counts as 64. Where there is none,
+ * the greater of the two. */
 size_t thikbromu_find_word(const uint8_t *bytes, size_t length, size_t n, uint64_t x, size_t k, size_t from, size_t to);
 
 /* Sets the first k bytes, or all where there are fewer, to 0. */
@@ -144,58 +143,59 @@ void thikbromu_clear(uint8_t *bytes, size_t length, size_t k);
 /* Puts a one at cell p, where the bytes have such a cell. */
 void thikbromu_put_one(uint8_t *bytes, size_t length, size_t p);
 
-/* The check word of bytes: polynomial 1021 (hexadecimal), start FFFF, highest bit first. */
+/* The check word of bytes (rules 2.1 and 2.2). */
 uint16_t thikbromu_check_word(const uint8_t *bytes, size_t length);
 
-/* The check word after bytes, from the word that the bytes before them left. */
+/* The check word after bytes, from the word that the bytes before them left (rule 2.3). */
 uint16_t thikbromu_check_word_from(uint16_t word, const uint8_t *bytes, size_t length);
 
-/* Coding: two bytes of cells for each byte, after the data bit `before`. Gives the bytes of cells written, at the front of `cells`; those
- * behind keep their contents. Refuses 14, 13. */
+/* Coding (rule 9.8). `before` is the data bit ahead of the first byte. Gives how many bytes of cells it wrote to the front of `cells`, two
+ * for each byte; those behind keep their contents. Refuses 14, 13. */
 uint32_t thikbromu_encode(const uint8_t *bytes, size_t length, bool before, uint8_t *cells, size_t room, size_t *value);
 
-/* Decoding: one byte for each two bytes of cells, an odd last byte not read. Gives the bytes written, at the front of `bytes`. Refuses 14,
- * 13. */
+/* Decoding (rule 9.9). Two bytes of cells make a byte; where their number is odd, the last is passed over. Gives how many bytes it wrote to
+ * the front of `bytes`. Refuses 14, 13. */
 uint32_t thikbromu_decode(const uint8_t *cells, size_t length, uint8_t *bytes, size_t room, size_t *value);
 
 /*
- * The separator, from timings in nanoseconds to cells. Its state is the residual r, at first 0. One outside -500 to 499 is stepped as if
- * it were 0.
+ * The separator, from timings in nanoseconds to cells (rules 3.1 to 3.14). Its state is the residual r, which is 0 before the first timing.
+ * An r below -500 or above 499 counts as 0.
  */
 
-/* One step, on a residual that the caller lends: it is advanced in its place, and kept beside a refusal. Gives the number of cells, n - 1
- * zeros and a one, or none where n is 0. Refuses 8, with index 0. */
+/* One step (rule 9.5) on a residual that the caller lends: it becomes the next one, and stays as it is beside a refusal. Gives the number of
+ * cells, of which the last is a one and the others are zeros; it may be 0. Refuses 8, with index 0. */
 uint32_t thikbromu_step(int32_t *residual, uint32_t timing, size_t *value);
 
-/* The separator on a list, r at first 0. Gives the number of cells, packed at the front of `cells`; unused bits of the last byte written
- * are 0, and bytes after it keep their contents. Refuses 6, 7, 8, 9, 10. */
+/* The separator on a list (rule 9.6), from r = 0. Gives the number of cells, packed at the front of `cells`. Spare bits in the last byte of
+ * the cells become 0; what stands behind that byte is kept. Refuses 6, 7, 8, 9, 10. */
 uint32_t thikbromu_separate(const uint32_t *timings, size_t length, uint8_t *cells, size_t room, size_t *value);
 
-/* The histogram: 256 counts to the front of `counts`, or as many as it has room for. Count i is of timings 100i to 100i+99, count 255 of
- * all from 25,500 up. Gives the number of timings. Refuses 6, 7, 8, the counts then all zeros. */
+/* The histogram (rules 5.1 to 5.3, 9.7 and 9.35): 256 counts to the front of `counts`, or as many as it has room for. A timing t raises
+ * count t / 100, rounded down, and one from 25,500 on count 255. Gives the number of timings. Refuses 6, 7, 8, all counts then 0. */
 uint32_t thikbromu_histogram(const uint32_t *timings, size_t length, uint32_t *counts, size_t room, size_t *value);
 
 /*
- * A SuperCard Pro track block: the letters TRK, the track number, a table of twelve bytes for each revolution (index time, number of
- * values, their offset from the block's start, each 32 bits, low byte first), then values of 16 bits, high byte first, in units of 25 ns.
- * A value of 0 adds 65,536 to the next. `revolutions` is their number, from the image's header; `revolution` is the chosen one, from 0. The
- * first values of a later revolution are not joined to the one before. The track number and the index times are not looked at. In an image
- * that the device writes, revolution 0 begins at the index, and not at a flux transition: its cells there may be wrong.
+ * A SuperCard Pro track block (rules 12.1 to 12.7): the three letters TRK and a track number; then a table, which has for each revolution
+ * its index time, how many values it has, and at which byte of the block they begin, as numbers of four bytes, the lowest first; then the
+ * values, two bytes each, the higher first. Their unit is 25 ns, and a value of 0 makes the value after it longer by 65,536 units.
+ * `revolutions` is how many the header of the image says there are; `revolution` is the chosen one, counted from 0. Each revolution stands
+ * alone: the end of one adds nothing to the next. The track number and the index times are not looked at. In an image that the device
+ * writes, revolution 0 begins at the index, and not at a flux transition: its cells there may be wrong.
  *
- * 16 is given exactly where the letters are not TRK, the table is cut short, or the values of some revolution, the chosen one or another,
- * start before the table's end, end beyond the block (both judged by its offset where it has none) or end in a 0.
+ * The block is refused with 16 by rules 12.8 to 12.11: the letters are others, bytes of the table are missing, or a revolution, the chosen
+ * one or another, has an offset within the table, values that do not all lie in the block, or a 0 as its last value.
  */
 
-/* The timings of the chosen revolution, in nanoseconds, at the front of `timings`; those behind keep their contents. Gives the number of
- * timings. Refuses 16, 17, 6, 7, 8, 10, the last with the timings needed. */
+/* The timings of the chosen revolution (rule 9.14), in nanoseconds, at the front of `timings`; those behind keep their contents. Gives the
+ * number of timings. Refuses 16, 17, 6, 7, 8, 10, the last with how many timings there are. */
 uint32_t thikbromu_revolution_timings(const uint8_t *block, size_t length, uint32_t revolutions, uint32_t revolution, uint32_t *timings,
                                       size_t room, size_t *value);
 
-/* The same by portions: the bytes of one revolution's values are handed over in their order, cut between any two of them, and each call
- * gives the timings that end in its portion. Where nothing is refused, the timings in all are those of the whole revolution. Refuses 7, 8,
- * both counted from the revolution's start, and 10, with the timings that end in this portion; the state is then kept, so that the portion
- * may be handed over again. No portion is the last, so none is refused with 6, 16 or 17: zeros at the end of a revolution, and half a value there,
- * give nothing, where thikbromu_revolution_timings refuses the block.
+/* The same by portions (rules 12.15 to 12.24): the caller hands over the bytes of one revolution's values in their order, a part at a time,
+ * cut anywhere. A call gives the timings whose last byte is in its part. As long as no call is refused, they are together those of the
+ * whole revolution. Refuses 7 and 8, with numbers that count all timings of the revolution so far, and 10, with how many timings end in
+ * this portion; the state is then kept, so that the portion may be handed over again. No portion is the last, so none is refused with 6, 16
+ * or 17: zeros or half a value at the very end of a revolution give nothing, where thikbromu_revolution_timings refuses the block.
  *
  * The state is one number, which the caller keeps from call to call; it is 0 before the first portion. Calls leave the numbers
  * held + 257 * (zeros + 8 * timings): held is 0, or 1 more than the first byte of a value whose second is still to come; zeros is how many
@@ -203,28 +203,29 @@ uint32_t thikbromu_revolution_timings(const uint8_t *block, size_t length, uint3
 uint32_t thikbromu_revolution_portion(uint32_t *state, const uint8_t *portion, size_t length, uint32_t *timings, size_t room,
                                       size_t *value);
 
-/* The cells of the chosen revolution: its timings go to the separator. Gives the number of cells, packed at the front of `cells` as
- * thikbromu_separate leaves them. Refuses 16, 17, 6, 7, 8, 9, 10, the last with the bytes that the cells need. The timings take 262,144 bytes
- * of the stack. */
+/* The cells of the chosen revolution (rule 9.16): its timings go to the separator. Gives the number of cells, packed at the front of `cells`
+ * as thikbromu_separate leaves them. Refuses 16, 17, 6, 7, 8, 9, 10, the last with the bytes that the cells need. The timings take 262,144
+ * bytes of the stack. */
 uint32_t thikbromu_revolution_cells(const uint8_t *block, size_t length, uint32_t revolutions, uint32_t revolution, uint8_t *cells,
                                     size_t room, size_t *value);
 
 /*
- * A track: n cells in `bytes`; `track` and `side` are the drive's, T and H. Bytes past those that the cells need are not looked at.
+ * A track: n cells in `bytes`; `track` and `side` are the drive's, T and H. Bytes after those that the cells need are not looked at.
  */
 
-/* Sector `index`, from 0, in the order of their places: its record at the front of `numbers`, eleven as enum thikbromu_sector_number has
- * them, or as many as it has room for. Gives the number of sectors. Refuses 1, 2, 3, 4, 11, the record then all zeros. */
+/* A sector (rules 6.5 and 9.2). `index` counts from 0, in the order of their places. Its record goes to the front of `numbers`, eleven as
+ * enum thikbromu_sector_number has them, or as many as there is room for. Gives the number of sectors. Refuses 1, 2, 3, 4, 11, all numbers
+ * then 0. */
 uint32_t thikbromu_sector(const uint8_t *bytes, size_t length, size_t n, uint32_t track, uint32_t side, size_t index, uint32_t *numbers,
                           size_t room, size_t *value);
 
-/* Reads out sector `index` to the front of `buffer`. Gives the number of bytes, and stores at `good` 1 where their check is good, else 0.
- * A bad check does not refuse the call. Refuses 1, 2, 3, 4, 11, 12, 13. */
+/* Reads out sector `index` to the front of `buffer` (rules 6.18, 9.4 and 9.32). Gives the number of bytes, and stores at `good` 1 where
+ * their check is good, else 0. A bad check does not refuse the call. Refuses 1, 2, 3, 4, 11, 12, 13. */
 uint32_t thikbromu_read_out(const uint8_t *bytes, size_t length, size_t n, uint32_t track, uint32_t side, size_t index, uint8_t *buffer,
                             size_t room, uint32_t *good, size_t *value);
 
-/* The findings, ordered by kind, then place, at the front of the list: four numbers for each, its kind, level, place and detail. `room`
- * counts numbers. Gives the number of findings. Refuses 1, 2, 3, 4, 5. */
+/* The findings (rules 7.32, 7.34 and 9.1) at the front of the list, in the order of their kinds, those of one kind by their places. Each
+ * has four numbers: its kind, level, place and detail. `room` counts numbers. Gives the number of findings. Refuses 1, 2, 3, 4, 5. */
 uint32_t thikbromu_findings(const uint8_t *bytes, size_t length, size_t n, uint32_t track, uint32_t side, uint32_t *list, size_t room,
                             size_t *value);
 
@@ -233,27 +234,28 @@ uint32_t thikbromu_finding_records(const uint8_t *bytes, size_t length, size_t n
                                    struct thikbromu_finding *list, size_t room, size_t *value);
 
 /*
- * A track file, whole in memory: the place (a count of 2, the track, the side), the cells (their count, then packed bytes), the flux (the
- * count of timings, then 32 bits for each); a count has 32 bits, and every number its low byte first. One of the two counts is 0.
+ * A track file, whole in memory (rules 10.1 to 10.3): the number 2, the track and the side; how many cells there are, and these, packed; how
+ * many timings there are, and these. The track and the side have a byte, the other numbers four bytes, the lowest first. A file has cells
+ * or timings, and 0 as the number of the others.
  *
- * Refusals of a file: as soon as a count is read, 15 for a place count that is not 2, then 2 for more than 131,072 cells, then 7 for more
- * than 65,536 timings, whatever follows the count. After these 15, for a file that is cut short, has bytes left over, or has both or
- * neither of cells and timings. Then 8 and 9 for its timings. Both routines read the cells into 16,384 bytes of the stack first.
+ * Refusals of a file (rules 10.4 to 10.8): at once, whatever follows, 15 where the first number is not 2, 2 where there are more than
+ * 131,072 cells, 7 where there are more than 65,536 timings. Then 15 where bytes are missing or left over, or where the file has cells and
+ * timings, or none of them. Then 8 and 9 for its timings. Both routines read the cells into 16,384 bytes of the stack first.
  */
 
-/* The cells of a file, packed at the front of `cells`; bytes behind them keep their contents. Unused bits of the last byte are the file's,
- * and 0 where the cells come from timings. Gives the number of cells, and stores the track and the side at the front of `place`, or as many
- * of the two as there is room for. Refuses a file as above, and then 10, with the bytes that its cells need. The track, the side and fewer
- * than 20,000 cells are not judged here: the routines on a track do that. */
+/* The cells of a file (rules 9.11, 9.33 and 10.16), packed at the front of `cells`; bytes behind them keep their contents. Spare bits of the
+ * last byte are the file's, and 0 where the cells come from timings. Gives the number of cells, and stores the track and the side at the
+ * front of `place`, or as many of the two as there is room for. Refuses a file as above, and then 10, with the bytes that its cells need.
+ * The track, the side and a number of cells below 20,000 are not judged here: the routines on a track do that. */
 uint32_t thikbromu_file_cells(const uint8_t *file, size_t length, uint8_t *cells, size_t room, uint32_t *place, size_t places,
                               size_t *value);
 
-/* The listing of a file at the front of `out`, or as much of it as there is room for. The answer is the length of the whole, which is at
- * most 65,536. A refused file gives "refused", a space, the number and a line end: it is refused as above, and then as
- * thikbromu_listing refuses its track. */
+/* The listing of a file (rules 9.13, 11.8 and 11.9) at the front of `out`, or as much of it as there is room for. The answer is the length
+ * of the whole, which is at most 65,536. Of a refused file it is one line, the word `refused` and the number: the file is refused as above,
+ * and then as thikbromu_listing refuses its track. */
 size_t thikbromu_file_listing(const uint8_t *file, size_t length, uint8_t *out, size_t out_room);
 
-/* The listing of a track, in the same way. */
+/* The listing of a track (rules 9.12 and 11.1 to 11.7), in the same way. */
 size_t thikbromu_listing(const uint8_t *bytes, size_t length, size_t n, uint32_t track, uint32_t side, uint8_t *out, size_t out_room);
 
 #ifdef __cplusplus

@@ -9,15 +9,10 @@ mod search;
 
 use second_program::check_word;
 use second_program::findings;
-use second_program::flux_tracks::{flux_track, timings_of_cells, Choice};
 use second_program::listing::listing;
-use second_program::random::Random;
 use second_program::separator::{self, SeparatorState};
 use second_program::track_block;
-use second_program::track_blocks::standard_track_block;
-use second_program::track_builder::{standard_track, SectorPlan, TrackBuilder};
 use second_program::track_file;
-use second_program::track_files::{file_of_cells, file_of_timings};
 use second_program::{cells, mfm, sectors};
 use std::fs::File;
 use std::hint::black_box;
@@ -25,6 +20,11 @@ use std::io::{Read, Write};
 use std::path::Path;
 use std::process::{Command, Stdio};
 use std::time::Instant;
+use test_inputs::block_inputs::standard_track_block;
+use test_inputs::file_inputs::{file_of_cells, file_of_timings};
+use test_inputs::flux_inputs::{flux_track, timings_of_cells, Choice};
+use test_inputs::random::Random;
+use test_inputs::track_builder::{standard_track, SectorPlan, TrackBuilder};
 use thikbromu::boundary::{self, FINDING_NUMBERS, PLACE_NUMBERS, SECTOR_NUMBERS};
 use thikbromu::{
     RevolutionReader, Separator, TrackBlock, HISTOGRAM_COUNTS, LONGEST_LISTING, MOST_CELL_BYTES, MOST_FINDINGS, MOST_TIMINGS,

@@ -32,7 +32,7 @@ int main(int count, char **arguments)
         return 1;
     }
 
-    size_t value; /* the number of cells, or what the refusal gives also */
+    size_t value; /* the number of cells, or what is given beside the refusal */
     uint32_t refusal = thikbromu_revolution_cells(block, length, numbers[0], numbers[1], cells, sizeof cells, &value);
     if (refusal != 0) {
         printf("refused %u\n", (unsigned)refusal);

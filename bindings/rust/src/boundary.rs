@@ -2,10 +2,11 @@
 //! gives goes to the front of what is lent, and what stands behind it keeps its contents. The other types and functions of this crate go
 //! over these.
 //!
-//! A track is `cells` cells at the front of `packed`, eight to a byte, highest bit first; `track` and `side` are the drive's. Cells past
-//! the bytes are zeros, and so is every cell of a track of none.
+//! A track is `cells` cells at the front of `packed`; a byte holds eight of them, the first as its highest bit (rule 1.3). `track` and
+//! `side` are the drive's. A cell for which there is no byte is 0, and so are all cells of a track of none. A place may lie behind the
+//! index (rule 1.2).
 //!
-//! A call that is refused writes nothing, but that a record or a count table beside a refusal is all zeros.
+//! A refused call writes nothing, except that it sets the numbers of a record or the counts of a histogram to 0 (rules 8.31 and 8.32).
 //!
 //! ```
 //! use thikbromu::boundary::{finding_records, FindingRecord};
@@ -187,25 +188,25 @@ fn answer(call: impl FnOnce(&mut usize) -> u32) -> Result<usize, Refusal> {
 
 #[cold]
 fn refusal_of(number: u32, value: usize) -> Refusal {
-    Refusal::try_from((number, value)).expect("the library gives the refusals of 01 and 02 alone")
+    Refusal::try_from((number, value)).expect("the library gives refusals 1 to 17 alone")
 }
 
-/// Cell `place`, counted on past the index: 0 or 1.
+/// The cell at a place, 0 or 1.
 #[inline]
 pub fn cell(packed: &[u8], cells: usize, place: usize) -> u64 {
     // SAFETY: the address and the length are those of one slice, which is only read.
     unsafe { thikbromu_cell(packed.as_ptr(), packed.len(), cells, place) }
 }
 
-/// The word of `length` cells from `place`, the first of them its highest bit; a length above 64 counts as 64.
+/// The word of `length` cells from `place`, the first of them its highest bit; a length above 64 counts as 64 (rule 1.6).
 #[inline]
 pub fn word(packed: &[u8], cells: usize, place: usize, length: usize) -> u64 {
     // SAFETY: the address and the length are those of one slice, which is only read.
     unsafe { thikbromu_word(packed.as_ptr(), packed.len(), cells, place, length) }
 }
 
-/// The least place from `from` and before `to`, counted on past the index, at which the word of `length` cells stands; a length above
-/// 64 counts as 64. Where there is none, the greater of the two.
+/// The least place from `from` on and before `to` at which the word of `length` cells stands; a length above 64 counts as 64. Where there
+/// is none, the greater of the two (rule 1.7).
 #[inline]
 pub fn find_word(packed: &[u8], cells: usize, word: u64, length: usize, from: usize, to: usize) -> usize {
     // SAFETY: the address and the length are those of one slice, which is only read.
@@ -226,7 +227,7 @@ pub fn put_one(packed: &mut [u8], place: usize) {
     unsafe { thikbromu_put_one(packed.as_mut_ptr(), packed.len(), place) }
 }
 
-/// The check word of bytes: polynomial 1021 (hexadecimal), start FFFF, highest bit first.
+/// The check word of bytes (rules 2.1 and 2.2).
 ///
 /// ```
 /// assert_eq!(thikbromu::check_word(&[0xA1, 0xA1, 0xA1]), 0xCDB4);
@@ -237,15 +238,15 @@ pub fn check_word(bytes: &[u8]) -> u16 {
     unsafe { thikbromu_check_word(bytes.as_ptr(), bytes.len()) }
 }
 
-/// The check word after bytes, from the word that the bytes before them left.
+/// The check word after bytes, from the word that the bytes before them left (rule 2.3).
 #[inline]
 pub fn check_word_from(word: u16, bytes: &[u8]) -> u16 {
     // SAFETY: the address and the length are those of one slice, which is only read.
     unsafe { thikbromu_check_word_from(word, bytes.as_ptr(), bytes.len()) }
 }
 
-/// Codes bytes after the data bit `before`: two bytes of cells for each, at the front of `cells`. Gives the bytes of cells written; those
-/// behind keep their contents.
+/// Codes bytes (rule 9.8). `before` is the data bit ahead of the first. Gives how many bytes of cells it wrote to the front of `cells`, two
+/// for each byte; those behind keep their contents.
 ///
 /// Refuses [`TooManyBytes`](Refusal::TooManyBytes), [`NoRoomForBytes`](Refusal::NoRoomForBytes).
 #[inline]
@@ -256,8 +257,8 @@ pub fn encode(bytes: &[u8], before: bool, cells: &mut [u8]) -> Result<usize, Ref
     })
 }
 
-/// Decodes the data cells: one byte for each two bytes of cells, an odd last byte not read. Gives the bytes written at the front of
-/// `bytes`.
+/// Decodes the data cells (rule 9.9). Two bytes of cells make a byte; where their number is odd, the last is passed over. Gives how many
+/// bytes it wrote to the front of `bytes`.
 ///
 /// Refuses [`TooManyBytes`](Refusal::TooManyBytes), [`NoRoomForBytes`](Refusal::NoRoomForBytes).
 #[inline]
@@ -266,8 +267,8 @@ pub fn decode(cells: &[u8], bytes: &mut [u8]) -> Result<usize, Refusal> {
     answer(|value| unsafe { thikbromu_decode(cells.as_ptr(), cells.len(), bytes.as_mut_ptr(), bytes.len(), value) })
 }
 
-/// A step of the separator by one timing, on a residual that is lent: it is advanced in its place, and kept beside a refusal. Gives the
-/// number of cells, n - 1 zeros and a one, or none where n is 0. A residual outside -500 to 499 is stepped as if it were 0.
+/// A step of the separator (rule 9.5) on a residual that is lent: it becomes the next one, and stays as it is beside a refusal. Gives the
+/// number of cells, of which the last is a one and the others are zeros; it may be 0. A residual below -500 or above 499 counts as 0.
 ///
 /// Refuses [`TimingOutOfRange`](Refusal::TimingOutOfRange), with index 0.
 ///
@@ -282,8 +283,8 @@ pub fn step(residual: &mut i32, timing: u32) -> Result<usize, Refusal> {
     answer(|value| unsafe { thikbromu_step(residual, timing, value) })
 }
 
-/// The separator on a list of timings, its residual at first 0. Gives the number of cells, packed at the front of `cells`; unused bits
-/// of the last byte written are 0, and bytes after it keep their contents.
+/// The separator on a list of timings (rule 9.6), from a residual of 0. Gives the number of cells, packed at the front of `cells`. Spare
+/// bits in the last byte of the cells become 0; what stands behind that byte is kept.
 ///
 /// Refuses [`NoTimings`](Refusal::NoTimings), [`TooManyTimings`](Refusal::TooManyTimings),
 /// [`TimingOutOfRange`](Refusal::TimingOutOfRange), [`TooManyCells`](Refusal::TooManyCells),
@@ -296,11 +297,11 @@ pub fn separate(timings: &[u32], cells: &mut [u8]) -> Result<usize, Refusal> {
     })
 }
 
-/// The histogram: 256 counts to the front of `counts`, or as many as it has room for. Count i is of timings 100i to 100i+99, count 255 of
-/// all from 25,500 up. Gives the number of timings.
+/// The histogram (rules 5.1 to 5.3, 9.7 and 9.35): 256 counts to the front of `counts`, or as many as it has room for. A timing t raises
+/// count t / 100, rounded down, and one from 25,500 on count 255. Gives the number of timings.
 ///
 /// Refuses [`NoTimings`](Refusal::NoTimings), [`TooManyTimings`](Refusal::TooManyTimings),
-/// [`TimingOutOfRange`](Refusal::TimingOutOfRange), the counts then all zeros.
+/// [`TimingOutOfRange`](Refusal::TimingOutOfRange), all counts then 0.
 #[inline]
 pub fn histogram(timings: &[u32], counts: &mut [u32]) -> Result<usize, Refusal> {
     // SAFETY: each address and length are those of one slice; `counts` and `value` are lent to this call alone.
@@ -309,13 +310,13 @@ pub fn histogram(timings: &[u32], counts: &mut [u32]) -> Result<usize, Refusal> 
     })
 }
 
-/// The timings of a revolution of a SuperCard Pro track block, in nanoseconds, at the front of `timings`; those behind keep their contents.
-/// `revolutions` is their number, from the image's header, and `revolution` the chosen one, from 0. Gives the number of timings.
-/// [`TrackBlock`](crate::TrackBlock) says what a block is.
+/// The timings of a revolution of a SuperCard Pro track block (rule 9.14), in nanoseconds, at the front of `timings`; those behind keep
+/// their contents. `revolutions` is how many the header of the image says there are, and `revolution` the chosen one, counted from 0. Gives
+/// the number of timings. [`TrackBlock`](crate::TrackBlock) says what a block is.
 ///
 /// Refuses [`NotATrackBlock`](Refusal::NotATrackBlock), [`NoSuchRevolution`](Refusal::NoSuchRevolution),
 /// [`NoTimings`](Refusal::NoTimings), [`TooManyTimings`](Refusal::TooManyTimings),
-/// [`TimingOutOfRange`](Refusal::TimingOutOfRange), [`NoRoom`](Refusal::NoRoom) with the timings needed.
+/// [`TimingOutOfRange`](Refusal::TimingOutOfRange), [`NoRoom`](Refusal::NoRoom) with how many timings there are.
 #[inline]
 pub fn revolution_timings(
     block: &[u8],
@@ -337,15 +338,15 @@ pub fn revolution_timings(
     })
 }
 
-/// A portion of a revolution's values, whose bytes are handed over in their order, cut between any two of them: the timings that end in the
-/// portion, at the front of `timings`. Gives the number of these. Where nothing is refused, the timings in all are those of the whole
-/// revolution.
+/// A portion of a revolution's values (rules 12.15 to 12.24), whose bytes the caller hands over in their order, a part at a time, cut
+/// anywhere. The timings whose last byte is in the portion go to the front of `timings`. Gives their number. As long as no call is refused,
+/// they are together those of the whole revolution.
 ///
 /// The state is one number, which the caller keeps from call to call; it is 0 before the first portion, and one that no call leaves counts
 /// as 0. [`RevolutionReader`](crate::RevolutionReader) says what it is. Beside a refusal it is kept.
 ///
-/// Refuses [`TooManyTimings`](Refusal::TooManyTimings), [`TimingOutOfRange`](Refusal::TimingOutOfRange), both counted from the revolution's
-/// start, [`NoRoom`](Refusal::NoRoom) with the timings that end in this portion.
+/// Refuses [`TooManyTimings`](Refusal::TooManyTimings) and [`TimingOutOfRange`](Refusal::TimingOutOfRange), with numbers that count all
+/// timings of the revolution so far, [`NoRoom`](Refusal::NoRoom) with how many timings end in this portion.
 #[inline]
 pub fn revolution_portion(state: &mut u32, portion: &[u8], timings: &mut [u32]) -> Result<usize, Refusal> {
     // SAFETY: each address and length are those of one slice; `state`, `timings` and `value` are lent to this call alone.
@@ -354,8 +355,8 @@ pub fn revolution_portion(state: &mut u32, portion: &[u8], timings: &mut [u32]) 
     })
 }
 
-/// The cells of a revolution of a SuperCard Pro track block: its timings go to the separator. Gives the number of cells, packed at the
-/// front of `cells` as [`separate`] leaves them. The timings take 262,144 bytes of the stack.
+/// The cells of a revolution of a SuperCard Pro track block (rule 9.16): its timings go to the separator. Gives the number of cells, packed
+/// at the front of `cells` as [`separate`] leaves them. The timings take 262,144 bytes of the stack.
 ///
 /// Refuses [`NotATrackBlock`](Refusal::NotATrackBlock), [`NoSuchRevolution`](Refusal::NoSuchRevolution),
 /// [`NoTimings`](Refusal::NoTimings), [`TooManyTimings`](Refusal::TooManyTimings),
@@ -377,11 +378,12 @@ pub fn revolution_cells(block: &[u8], revolutions: u32, revolution: u32, cells: 
     })
 }
 
-/// The sector of an index, from 0, in the order of their places: its record at the front of `numbers`, or as much of it as there is room
-/// for. They are the eleven fields of [`Sector`](crate::Sector), in their order, yes as 1 and no as 0. Gives the number of sectors.
+/// A sector (rules 6.5, 9.2 and 9.34). Its index counts from 0, in the order of their places. Its record goes to the front of `numbers`, or
+/// as much of it as there is room for: the eleven fields of [`Sector`](crate::Sector), in their order, yes as 1 and no as 0. Gives the
+/// number of sectors.
 ///
 /// Refuses [`TrackOrSide`](Refusal::TrackOrSide), [`CellCount`](Refusal::CellCount), [`TooFewBytes`](Refusal::TooFewBytes),
-/// [`TooManySectors`](Refusal::TooManySectors), [`NoSuchSector`](Refusal::NoSuchSector), the record then all zeros.
+/// [`TooManySectors`](Refusal::TooManySectors), [`NoSuchSector`](Refusal::NoSuchSector), all numbers then 0.
 #[inline]
 pub fn sector(
     packed: &[u8],
@@ -407,8 +409,8 @@ pub fn sector(
     })
 }
 
-/// Reads out the sector of an index to the front of `buffer`. Gives the number of bytes, and stores in `good` 1 where their check is good,
-/// else 0. A bad check does not refuse the call.
+/// Reads out the sector of an index to the front of `buffer` (rules 6.18, 9.4 and 9.32). Gives the number of bytes, and stores in `good` 1
+/// where their check is good, else 0. A bad check does not refuse the call.
 ///
 /// Refuses [`TrackOrSide`](Refusal::TrackOrSide), [`CellCount`](Refusal::CellCount), [`TooFewBytes`](Refusal::TooFewBytes),
 /// [`TooManySectors`](Refusal::TooManySectors), [`NoSuchSector`](Refusal::NoSuchSector), [`NoDataRead`](Refusal::NoDataRead),
@@ -440,8 +442,8 @@ pub fn read_out(
     })
 }
 
-/// The findings, ordered by kind, then place, at the front of the list: four numbers for each, its kind, level, place and detail. Gives
-/// the number of findings.
+/// The findings (rules 7.32, 7.34 and 9.1) at the front of the list, in the order of their kinds, those of one kind by their places. Each
+/// has four numbers: its kind, level, place and detail. Gives the number of findings.
 ///
 /// Refuses [`TrackOrSide`](Refusal::TrackOrSide), [`CellCount`](Refusal::CellCount), [`TooFewBytes`](Refusal::TooFewBytes),
 /// [`TooManySectors`](Refusal::TooManySectors), [`ListTooShort`](Refusal::ListTooShort).
@@ -478,14 +480,14 @@ pub fn finding_records(
     })
 }
 
-/// The cells of a track file, packed at the front of `cells`; bytes behind them keep their contents. Unused bits of the last byte are the
-/// file's, and 0 where the cells come from timings. Gives the number of cells, and stores the track and the side at the front of `place`,
-/// or as many of the two as there is room for. [`TrackFile`](crate::TrackFile) says what a track file is. The cells are first read into
-/// 16,384 bytes of the stack.
+/// The cells of a track file (rules 9.11, 9.33 and 10.16), packed at the front of `cells`; bytes behind them keep their contents. Spare bits
+/// of the last byte are the file's, and 0 where the cells come from timings. Gives the number of cells, and stores the track and the side at
+/// the front of `place`, or as many of the two as there is room for. [`TrackFile`](crate::TrackFile) says what a track file is. The cells
+/// are first read into 16,384 bytes of the stack.
 ///
-/// Refuses as soon as a count is read [`NotATrackFile`](Refusal::NotATrackFile) for a place count that is not 2,
-/// [`CellCount`](Refusal::CellCount) for more than 131,072 cells, [`TooManyTimings`](Refusal::TooManyTimings) for more than 65,536 timings;
-/// after these [`NotATrackFile`](Refusal::NotATrackFile), [`TimingOutOfRange`](Refusal::TimingOutOfRange),
+/// Refuses at once, whatever follows (rule 10.4), [`NotATrackFile`](Refusal::NotATrackFile) where the place's count is not 2,
+/// [`CellCount`](Refusal::CellCount) where there are more than 131,072 cells, [`TooManyTimings`](Refusal::TooManyTimings) where there are
+/// more than 65,536 timings; after these [`NotATrackFile`](Refusal::NotATrackFile), [`TimingOutOfRange`](Refusal::TimingOutOfRange),
 /// [`TooManyCells`](Refusal::TooManyCells), and last [`NoRoom`](Refusal::NoRoom) with the bytes that the cells need.
 #[inline]
 pub fn file_cells(file: &[u8], cells: &mut [u8], place: &mut [u32]) -> Result<usize, Refusal> {
@@ -503,16 +505,16 @@ pub fn file_cells(file: &[u8], cells: &mut [u8], place: &mut [u32]) -> Result<us
     })
 }
 
-/// The listing of a track file at the front of `out`, or as much of it as there is room for. Gives the length of the whole, which is at
-/// most [`LONGEST_LISTING`](crate::LONGEST_LISTING). A refused file gives "refused", a space, the number and a line end: it is refused as
-/// [`file_cells`] refuses it, without [`NoRoom`](Refusal::NoRoom), and then as its track is.
+/// The listing of a track file (rules 9.13, 11.8 and 11.9) at the front of `out`, or as much of it as there is room for. Gives the length of
+/// the whole, which is at most [`LONGEST_LISTING`](crate::LONGEST_LISTING). Of a refused file it is one line, the word `refused` and the
+/// number: the file is refused as [`file_cells`] refuses it, without [`NoRoom`](Refusal::NoRoom), and then as its track is.
 #[inline]
 pub fn file_listing(file: &[u8], out: &mut [u8]) -> usize {
     // SAFETY: each address and length are those of one slice; `out` is lent to this call alone.
     unsafe { thikbromu_file_listing(file.as_ptr(), file.len(), out.as_mut_ptr(), out.len()) }
 }
 
-/// The listing of a track, in the same way.
+/// The listing of a track (rules 9.12 and 11.1 to 11.7), in the same way.
 #[inline]
 pub fn listing(packed: &[u8], cells: usize, track: u32, side: u32, out: &mut [u8]) -> usize {
     // SAFETY: each address and length are those of one slice; `out` is lent to this call alone.

@@ -4,40 +4,40 @@ use crate::boundary::FindingRecord;
 use std::error::Error;
 use std::fmt;
 
-/// The most findings of a track: 64 sectors bring no more.
+/// The most findings of a track: 64 sectors bring no more (rule 7.35).
 pub const MOST_FINDINGS: usize = 901;
 
-/// The kinds of 01's table "Findings", in its order.
+/// The kinds of findings, in the order of their numbers: rule 7.K is that of kind K.
 #[derive(Clone, Copy, Debug, PartialEq, Eq, PartialOrd, Ord, Hash)]
 #[repr(u8)]
 pub enum Kind {
     /// More than 103,000 cells. Detail: the cells.
     Lgt = 1,
-    /// Fewer than 97,000 cells. Detail: the cells.
+    /// Less than 97,000 cells. Detail: the cells.
     Sht = 2,
-    /// Fewer than 9 sectors or more than 10. Detail: the sectors.
+    /// Less than 9 sectors, or more than 10. Detail: the sectors.
     Nos = 3,
-    /// No sector, on a track up to 79.
+    /// There are no sectors, and the drive's track is 79 or less.
     Tnf = 4,
-    /// A sector, on a track from 80 on. Detail: the sectors.
+    /// There are sectors, and the drive's track is 80 or more. Detail: how many.
     Ext = 5,
-    /// An earlier sector has this number. Detail: the number.
+    /// A sector with a smaller place has the same number. Detail: the number.
     Dsn = 6,
-    /// The number is 245 to 247. Detail: the number.
+    /// The number is 245, 246 or 247. Detail: the number.
     Isn = 7,
-    /// The ID's track is not the drive's. Detail: the ID's track.
+    /// The track in the ID differs from the drive's. Detail: the track in the ID.
     Itn = 8,
-    /// The ID's track is above 83, its side above 1 or its size code above 3. Detail: the side.
+    /// The ID has a track from 84 on, a side from 2 on, or a size code from 4 on. Detail: the ID's side.
     Iif = 9,
-    /// The size code is neither 2 nor 3. Detail: the code.
+    /// The size code is not 2 and not 3. Detail: the size code.
     Ssz = 10,
-    /// The ID mark is not FE. Detail: the mark.
+    /// The ID mark is FC, FD or FF. Detail: the mark.
     Nsi = 11,
-    /// The data mark is neither F8 nor FB. Detail: the data mark.
+    /// The data mark is F9 or FA. Detail: the data mark.
     Nsd = 12,
     /// The ID check is bad. Detail: the number.
     Sbi = 13,
-    /// The ID check is good, and there is no data mark. Detail: the number.
+    /// The ID check is good, but there is no data mark. Detail: the number.
     Snd = 14,
     /// Data is read, and its check is bad. Detail: the number.
     Sbd = 15,
@@ -45,13 +45,13 @@ pub enum Kind {
     Doi = 16,
     /// The data mark lies behind the index. Detail: by how many cells.
     Dbi = 17,
-    /// The sector lies within another's data. Detail: the number.
+    /// The data of another sector covers this one's place (rule 7.37). Detail: the number.
     Sws = 18,
-    /// The sync 4489 lies within the ID or the data. Detail: how many.
+    /// Syncs stand in the ID or in the data (rule 7.38). Detail: how many.
     Sid = 19,
-    /// A one whose next one is 1 or more than 4 cells on. Place: the first such. Detail: how many.
+    /// Ones with a distance of 1, or of 5 or more, to the next one. Place: the first of them. Detail: how many.
     Mtv = 20,
-    /// The longest run of zeros has 1,000 or more. Place: its start. Detail: its length.
+    /// A run of 1,000 zeros or more. Place: the start of the longest. Detail: its length.
     Nfa = 21,
 }
 
@@ -81,23 +81,23 @@ impl Kind {
         Kind::Nfa,
     ];
 
-    /// The number in 01's table, 1 to 21.
+    /// Its number, 1 to 21.
     pub const fn number(self) -> u8 {
         self as u8
     }
 
-    /// The name in 01's table: three letters.
+    /// Its name, three letters.
     pub const fn name(self) -> &'static str {
         NAMES_AND_LEVELS[self as usize - 1].0
     }
 
-    /// The level in 01's table, 1 to 3.
+    /// Its level, 1 to 3 (rule 7.33).
     pub const fn level(self) -> u8 {
         NAMES_AND_LEVELS[self as usize - 1].1
     }
 }
 
-/// 01's column "name, level".
+/// Names and levels, by kind.
 const NAMES_AND_LEVELS: [(&str, u8); 21] = [
     ("LGT", 1),
     ("SHT", 1),
@@ -149,7 +149,7 @@ impl fmt::Display for NotAKind {
 
 impl Error for NotAKind {}
 
-/// A finding.
+/// A finding (rule 7.31).
 #[derive(Clone, Copy, Debug, PartialEq, Eq, PartialOrd, Ord, Hash)]
 pub struct Finding {
     /// What was found.
@@ -176,7 +176,7 @@ impl TryFrom<FindingRecord> for Finding {
     }
 }
 
-/// A line of the listing: kind, name, level, place, detail.
+/// A line of the listing, without its line feed (rule 11.3).
 impl fmt::Display for Finding {
     fn fmt(&self, out: &mut fmt::Formatter<'_>) -> fmt::Result {
         let Finding { kind, place, detail } = self;

@@ -16,7 +16,7 @@ pub const MOST_TIMINGS: usize = 65_536;
 /// The counts of a histogram.
 pub const HISTOGRAM_COUNTS: usize = 256;
 
-/// The separator's state, which is stepped by value, one timing at a time.
+/// The separator's state (rules 3.2 and 3.6). A step makes the next state of a state and a timing.
 #[derive(Clone, Copy, Debug, Default, PartialEq, Eq)]
 pub struct Separator {
     residual: i32,
@@ -25,7 +25,7 @@ pub struct Separator {
 /// What a step hands back.
 #[derive(Clone, Copy, Debug, PartialEq, Eq)]
 pub struct Stepped {
-    /// The number of cells, n: n - 1 zeros and a one, or none where n is 0.
+    /// The number of cells, which may be 0. The last of them is a one, the others are zeros.
     pub cells: Result<usize, Refusal>,
     /// The next state; beside a refusal, the one that came.
     pub next: Separator,
@@ -37,7 +37,7 @@ impl Separator {
         Separator { residual: 0 }
     }
 
-    /// A state with a residual. One outside -500 to 499 is stepped as if it were 0.
+    /// A state with a residual. One below -500 or above 499 counts as 0 in a step.
     pub const fn with_residual(residual: i32) -> Separator {
         Separator { residual }
     }
@@ -47,7 +47,7 @@ impl Separator {
         self.residual
     }
 
-    /// Steps by one timing. Refuses [`TimingOutOfRange`](Refusal::TimingOutOfRange), with index 0.
+    /// Steps by one timing (rules 3.3 and 3.8). Refuses [`TimingOutOfRange`](Refusal::TimingOutOfRange), with index 0.
     ///
     /// ```
     /// let stepped = thikbromu::Separator::new().step(4900);
@@ -61,8 +61,8 @@ impl Separator {
         Stepped { cells, next }
     }
 
-    /// Steps by one timing in the state's own place, and gives the number of cells. It answers as [`step`](Separator::step) does; beside a
-    /// refusal the state is kept.
+    /// Steps by one timing, leaves the next state in this one, and gives the number of cells (rule 3.9). It answers as
+    /// [`step`](Separator::step) does; beside a refusal the state is kept.
     #[inline]
     pub fn step_in_place(&mut self, timing: u32) -> Result<usize, Refusal> {
         boundary::step(&mut self.residual, timing)
@@ -72,7 +72,7 @@ impl Separator {
 /// Cells that the separator made.
 #[derive(Clone, Debug, PartialEq, Eq)]
 pub struct Cells {
-    /// The cells, eight to a byte, highest bit first. Unused bits of the last byte are 0.
+    /// The packed cells (rule 1.3). Spare bits of the last byte are 0.
     pub packed: Vec<u8>,
     /// The number of cells.
     pub count: usize,
@@ -93,7 +93,7 @@ pub fn separate_to_vec(timings: &[u32]) -> Result<Cells, Refusal> {
     Ok(Cells { packed, count })
 }
 
-/// The histogram of timings: count i is of timings 100i to 100i+99, and count 255 of all from 25,500 up.
+/// The histogram of timings (rules 5.1 to 5.3): a timing t raises count t / 100, rounded down, and one from 25,500 on count 255.
 ///
 /// Refuses [`NoTimings`](Refusal::NoTimings), [`TooManyTimings`](Refusal::TooManyTimings),
 /// [`TimingOutOfRange`](Refusal::TimingOutOfRange).

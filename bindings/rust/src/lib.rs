@@ -1,10 +1,10 @@
 //! Reads one track of an Atari ST floppy disk, as flux timings, as MFM cells or as a track block of a SuperCard Pro image: its cells, its
 //! sectors with their check results, and a list of copy-protection findings.
 //!
-//! This is a thin, safe layer over the verified library. "01" in these pages is its scope paper, `docs/01-scope.md`, and "02" the paper of
-//! later requests, whose ticket 3 adds [track blocks](TrackBlock). Each function gives what they say, or one of the [refusals](Refusal),
-//! judged in the order in which the function names them. Nothing is asked of the values passed: every number and every slice has an answer,
-//! and no function panics. [`boundary`] has the library's exports as they are, for callers who lend their own memory.
+//! This is a thin, safe layer over the verified library. The numbers of rules in these pages are those of `docs/SPECIFICATION.md`. Each
+//! function gives what its rules say, or one of the [refusals](Refusal), judged in the order in which the function names them. Nothing is
+//! asked of the values passed: every number and every slice has an answer, and no function panics. [`boundary`] has the library's exports
+//! as they are, for callers who lend their own memory.
 //!
 //! A track of 100,000 cells, every second one a one:
 //!

@@ -1,49 +1,49 @@
-//! 01's refusals, and the two that 02 adds.
+//! The refusals.
 
 use std::error::Error;
 use std::fmt;
 
-/// Why a call was refused: a row of 01's table "Refused calls", or one of the two that 02 adds to it, with what it gives also.
+/// Why a call was refused, with what is given beside it: rule 8.K is refusal K.
 #[derive(Clone, Copy, Debug, PartialEq, Eq, Hash)]
 pub enum Refusal {
-    /// 1: the track is above 83 or the side above 1.
+    /// 1: the track is more than 83, or the side more than 1.
     TrackOrSide,
-    /// 2: the number of cells, below 20,000 or above 131,072.
+    /// 2: how many cells there are, less than 20,000 or more than 131,072.
     CellCount(usize),
-    /// 3: the bytes that the cells need, where fewer are there.
+    /// 3: how many bytes the cells need, some of which are missing.
     TooFewBytes(usize),
-    /// 4: the sectors on the track, more than 64.
+    /// 4: how many sectors there are, more than 64.
     TooManySectors(usize),
-    /// 5: the findings, more than the list holds.
+    /// 5: how many findings there are, more than the list holds.
     ListTooShort(usize),
-    /// 6: there are no timings.
+    /// 6: there is no timing.
     NoTimings,
-    /// 7: the timings, more than 65,536.
+    /// 7: how many timings there are, more than 65,536.
     TooManyTimings(usize),
-    /// 8: the index of the first timing outside 1 to 10,000,000.
+    /// 8: the least index of a timing that is not 1 to 10,000,000.
     TimingOutOfRange(usize),
-    /// 9: the cells in all, more than 131,072.
+    /// 9: how many cells come of the timings, more than 131,072.
     TooManyCells(usize),
-    /// 10: the bytes that the cells need, or the timings needed, where there is too little room for them.
+    /// 10: how many bytes the cells need, or how many timings there are, for which there is no room.
     NoRoom(usize),
-    /// 11: the sectors, none of which has the index asked for.
+    /// 11: how many sectors there are, none of which has the index asked for.
     NoSuchSector(usize),
-    /// 12: the sector has no data read.
+    /// 12: no data of the sector is read (rule 6.12).
     NoDataRead,
-    /// 13: the bytes needed, where there is too little room.
+    /// 13: how many bytes there are, for which there is no room.
     NoRoomForBytes(usize),
-    /// 14: the bytes given, more than 8,192 to code or 16,384 to decode.
+    /// 14: how many bytes were handed over, more than 8,192 to code or 16,384 to decode.
     TooManyBytes(usize),
-    /// 15: not a track file.
+    /// 15: the bytes are no track file (rules 10.4 and 10.7).
     NotATrackFile,
-    /// 16: not a track block.
+    /// 16: the bytes are no track block (rule 12.8).
     NotATrackBlock,
-    /// 17: the track block lacks the revolution.
+    /// 17: the block has no revolution of that index (rule 12.12).
     NoSuchRevolution,
 }
 
 impl Refusal {
-    /// The number: 1 to 15 in 01's table, 16 and 17 by 02.
+    /// Its number, 1 to 17.
     pub const fn number(self) -> u32 {
         match self {
             Refusal::TrackOrSide => 1,
@@ -66,7 +66,7 @@ impl Refusal {
         }
     }
 
-    /// What the refusal gives also; 0 where it gives nothing.
+    /// What is given beside it; 0 where that is nothing.
     pub const fn value(self) -> usize {
         match self {
             Refusal::CellCount(value)
@@ -90,7 +90,7 @@ impl Refusal {
     }
 }
 
-/// A number and a value that are no refusal of 01 or 02.
+/// A number and a value that are no refusal.
 #[derive(Clone, Copy, Debug, PartialEq, Eq)]
 pub struct NotARefusal {
     /// The number.
@@ -168,7 +168,7 @@ mod tests {
 
     #[test]
     fn numbers_and_values_are_those_of_the_table() {
-        // The rows whose column "gives also" is 0.
+        // The refusals beside which 0 is given.
         let without_value = [1, 6, 12, 15, 16, 17];
         for number in 1..=17 {
             for value in [0, 7] {

@@ -6,7 +6,7 @@ use crate::track::Track;
 /// The longest data of a sector, in bytes.
 pub const LONGEST_SECTOR: usize = 1_024;
 
-/// A sector's record, in the order of 01.
+/// A sector's record, its fields in the order of rule 6.16.
 #[derive(Clone, Copy, Debug, PartialEq, Eq, Hash)]
 pub struct Sector {
     /// The cell of the ID mark.
@@ -19,15 +19,15 @@ pub struct Sector {
     pub side: u8,
     /// The sector's number.
     pub number: u8,
-    /// The size code: 0, 1, 2, 3 for 128, 256, 512, 1,024 bytes; one above 3 has no length.
+    /// The size code. Only 0 to 3 have a length: 128 bytes, 256, 512 and 1,024 (rule 6.11).
     pub size_code: u8,
     /// Whether the ID's check is good.
     pub id_check_good: bool,
-    /// The cell of the data mark, counted on past the index; 0 where there is none.
+    /// The cell of the data mark, counted on where it lies behind the index; 0 where none is found.
     pub data_place: u32,
-    /// The byte of the data mark, F8 to FB; 0 where there is none.
+    /// The byte of the data mark, F8 to FB; 0 where none is found.
     pub data_mark: u8,
-    /// The bytes of data; 0 where no data is read.
+    /// How many data bytes there are; 0 where no data is read.
     pub data_length: usize,
     /// Whether the data's check is good; no where no data is read.
     pub data_check_good: bool,

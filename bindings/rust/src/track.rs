@@ -23,8 +23,8 @@ pub const MOST_CELL_BYTES: usize = MOST_CELLS / 8;
 /// The most sectors of a track.
 pub const MOST_SECTORS: usize = 64;
 
-/// A track: cells that are packed eight to a byte, highest bit first, and the track and side of the drive. It is circular: the cell after
-/// the last is cell 0, the index.
+/// A track: packed cells, and the track and side of the drive. A byte holds eight cells, the first as its highest bit. The cells form a
+/// ring: after the last comes cell 0, which stands at the index (rules 1.1 to 1.3).
 ///
 /// Nothing is judged when it is made. The calls on sectors and findings judge it, and each refuses
 /// [`TrackOrSide`](Refusal::TrackOrSide), [`CellCount`](Refusal::CellCount), [`TooFewBytes`](Refusal::TooFewBytes) and
@@ -63,7 +63,7 @@ impl<'a> Track<'a> {
         self.side
     }
 
-    /// Whether cell `place`, counted on past the index, is a one. Cells past the bytes are zeros.
+    /// Whether the cell at a place, which may lie behind the index, is a one. A cell for which there is no byte is none.
     pub fn cell(&self, place: usize) -> bool {
         boundary::cell(self.packed, self.cells, place) == 1
     }
@@ -73,14 +73,14 @@ impl<'a> Track<'a> {
         boundary::word(self.packed, self.cells, place, length)
     }
 
-    /// The least place from `from` and before `to`, counted on past the index, at which the word of `length` cells stands.
+    /// The least place from `from` on and before `to` at which the word of `length` cells stands. Places may lie behind the index.
     pub fn find_word(&self, word: u64, length: usize, from: usize, to: usize) -> Option<usize> {
         // Where there is none, the library gives the greater of the ends.
         let place = boundary::find_word(self.packed, self.cells, word, length, from, to);
         (place < to).then_some(place)
     }
 
-    /// The sector of an index, from 0, in the order of their places. Refuses [`NoSuchSector`](Refusal::NoSuchSector).
+    /// The sector of an index, which counts from 0, in the order of their places. Refuses [`NoSuchSector`](Refusal::NoSuchSector).
     pub fn sector(&self, index: usize) -> Result<Sector, Refusal> {
         let mut numbers = [0; SECTOR_NUMBERS];
         boundary::sector(self.packed, self.cells, self.track, self.side, index, &mut numbers)?;
@@ -118,16 +118,16 @@ impl<'a> Track<'a> {
         Ok(SectorData { bytes, check_good })
     }
 
-    /// The findings, ordered by kind, then place. The list has room for all that a track can bring, so that
-    /// [`ListTooShort`](Refusal::ListTooShort) is never given.
+    /// The findings, in the order of their kinds, those of one kind by their places (rule 7.32). The list has room for all that a track can
+    /// bring, so that [`ListTooShort`](Refusal::ListTooShort) is never given.
     pub fn findings(&self) -> Result<Vec<Finding>, Refusal> {
         let mut records = vec![FindingRecord::default(); MOST_FINDINGS];
         let count = boundary::finding_records(self.packed, self.cells, self.track, self.side, &mut records)?;
         let findings = records[..count].iter().map(|&record| Finding::try_from(record));
-        Ok(findings.collect::<Result<_, _>>().expect("the library gives the kinds of 01's table alone"))
+        Ok(findings.collect::<Result<_, _>>().expect("the library gives kinds 1 to 21 alone"))
     }
 
-    /// The listing: a header and a line for each finding, or "refused" and a number.
+    /// The listing (section 11 of the specification): a header and a line for each finding, or the word `refused` and a number.
     pub fn listing(&self) -> String {
         crate::track_file::listing_of(|out| boundary::listing(self.packed, self.cells, self.track, self.side, out))
     }

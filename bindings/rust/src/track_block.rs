@@ -5,17 +5,18 @@ use crate::flux::{Cells, MOST_TIMINGS};
 use crate::refusal::Refusal;
 use crate::track::MOST_CELL_BYTES;
 
-/// A SuperCard Pro track block: the letters TRK, the track number, a table of twelve bytes for each revolution (index time, number of
-/// values, their offset from the block's start, each 32 bits, low byte first), then values of 16 bits, high byte first, in units of 25 ns.
-/// A value of 0 adds 65,536 to the next. How many revolutions there are is said by the image's header.
+/// A SuperCard Pro track block (rules 12.1 to 12.7): the three letters TRK and a track number; then a table, which has for each revolution
+/// its index time, how many values it has, and at which byte of the block they begin, as numbers of four bytes, the lowest first; then the
+/// values, two bytes each, the higher first. Their unit is 25 ns, and a value of 0 makes the value after it longer by 65,536 units. How many
+/// revolutions there are is said by the header of the image.
 ///
-/// Nothing is judged when it is made. The calls on a revolution, which is counted from 0, judge the block and refuse
-/// [`NotATrackBlock`](Refusal::NotATrackBlock) exactly where the letters are not TRK, the table is cut short, or the values of some
-/// revolution, this one or another, start before the table's end, end beyond the block (both judged by its offset where it has none) or end
-/// in a 0; then [`NoSuchRevolution`](Refusal::NoSuchRevolution), [`NoTimings`](Refusal::NoTimings),
-/// [`TooManyTimings`](Refusal::TooManyTimings) and [`TimingOutOfRange`](Refusal::TimingOutOfRange), in this order, before what they name
-/// themselves. The first values of a later revolution are not joined to the one before. In an image that the device writes, revolution 0
-/// begins at the index, and not at a flux transition: its cells there may be wrong.
+/// Nothing is judged when it is made. The calls on a revolution, which is counted from 0, judge the block. They refuse
+/// [`NotATrackBlock`](Refusal::NotATrackBlock) by rules 12.8 to 12.11: the letters are others, bytes of the table are missing, or a
+/// revolution, this one or another, has an offset within the table, values that do not all lie in the block, or a 0 as its last value. Then
+/// come [`NoSuchRevolution`](Refusal::NoSuchRevolution), [`NoTimings`](Refusal::NoTimings), [`TooManyTimings`](Refusal::TooManyTimings) and
+/// [`TimingOutOfRange`](Refusal::TimingOutOfRange), in this order, before what they name themselves. Each revolution stands alone: the end
+/// of one adds nothing to the next. In an image that the device writes, revolution 0 begins at the index, and not at a flux transition: its
+/// cells there may be wrong.
 ///
 /// One revolution of three values, which stand at byte 16, where the table ends:
 ///
@@ -41,7 +42,7 @@ pub struct TrackBlock<'a> {
 }
 
 impl<'a> TrackBlock<'a> {
-    /// The block of these bytes, with the number of revolutions from the image's header.
+    /// The block of these bytes, with as many revolutions as the header of the image says.
     pub const fn new(bytes: &'a [u8], revolutions: u32) -> TrackBlock<'a> {
         TrackBlock { bytes, revolutions }
     }
@@ -75,7 +76,8 @@ impl<'a> TrackBlock<'a> {
     }
 }
 
-/// The state of a revolution whose values come in portions, cut between any two bytes. It is taken on by value, one portion at a time.
+/// The state of a revolution whose values come in portions, cut anywhere (rules 12.15 to 12.24). It is taken on by value, a portion at a
+/// time.
 ///
 /// It is one number: held + 257 * (zeros + 8 * timings). Held is 0, or 1 more than the first byte of a value whose second is still to come;
 /// zeros is how many stand before the next value, counted up to 7; timings is how many have ended, at most 65,536. A number that no call
@@ -122,12 +124,12 @@ impl RevolutionReader {
         self.number
     }
 
-    /// Takes a portion: the timings that end in it go to the front of `timings`, and those behind keep their contents. Where nothing is
-    /// refused, the timings of all portions are those of the whole revolution. No portion is the last, so none is refused with 6, 16 or 17:
-    /// zeros at the end of a revolution, and half a value there, give nothing.
+    /// Takes a portion: the timings whose last byte is in it go to the front of `timings`, and those behind keep their contents. As long as
+    /// no portion is refused, they are together those of the whole revolution. No portion is the last, so none is refused with 6, 16 or 17:
+    /// zeros or half a value at the very end of a revolution give nothing.
     ///
-    /// Refuses [`TooManyTimings`](Refusal::TooManyTimings), [`TimingOutOfRange`](Refusal::TimingOutOfRange), both counted from the
-    /// revolution's start, [`NoRoom`](Refusal::NoRoom) with the timings that end in this portion. The list is then kept.
+    /// Refuses [`TooManyTimings`](Refusal::TooManyTimings) and [`TimingOutOfRange`](Refusal::TimingOutOfRange), with numbers that count all
+    /// timings of the revolution so far, [`NoRoom`](Refusal::NoRoom) with how many timings end in this portion. The list is then kept.
     #[inline]
     pub fn take(self, portion: &[u8], timings: &mut [u32]) -> TakenPortion {
         let mut number = self.number;

@@ -15,8 +15,9 @@ pub const LONGEST_LISTING: usize = 65_536;
 /// refused for is the same, and bytes are left over in both.
 pub const LONGEST_FILE: usize = 6 + 4 + MOST_CELL_BYTES + 4 + 4 * MOST_TIMINGS;
 
-/// A track file, whole in memory: the place (a count of 2, the track, the side), the cells (their count, then packed bytes), the flux (the
-/// count of timings, then 32 bits for each). A count has 32 bits, and every number its low byte first. One of the two counts is 0.
+/// A track file, whole in memory (rules 10.1 to 10.3): the number 2, the track and the side; how many cells there are, and these, packed;
+/// how many timings there are, and these. The track and the side have a byte, the other numbers four bytes, the lowest first. A file has
+/// cells or timings, and 0 as the number of the others.
 ///
 /// Nothing is judged when it is made.
 ///
@@ -72,10 +73,11 @@ impl<'a> TrackFile<'a> {
 
     /// The cells, with their track and side. There is room for the most cells, so that [`NoRoom`](Refusal::NoRoom) is never given.
     ///
-    /// Refuses as soon as a count is read [`NotATrackFile`](Refusal::NotATrackFile) for a place count that is not 2,
-    /// [`CellCount`](Refusal::CellCount) for more than 131,072 cells, [`TooManyTimings`](Refusal::TooManyTimings) for more than 65,536
-    /// timings; after these [`NotATrackFile`](Refusal::NotATrackFile), [`TimingOutOfRange`](Refusal::TimingOutOfRange),
-    /// [`TooManyCells`](Refusal::TooManyCells). What else a track can be refused for is judged by the calls on it.
+    /// Refuses at once, whatever follows (rule 10.4), [`NotATrackFile`](Refusal::NotATrackFile) where the place's count is not 2,
+    /// [`CellCount`](Refusal::CellCount) where there are more than 131,072 cells, [`TooManyTimings`](Refusal::TooManyTimings) where there
+    /// are more than 65,536 timings; after these [`NotATrackFile`](Refusal::NotATrackFile),
+    /// [`TimingOutOfRange`](Refusal::TimingOutOfRange), [`TooManyCells`](Refusal::TooManyCells). What else a track can be refused for is
+    /// judged by the calls on it.
     pub fn cells(&self) -> Result<TrackCells, Refusal> {
         let mut packed = vec![0; MOST_CELL_BYTES];
         let mut place = [0; PLACE_NUMBERS];
@@ -85,7 +87,7 @@ impl<'a> TrackFile<'a> {
         Ok(TrackCells { packed, cells, track, side })
     }
 
-    /// The listing: a header and a line for each finding, or "refused" and a number.
+    /// The listing (section 11 of the specification): a header and a line for each finding, or the word `refused` and a number.
     pub fn listing(&self) -> String {
         listing_of(|out| boundary::file_listing(&self.bytes, out))
     }

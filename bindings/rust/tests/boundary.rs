@@ -3,7 +3,7 @@
 use thikbromu::boundary::*;
 use thikbromu::{Refusal, HISTOGRAM_COUNTS};
 
-/// 01's standard track, at track 0 and side 0, in a track file.
+/// The standard track, at track 0 and side 0, in a track file.
 const STANDARD: &[u8] = include_bytes!("../../../samples/standard.track");
 
 /// Its packed cells, 100,000.

@@ -6,7 +6,8 @@ ghost use lib.ListN.{length};
 ghost use Rattle.refusals.specs.RefusedCalls.{countedAnswer};
 ghost use Rattle.block_cells.specs.BlockToCells.{blockSeparation, blockCells, BlockDemand3};
 
-// The cells of one revolution of a block, counted from 0, at the front of a buffer: its timings, and then the separator's call on them.
+// The cells of one revolution of a block, counted from 0, at the front of a buffer (rule 9.16): its timings, and then the separator's call
+// on them.
 pub fn separate_revolution(
     block: &[u8],
     revolutions: u32,

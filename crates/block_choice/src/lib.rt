@@ -1,4 +1,4 @@
-// What is to be listed of a track block, from the four words of a command line.
+// What is to be listed of a track block, from the four words of a command line (rules 13.9 and 13.10).
 ghost use mathlib.Core.Path.{_≡_};
 ghost use Rattle.block_choice.specs.Arguments.{isDigit, argumentOf, noChoice, chosen, choiceOf};
 

@@ -1,5 +1,6 @@
--- What is printed of a block: "the listing that the track file with those timings would give" (docs/changes/03-supercard-pro.md,
--- "What was asked with it"): that of the cells which the block's separation leaves, or "refused" and the number. Assumes nothing.
+-- Section 9 of the specification, rule 9.17: what is printed of a block. The main property: it is the listing of a track with the cells
+-- that the block's separation leaves, or the line with a refusal's number. A track file with the same timings lists the same (rule 13.13).
+-- Assumes nothing.
 use Prim.Native.Nat.{ℕ}
 use mathlib.Core.List.{List}
 use lib.ListN.{length, replicate}
@@ -13,12 +14,13 @@ use Rattle.refusals.specs.RefusedCalls.Answer.{gives, refused}
 unfoldable pub roomForCells : List ℕ
 roomForCells = replicate 16384 0
 
--- what is printed where a separation answers so and leaves these packed cells: the listing of a track with them at T and H, or the refusal
+-- 9.17, 11.4, 13.8: what is printed where a separation answers so and leaves these packed cells: the listing of a track with them at T and
+-- H, or the refusal
 unfoldable pub printedCells : Answer ℕ → (cells : List ℕ) (T H : ℕ) → List ℕ
 printedCells (gives count) cells T H = listingOf cells count T H
 printedCells (refused number value) cells T H = refusedLine number
 
--- the listing of revolution k. Refusal 10 does not arise: more cells than the room holds are refused with 9
+-- 9.17, 13.7, 13.8: the listing of revolution k. Refusal 10 does not arise: more cells than the room holds are refused with 9
 unfoldable pub blockListing : (block : List ℕ) (revolutions k T H : ℕ) → List ℕ
 blockListing block revolutions k T H =
     printedCells (blockSeparation block revolutions k (length roomForCells)) (blockCells block revolutions k roomForCells) T H

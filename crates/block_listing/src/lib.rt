@@ -6,7 +6,7 @@ ghost use lib.ListN.{length};
 ghost use Rattle.lines.specs.Lines.{outAfter};
 ghost use Rattle.block_listing.specs.BlockListing.{roomForCells, blockListing};
 
-// The listing of a revolution of a block, at the front of `out`; the answer is the number of its bytes.
+// The listing of a revolution of a block, at the front of `out` (rule 9.17); the answer is the number of its bytes.
 pub fn list_block(
     block: &[u8],
     revolutions: u32,

@@ -1,4 +1,5 @@
-// What 01's kinds MTV, NFA and SID count on the cells of a track: ones too near or too far, the longest run of zeros, and sync words.
+// What the kinds MTV, NFA and SID count on the cells of a track (rules 7.38 to 7.42): ones too near or too far, the longest run of zeros,
+// and sync words.
 use sector_records::BYTE_LENGTH;
 use sector_records::ID_LENGTH;
 use sector_records::MARK_LENGTH;

@@ -102,7 +102,7 @@ module _ (q : List ℕ) (bits : Cells q) where
           getD-set-other front full i (packedByte more full) 0 f
           ∙ getD-listed (packedByte q) 0 n i h ∙ byte-without i f ∙ sym (getD-listed (packedByte more) 0 n i h)
 
-  -- "a one put at cell p", where p is the cell after those at the front of a buffer
+  -- a one put at cell p, where p is the cell after those at the front of a buffer
   pub packed-with-one : (n : ℕ) (rest : List ℕ) → length q < 8 * n
       → withOne (listed (packedByte q) n ++ rest) (length q) ≡ listed (packedByte (q ++ (1 ∷ []))) n ++ rest
   unfolding withOne

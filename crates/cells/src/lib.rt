@@ -1,4 +1,4 @@
-// The cells of a track, packed eight to a byte, highest bit first; the track is circular.
+// The cells of a track, which form a ring: eight are kept in a byte, the first of them as its highest bit.
 use basis::smaller;
 ghost use mathlib.Core.Path.{_≡_};
 ghost use Prim.Native.Nat.{ℕ, _<_, _≤_, _*_, _+_, _-_, _/_, _%_, _^_};

@@ -1,4 +1,4 @@
--- "it never gives 10": with a cell buffer of 16,384 bytes or more, whatever the file. Assumes nothing.
+-- 10 is never given with a cell buffer of 16,384 bytes or more, whatever the file. Assumes nothing.
 use Prim.Native.Nat.{ℕ, _≤_}
 use mathlib.Core.Path.{_≡_}
 use mathlib.Core.Bool.{Bool, true, false, cond}

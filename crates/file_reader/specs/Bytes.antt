@@ -1,4 +1,5 @@
--- 01, "Track file and listing": the track file as its bytes come. What one byte does to the reader and to the cell buffer. Assumes nothing.
+-- Section 10 of the specification: the track file as its bytes come: what one byte does to the reader and to the cell buffer. The main
+-- property: the reader keeps the section it is in and the counts, and no timings and no file (rule 10.12). Assumes nothing.
 use Prim.Native.Nat.{ℕ, _+_, _-_}
 use mathlib.Core.Bool.{cond}
 use mathlib.Core.List.{List}
@@ -17,24 +18,28 @@ use Rattle.file_reader.specs.declared.Extended.the-variants.{Part, Whole
 use Rattle.file_reader.specs.declared.Reader.{Reader}
 use Rattle.file_reader.specs.declared.Reader.the-variants.{PlaceCount, Track, Side, CellCount, PackedCells, FluxCount, Timings, AllCells, AllTimings, NotATrackFile, Stopped}
 
--- a number with a byte more, "low byte first"
+-- 10.2: a number with a byte more. It has four, the lowest first
 unfoldable pub numberAfter : Number → ℕ → Extended
 numberAfter Empty byte = Part (One byte)
 numberAfter (One a) byte = Part (Two a byte)
 numberAfter (Two a b) byte = Part (Three a b byte)
 numberAfter (Three a b c) byte = Whole (fourBytes a b c byte)
 
--- where the reader stands after each section's count, after byte `at` of the packed cells, and after a timing
+-- 10.1, 10.4: after the count of the place come T and H; a count other than 2 is refused at once
 unfoldable pub afterPlaceCount : ℕ → Reader
 afterPlaceCount count = cond (eqb count 2) Track (Stopped NoTrackFile)
 
+-- 10.1, 10.4: after the count of cells come the cells, or the flux section where it is 0; above 131,072 it is refused at once
 unfoldable pub afterCellCount : Place → ℕ → Reader
 afterCellCount place count =
     cond (ltb 131072 count) (Stopped (CellsRefused count)) (cond (eqb count 0) (FluxCount place 0 Empty) (PackedCells place count 0))
 
+-- 10.1, 10.3: after byte `at` of the packed cells comes the next of them, or the flux section
 unfoldable pub afterPackedByte : Place → ℕ → ℕ → Reader
 afterPackedByte place count at = cond (ltb (at + 1) (bytesFor count)) (PackedCells place count (at + 1)) (FluxCount place count Empty)
 
+-- 10.1, 10.4, 10.7: after the count of timings come the timings. Above 65,536 it is refused at once; where it and the count of cells are
+-- both 0, or both not 0, the bytes are no track file
 unfoldable pub afterFluxCount : Place → ℕ → ℕ → Reader
 afterFluxCount place cellCount count =
     cond (ltb 65536 count) (Stopped (TooManyTimings count))
@@ -42,10 +47,11 @@ afterFluxCount place cellCount count =
     (cond (eqb count 0) NotATrackFile (Timings place count Empty noneTaken))
     (cond (eqb count 0) (AllCells place cellCount) NotATrackFile))
 
+-- 10.1: after a timing, the first of `left`, comes the next, or the file is whole
 unfoldable pub afterTiming : Place → ℕ → TakenTimings → Reader
 afterTiming place left taken = cond (ltb 1 left) (Timings place (left - 1) Empty taken) (AllTimings place taken)
 
--- the reader after a byte of a count, and after a byte of a timing
+-- 10.2, 10.4: the reader after a byte of a count or of a timing. Nothing is judged before all four are there
 unfoldable pub inPlaceCount : Extended → Reader
 inPlaceCount (Part number) = PlaceCount number
 inPlaceCount (Whole count) = afterPlaceCount count
@@ -62,7 +68,8 @@ unfoldable pub inTiming : Place → ℕ → TakenTimings → Extended → Reader
 inTiming place left taken (Part number) = Timings place left number taken
 inTiming place left taken (Whole t) = afterTiming place left (takenAfter taken t)
 
--- the reader after a byte
+-- 10.1, 10.6, 10.7: the reader after a byte. One after a whole file is left over, so that the bytes are no track file; after a refusal at
+-- once nothing changes
 unfoldable pub readerAfterByte : Reader → ℕ → Reader
 readerAfterByte (PlaceCount number) byte = inPlaceCount (numberAfter number byte)
 readerAfterByte Track byte = Side byte
@@ -76,11 +83,13 @@ readerAfterByte (AllTimings place taken) byte = NotATrackFile
 readerAfterByte NotATrackFile byte = NotATrackFile
 readerAfterByte (Stopped refusal) byte = Stopped refusal
 
--- the buffer after a byte
+-- 10.12: the buffer after a byte of a timing: its cells are put with its last byte
 unfoldable pub inTimingCells : TakenTimings → Extended → List ℕ → List ℕ
 inTimingCells taken (Part number) buffer = buffer
 inTimingCells taken (Whole t) buffer = takenCells taken t buffer
 
+-- 10.9, 10.12: the buffer after a byte: packed cells are put as they stand, those of a timing by the separator's step, and no other byte
+-- changes it
 unfoldable pub cellsAfterByte : Reader → ℕ → List ℕ → List ℕ
 cellsAfterByte (PlaceCount number) byte buffer = buffer
 cellsAfterByte Track byte buffer = buffer

@@ -1,10 +1,10 @@
 -- What follows from the definition of the findings. `bytes` are the packed cells of a track of N cells, T is the drive's track, and
--- kinds have 01's numbers, from 1 to 21 (`kinds`).
+-- kinds have their numbers from 1 to 21 (`kinds`). These laws are what rules 7.4 and 7.31 to 7.33 say of the list.
 --
 --   stands-exactly      a finding stands in the list exactly when the rule of its kind holds at one of its looks, with the place and detail
 --                       of the row there
 --   empty-means-none    the list is empty exactly when no rule holds
---   strictly-ordered    by kind, then place
+--   strictly-ordered    a later finding has a later kind, or the same kind and a later place
 --   kinds-in-range      kinds are 1 to 21, and each has its level
 --   levels-all          there are as many levels as kinds, and as many rows in the table
 --   tnf-only            kind 4 stands only with level 2, place 0, detail 0, and T at most 79

@@ -1,4 +1,4 @@
--- How many findings there can be: 901 where there are at most 64 sectors. Assumes nothing.
+-- How many findings there can be: 901 where there are at most 64 sectors (rule 7.35). Assumes nothing.
 use Prim.Native.Nat.{ℕ, zero, suc, _+_, _*_, _<_, _≤_}
 use mathlib.Core.Path.{_≡_, refl, _∙_}
 use mathlib.Core.Bool.{Bool, true, false, cond, _&&_}

@@ -1,4 +1,6 @@
--- 01, "Findings": the list, "ordered by kind, then place". Kinds are given by their index, from 0. Assumes nothing.
+-- Section 7 of the specification, rules 7.31 to 7.33: the findings of a track as a list. A kind is given here by its index, which is one
+-- less than its number. The main property: `findingsOf` has each finding of the table's rows once, by kind and then by place. Assumes
+-- nothing.
 use Prim.Native.Nat.{ℕ, _+_}
 use mathlib.Core.Bool.{cond, _&&_}
 use mathlib.Core.List.{List, [], _∷_}
@@ -12,33 +14,34 @@ use Rattle.finding_list.specs.declared.Finding.{Finding}
 use Rattle.sector_records.specs.Sectors.{sectorsOf}
 use Rattle.sector_records.specs.declared.Sector.{Sector}
 
--- how many kinds there are
+-- 7.31: how many kinds there are
 abbrev pub kinds : ℕ
 kinds = 21
 
--- "the level of each kind stands in one constant table", from kind 1 to kind 21
+-- 7.33: the levels of the kinds, from kind 1 to kind 21
 unfoldable pub levels : List ℕ
 levels = 1 ∷ 1 ∷ 3 ∷ 2 ∷ 2 ∷ 1 ∷ 1 ∷ 2 ∷ 2 ∷ 2 ∷ 2 ∷ 2 ∷ 1 ∷ 1 ∷ 1 ∷ 1 ∷ 1 ∷ 1 ∷ 3 ∷ 3 ∷ 1 ∷ []
 
--- how often a kind looks: kinds 6 to 19 at each sector, the others once at the track
+-- 7.32: how often a kind is judged: kinds 6 to 19 once for each sector, the others once for the track
 unfoldable pub looks : List Sector → (k : ℕ) → ℕ
 looks ss k = cond (leb 5 k && ltb k 19) (length ss) 1
 
--- its row in the table at look i, on a track of N cells f with the sectors ss
+-- row k of the table at look i, on a track of N cells f with the sectors ss
 unfoldable pub rowAt : (ℕ → ℕ) → (N T : ℕ) → List Sector → (k i : ℕ) → Row
 rowAt f N T ss k i = getD (rows f N T ss i) k noRow
 
--- what a row finds: a finding where its rule holds, else nothing
+-- 7.31, 7.33: what a row finds: where its rule holds a finding, with its kind's number and level, and else nothing
 unfoldable pub foundBy : (k : ℕ) → Row → List Finding
 foundBy k row = cond (row .holds) (record { kind = k + 1; level = getD levels k 0; place = row .place; detail = row .detail } ∷ []) []
 
--- the findings of a kind, look by look
+-- what a kind finds at look i
 unfoldable pub foundAt : (ℕ → ℕ) → (N T : ℕ) → List Sector → (k i : ℕ) → List Finding
 foundAt f N T ss k i = foundBy k (rowAt f N T ss k i)
 
+-- 7.32: what a kind finds, look after look: sectors are looked at in the order of their places
 unfoldable pub ofKind : (ℕ → ℕ) → (N T : ℕ) → List Sector → (k : ℕ) → List Finding
 ofKind f N T ss k = joined (foundAt f N T ss k) (looks ss k)
 
--- "Findings are ordered by kind, then place": the findings of a track of N cells
+-- 7.32, 7.43: the findings of a track of N cells, kind after kind. The side H is not asked for
 unfoldable pub findingsOf : List ℕ → (N T : ℕ) → List Finding
 findingsOf bytes N T = joined (ofKind (cell bytes N) N T (sectorsOf bytes N)) kinds

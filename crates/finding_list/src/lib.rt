@@ -1,5 +1,5 @@
-// The list of a track's findings: 01's 21 kinds, ordered by kind, then place, as numbers put one after the other. A kind is given by its
-// index, from 0.
+// The list of a track's findings, kind after kind and each kind by place (rule 7.32), as numbers put one after the other. A kind is given by
+// its index, from 0.
 use cell_patterns::Gaps;
 use finding_rules::Row;
 use refusals::Counted;
@@ -18,7 +18,7 @@ ghost use Rattle.refusals.specs.RefusedCalls.{countedAnswer};
 ghost use Rattle.sector_records.specs.Sectors.{sectorsOf};
 ghost use Rattle.finding_list.specs.PrivateContracts.{duplicateAt, AtMost64, BoundedTrack, Narrow, sectorsIn, Added, Room};
 
-// A finding: its kind from 1 to 21, the kind's level, its place in cells, and its detail.
+// A finding (rule 7.31): its kind from 1 to 21, the kind's level, its place in cells, and its detail.
 #[repr(C)]
 pub struct Finding {
     pub kind: u8,
@@ -33,11 +33,11 @@ pub struct Found {
     pub answer: Counted,
 }
 
-// The numbers of the most findings that there can be, four for each: with 64 sectors there are at most 901.
+// The numbers of the most findings that there can be, four for each: with 64 sectors there are at most 901 (rule 7.35).
 pub const NUMBERS: usize = 3604;
 
 // Every finding of a track of n cells, packed in `bytes`, as numbers at the front of the array: kind, level, place and detail of each, and
-// zeros behind them. `track` and `side` are the drive's.
+// zeros behind them (rule 9.18). `track` and `side` are the drive's.
 pub fn survey(numbers: &mut [u32; NUMBERS], bytes: &[u8], n: usize, track: u32, side: u32) -> Found
     ensures answer { λ r. ⌜ countedAnswer (r .answer) ≡ surveyAnswer (now (bytes .entry)) n track side ⌝ }
     ensures sectors { λ r. ⌜ r .sectors ≡ sectorsGiven (surveyAnswer (now (bytes .entry)) n track side) (length (sectorsOf (now (bytes .entry)) n)) ⌝ }

@@ -1,4 +1,4 @@
-// The rules of 01's table of findings on the track's numbers, on one sector's record, on one record beside another, and on what was
+// The table of findings (rules 7.1 to 7.21): on the track's numbers, on one sector's record, on one record beside another, and on what was
 // counted on the cells. A kind is given by its place in its group, from 0.
 use cell_patterns::Gaps;
 use sector_records::Sector;

@@ -1,5 +1,5 @@
--- The call of 01, "Findings": "Findings, giving their number: 1 to 5." The list is the caller's: "the library fills the front and the
--- rest stays". Assumes nothing.
+-- Section 9 of the specification, rules 9.1 and 9.24: the findings of a track in a list that the caller lends, of finding records or of
+-- numbers. The main property: the list gets all findings at its front, or the call is refused and the list kept. Assumes nothing.
 use Prim.Native.Nat.{ℕ, _/_}
 use mathlib.Core.Bool.{cond}
 use mathlib.Core.List.{List}
@@ -13,17 +13,17 @@ use Rattle.finding_list.specs.declared.Finding.{Finding}
 use Rattle.sectors.specs.Calls.{trackJudged, countJudged}
 use Rattle.sector_records.specs.Sectors.{sectorsOf}
 
--- refusals 1 to 5, for a list with room for `room` findings, and else their number
+-- 8.5, 9.1: refusals 1 to 4, then 5 where there is room for `room` findings and they are more; else how many they are
 unfoldable pub findingsAnswer : List ℕ → (N T H room : ℕ) → Answer ℕ
 findingsAnswer bytes N T H room =
     trackJudged bytes N T H
     (countJudged (length (sectorsOf bytes N))
     (cond (ltb room (length (findingsOf bytes N T))) (refused 5 (length (findingsOf bytes N T))) (gives (length (findingsOf bytes N T)))))
 
--- the caller's list of finding records afterwards
+-- 7.34, 9.1: the lent list of finding records afterwards
 abbrev pub listAfter : List ℕ → (N T H : ℕ) → List Finding → List Finding
 listAfter bytes N T H list = bufferAfter (findingsAnswer bytes N T H (length list)) (findingsOf bytes N T) list
 
--- a list of numbers afterwards, with room for a quarter as many findings
+-- 7.34, 9.24: a lent list of numbers afterwards. It has room for a quarter as many findings, rounded down
 abbrev pub numbersAfter : List ℕ → (N T H : ℕ) → List ℕ → List ℕ
 numbersAfter bytes N T H list = bufferAfter (findingsAnswer bytes N T H (length list / 4)) (numbersOf (findingsOf bytes N T)) list

@@ -9,8 +9,8 @@ ghost use lib.ListN.{length};
 ghost use Rattle.findings.specs.Calls.{findingsAnswer, listAfter};
 ghost use Rattle.refusals.specs.RefusedCalls.{countedAnswer};
 
-// The findings of a track of n cells, packed in `bytes`, at the front of the list; the rest stays. `track` and `side` are the
-// drive's. All is decided by `plan`, on numbers: what a finding is never stands in this function.
+// The findings of a track of n cells, packed in `bytes`, at the front of the list, and what follows is kept (rule 9.1). `track` and `side`
+// are the drive's. All is decided by `plan`, on numbers: what a finding is never stands in this function.
 pub fn findings(bytes: &[u8], n: usize, track: u32, side: u32, list: &mut [Finding]) -> Counted
     ensures answer { λ r. ⌜ countedAnswer r ≡ findingsAnswer (now (bytes .entry)) n track side (length (now (list .entry))) ⌝ }
     ensures list { λ _. ⌜ now (list .exit) ≡ listAfter (now (bytes .entry)) n track side (now (list .entry)) ⌝ }

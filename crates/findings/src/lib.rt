@@ -1,4 +1,4 @@
-// The copy-protection findings of a track in the caller's list: 01's 21 kinds, ordered by kind, then place.
+// The copy-protection findings of a track, of 21 kinds, in the caller's list: kind after kind, and each kind by place (rule 7.32).
 mod lent;
 
 pub use finding_list::Finding;
@@ -17,8 +17,8 @@ ghost use Rattle.findings.specs.PrivateContracts.{countWritten, findingA
 ghost use Rattle.refusals.specs.RefusedCalls.{refusedWith, countedAnswer};
 ghost use Rattle.sector_records.specs.Sectors.{sectorsOf};
 
-// The findings of a track of n cells, packed in `bytes`, as numbers at the front of the list: kind, level, place and detail of each.
-// `track` and `side` are the drive's.
+// The findings of a track of n cells, packed in `bytes`, as numbers at the front of the list: kind, level, place and detail of each (rule
+// 9.24). `track` and `side` are the drive's.
 pub fn findings_as_numbers(bytes: &[u8], n: usize, track: u32, side: u32, list: &mut [u32]) -> Found
     ensures answer { λ r. ⌜ countedAnswer (r .answer) ≡ findingsAnswer (now (bytes .entry)) n track side (length (now (list .entry)) / 4) ⌝ }
     ensures sectors { λ r. ⌜ r .sectors ≡ sectorsGiven (findingsAnswer (now (bytes .entry)) n track side (length (now (list .entry)) / 4)) (length (sectorsOf (now (bytes .entry)) n)) ⌝ }

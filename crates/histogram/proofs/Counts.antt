@@ -1,4 +1,4 @@
--- Laws of the counts: a loop that counts one timing a turn makes them, and they sum to the number of timings (`counts-sum`).
+-- Laws of the counts: a loop that counts one timing a turn makes them, and they add up to the number of timings (`counts-sum`).
 -- Assumes nothing.
 use Prim.Native.Nat.{ℕ, zero, suc, _+_, _≤_, _<_}
 use mathlib.Core.Path.{_≡_, refl, sym, _∙_}
@@ -119,7 +119,7 @@ sum-adds b (suc n) h = go (ℕ-discrete n b) (sum-adds b n)
     go (yes z) before = omega (arith, sum-last (adds b) n, sum-before b n (omega arith), adds-same b n z)
     go (no z) before = omega (arith, sum-last (adds b) n, before (omega arith), adds-other b n z)
 
--- "They sum to the number of timings"
+-- rule 5.3: the counts of timings add up to as many as there are
 pub counts-sum : (ts : List ℕ) → sumOf (countsOf ts) ≡ length ts
 unfolding countOf countsOf
 counts-sum [] = sum-none (countOf []) (λ i. refl) 256

@@ -1,5 +1,5 @@
--- 01, "The separator": "Histogram: 256 counts .. count i is of timings 100i to 100i+99, and count 255 of all from 25,500 up. They sum
--- to the number of timings." The sum is `counts-sum`, in proofs/Counts. Assumes nothing.
+-- Section 5 of the specification: the histogram of timings, 256 counts. The main property, rule 5.3: they add up to the number of timings
+-- (`counts-sum`, in proofs/Counts). Assumes nothing.
 use Prim.Native.Nat.{ℕ, _+_, _/_, min}
 use mathlib.Core.Bool.{cond}
 use mathlib.Core.List.{List, [], _∷_}
@@ -10,34 +10,34 @@ use Rattle.refusals.specs.RefusedCalls.{Answer}
 use Rattle.refusals.specs.RefusedCalls.Answer.{gives, refused}
 use Rattle.flux_timings.specs.Timings.{timingsJudged}
 
--- the count that a timing belongs to
+-- 5.2: the count that a timing raises: one for every 100 ns, and the last for all from 25,500 ns on
 abbrev pub binOf : ℕ → ℕ
 binOf t = min (t / 100) 255
 
--- how many of the timings belong to count i
+-- 5.1, 5.2: how many of the timings raise count i; it is 0 before any is counted
 unfoldable pub countOf : List ℕ → ℕ → ℕ
 countOf [] i = 0
 countOf (t ∷ ts) i = cond (eqb (binOf t) i) 1 0 + countOf ts i
 
--- the 256 counts
+-- 5.1: the 256 counts, from count 0 on
 unfoldable pub countsOf : List ℕ → List ℕ
 countsOf ts = listed (countOf ts) 256
 
--- the sum of some counts
+-- 5.3: counts added up
 unfoldable pub sumOf : List ℕ → ℕ
 sumOf [] = 0
 sumOf (x ∷ xs) = x + sumOf xs
 
--- "Histogram: 6 to 8"; else the number of timings counted
+-- 9.7: the call's answer: the timings are judged by 6, 7 and 8, and else their number is given
 abbrev pub counting : List ℕ → Answer ℕ
 counting ts = timingsJudged ts (gives (length ts))
 
--- "A record or count table beside a refusal is all zeros"
+-- 5.1, 8.32, 9.7: the counts that the call gives. Beside a refusal all are 0
 unfoldable pub countsAfter : Answer ℕ → List ℕ → List ℕ
 countsAfter (gives count) ts = countsOf ts
 countsAfter (refused number value) ts = replicate 256 0
 
--- "They sum to the number of timings"; beside a refusal, to 0
+-- 5.3: what these counts add up to: the number of timings, or 0 beside a refusal
 unfoldable pub sumAfter : Answer ℕ → List ℕ → ℕ
 sumAfter (gives count) ts = length ts
 sumAfter (refused number value) ts = 0

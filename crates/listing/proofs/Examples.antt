@@ -1,4 +1,4 @@
--- The listings that 01 prints, by computation: 01's lines and headers, and what is printed of tracks that are refused. Assumes nothing.
+-- The listings of rules 11.1, 11.4 and 11.10, by computation: lines, headers, and what is printed of a refused track. Assumes nothing.
 use mathlib.Core.Path.{_≡_, refl}
 use mathlib.Core.List.{[], _∷_, _++_}
 use Rattle.findings.specs.Calls.{findingsAnswer}
@@ -7,7 +7,7 @@ use Rattle.sectors.specs.Calls.{trackJudged}
 use Rattle.lines.specs.Lines.{bytesOf, digit, digitsWithin, decimalOf, twoDigits, names, nameOf, headerOf, findingLine, refusedLine}
 use Rattle.listing.specs.Listing.{linesOf, printed, listingOf}
 
--- the findings of 01's examples
+-- the findings of these examples
 abbrev nos : Finding
 nos = record { kind = 3; level = 3; place = 0; detail = 0 }
 
@@ -17,29 +17,29 @@ tnf = record { kind = 4; level = 2; place = 0; detail = 0 }
 abbrev nfa : Finding
 nfa = record { kind = 21; level = 1; place = 0; detail = 100000 }
 
--- "Whole listing for T 5, H 0, 100,000 cells, all bytes AA": no sectors, and the findings NOS and TNF
+-- T 5, H 0 and 100,000 cells without a sector: NOS and TNF
 pub lines-of-findings : headerOf 5 0 100000 0 2 ++ linesOf (nos ∷ tnf ∷ [])
     ≡ bytesOf "T05 H0 cells 100000 sectors 0 findings 2\n3 NOS level 3 place 0 detail 0\n4 TNF level 2 place 0 detail 0\n"
 unfolding headerOf twoDigits linesOf findingLine nameOf names decimalOf digitsWithin digit bytesOf
 lines-of-findings = refl
 
--- "At T 80 line 4 is absent and the header says findings 1."
+-- the same at T 80: NOS alone
 pub listing-80 : headerOf 80 0 100000 0 1 ++ linesOf (nos ∷ [])
     ≡ bytesOf "T80 H0 cells 100000 sectors 0 findings 1\n3 NOS level 3 place 0 detail 0\n"
 unfolding headerOf twoDigits linesOf findingLine nameOf names decimalOf digitsWithin digit bytesOf
 listing-80 = refl
 
--- "The standard track at T 0 prints its header with sectors 9 findings 0."
+-- the standard track at T 0: nine sectors and no finding
 pub standard-header : headerOf 0 0 100000 9 0 ≡ bytesOf "T00 H0 cells 100000 sectors 9 findings 0\n"
 unfolding headerOf twoDigits decimalOf digitsWithin digit bytesOf
 standard-header = refl
 
--- "All zero cells at T 80: NOS with detail 0, then NFA at place 0 with detail 100000."
+-- 100,000 cells that are all 0, at T 80: NOS and NFA
 pub zero-cells : linesOf (nos ∷ nfa ∷ []) ≡ bytesOf "3 NOS level 3 place 0 detail 0\n21 NFA level 1 place 0 detail 100000\n"
 unfolding linesOf findingLine nameOf names decimalOf digitsWithin digit bytesOf
 zero-cells = refl
 
--- T 84; 19,999 cells; no bytes for 20,000 cells; "not a track file"
+-- T 84; 19,999 cells; no bytes for 20,000 cells; bytes that are no track file
 pub refused-track : listingOf [] 100000 84 0 ≡ bytesOf "refused 1\n"
 unfolding listingOf printed findingsAnswer trackJudged refusedLine decimalOf digitsWithin digit bytesOf
 refused-track = refl

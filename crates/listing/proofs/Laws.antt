@@ -1,6 +1,6 @@
--- What follows from the definitions of the listing. `bytes` are the packed cells of a track of N cells, T is the drive's track, H its side.
+-- What follows from the definitions of the listing. `bytes` are the packed cells of a track of N cells, at the track T and side H.
 --
---   never-five         "it never gives 5": the room for 901 findings is always enough
+--   never-five         5 is never given: the room for 901 findings is always enough
 --   whole-in-room      in a buffer that is long enough a line or a listing is written whole
 --   front-in-room      so the front of the buffer is that line or listing
 --

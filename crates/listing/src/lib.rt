@@ -1,4 +1,4 @@
-// The listing of a track, as bytes: a header and a line for each finding, or "refused" and a number, at the front of a lent buffer. What
+// The listing of a track, as bytes: a header and a line for each finding, or `refused` and a number, at the front of a lent buffer. What
 // there is no room for is not written; the answer is the number of bytes of the whole.
 use refusals::Counted;
 ghost use mathlib.Core.Path.{_≡_};

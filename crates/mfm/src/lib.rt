@@ -33,8 +33,8 @@ pub fn encode(bytes: &[u8], before: bool, cells: &mut [u8]) -> Counted
     Counted::Count(needed)
 }
 
-// Decoding: one byte for each two bytes of cells, at the front of `bytes`; an odd last byte of cells is not read.
-// The bytes written are counted.
+// Decoding: each two bytes of `cells` make a byte, at the front of `bytes`; a last one that stands alone is passed over. The bytes written
+// are counted.
 pub fn decode(cells: &[u8], bytes: &mut [u8]) -> Counted
     ensures answer { λ r. ⌜ countedAnswer r ≡ decodingAnswer (now (cells .entry)) (now (bytes .entry)) ⌝ }
     ensures buffer { λ _. ⌜ now (bytes .exit) ≡ decodedAfter (now (cells .entry)) (now (bytes .entry)) ⌝ }

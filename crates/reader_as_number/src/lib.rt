@@ -1,4 +1,4 @@
-// The reader of a revolution's values as one number, for callers that cannot hold it.
+// The reader of a revolution's values as one number, for callers that cannot hold it (rule 12.24).
 use revolution_portions::RevolutionReader;
 use revolution_values::Held;
 use revolution_values::Unfinished;

@@ -1,5 +1,5 @@
--- 01, "Refused calls": the number of each refusal, what it gives also, and what a call leaves in a lent buffer: a refused call leaves it as
--- it was. 16 and 17 are those of 02, ticket 3, which has 10 also for the room of timings. Assumes nothing.
+-- Section 8 of the specification: the number of each refusal, what is given beside it, and what a call leaves in a lent buffer. When a
+-- refusal is given is stated where it is judged. The main property: a refused call leaves the buffer as it was. Assumes nothing.
 use Prim.Native.Nat.{ℕ}
 use mathlib.Core.List.{List}
 use Rattle.basis.specs.Lists.{writtenOver}
@@ -8,7 +8,8 @@ use Rattle.refusals.specs.declared.Counted.the-variants.{Count, Refused}
 use Rattle.refusals.specs.declared.Refusal.{Refusal}
 use Rattle.refusals.specs.declared.Refusal.the-variants.{TrackOrSide, CellCount, TooFewBytes, TooManySectors, ListTooShort, NoTimings, TooManyTimings, TimingOutOfRange, TooManyCells, NoRoom, NoSuchSector, NoDataRead, NoRoomForBytes, TooManyBytes, NotATrackFile, NotATrackBlock, NoSuchRevolution}
 
--- the table's column "no"
+-- 8.1, 8.2, 8.3, 8.4, 8.5, 8.6, 8.7, 8.8, 8.9, 8.10, 8.11, 8.12, 8.13, 8.14, 8.15, 8.16, 8.17: `numberOf` is the number of a refusal, the K
+-- of rule 8.K, and `valueOf` what is given beside it: the number that it carries, or 0 where it carries none
 abbrev pub numberOf : Refusal → ℕ
 numberOf TrackOrSide = 1
 numberOf (CellCount cells) = 2
@@ -28,7 +29,6 @@ numberOf NotATrackFile = 15
 numberOf NotATrackBlock = 16
 numberOf NoSuchRevolution = 17
 
--- the table's column "gives also". "Refusals added later give 0 unless they say otherwise."
 abbrev pub valueOf : Refusal → ℕ
 valueOf TrackOrSide = 0
 valueOf (CellCount cells) = cells
@@ -48,7 +48,7 @@ valueOf NotATrackFile = 0
 valueOf NotATrackBlock = 0
 valueOf NoSuchRevolution = 0
 
--- what a call answers, in 01's terms: what an accepted call gives, or a refusal's number and what it gives also
+-- 8.33: what a call answers, whatever it is called with: what an accepted call gives, or a refusal's number and what is given beside it
 pub data Answer (A : Type 0) : Type 0 where
   gives : A → Answer A
   refused : ℕ → ℕ → Answer A
@@ -57,12 +57,13 @@ pub data Answer (A : Type 0) : Type 0 where
 abbrev pub refusedWith : {A : Type 0} → Refusal → Answer A
 refusedWith refusal = refused (numberOf refusal) (valueOf refusal)
 
--- what a call answers that counts something: the number that it gives, or its refusal
+-- 8.33: the answer of a call that counts something: how many, or its refusal
 abbrev pub countedAnswer : Counted → Answer ℕ
 countedAnswer (Count count) = gives count
 countedAnswer (Refused refusal) = refusedWith refusal
 
--- "each writes nothing": a lent buffer after a call. Where the call is accepted, what it made stands at the front and the rest is kept
+-- 8.31: a lent buffer after a call. Where the call is refused, it is as it was. Where it is accepted, what the call made stands at the
+-- front and the rest is kept
 unfoldable pub bufferAfter : {A B : Type 0} → Answer A → List B → List B → List B
 bufferAfter (gives result) made buffer = writtenOver made buffer
 bufferAfter (refused number value) made buffer = buffer

@@ -1,8 +1,8 @@
-// 01's refusals, one variant for each row of its table "Refused calls", in that order, and then those that 02 adds.
+// The refusals of section 8 of the specification: one variant for each row of its table, in the same order.
 ghost use mathlib.Core.Path.{_≡_};
 ghost use Rattle.refusals.specs.RefusedCalls.{numberOf, valueOf};
 
-// Why a call was refused, with what 01 says is given also.
+// Why a call was refused, with the number that is given beside it.
 pub enum Refusal {
     // 1: the track is above 83 or the side above 1.
     TrackOrSide,
@@ -47,7 +47,7 @@ pub enum Counted {
 }
 
 impl Refusal {
-    // The refusal's number in 01's table.
+    // The refusal's number, the K of rule 8.K.
     pub fn number(self) -> u32
         ensures { λ r. ⌜ r ≡ numberOf self ⌝ }
     {
@@ -72,7 +72,7 @@ impl Refusal {
         }
     }
 
-    // What the refusal gives also.
+    // What is given beside the refusal.
     pub fn value(self) -> usize
         ensures { λ r. ⌜ r ≡ valueOf self ⌝ }
     {

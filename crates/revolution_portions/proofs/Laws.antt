@@ -2,7 +2,7 @@
 --
 --   left-few         after an accepted portion at most 7 zeros are counted, and at most 65,536 timings
 --   accepted-left    so the reader that it leaves is one that calls leave
---   left-exactly     "a carried state no call leaves": calls leave the states of which `isLeftByCalls` is true, and no others
+--   left-exactly     calls leave the states of which `isLeftByCalls` is true, and no others (rule 12.19)
 --   counted          a reader that calls left counts the timings that they gave
 --   given-same       what calls gave is the timings of their bytes
 --

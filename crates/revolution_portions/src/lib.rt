@@ -15,7 +15,7 @@ ghost use Rattle.refusals.specs.declared.Counted.{Counted};
 ghost use Rattle.revolution_portions.specs.Portions.{freshReader, usableReader, portionAnswer, portionReader, portionList, AllTimings};
 ghost use Rattle.revolution_portions.specs.PrivateContracts.{LookedOver};
 
-// Where the reading of a revolution's values stands: the timing that has not ended, and how many have.
+// Where the reading of a revolution's values stands (rule 12.16): the timing that has not ended, and how many have.
 pub struct RevolutionReader {
     pub unfinished: Unfinished,
     pub timings: u32,
@@ -41,7 +41,7 @@ impl RevolutionReader {
         }
     }
 
-    // A state that no call leaves counts as a fresh one.
+    // A fresh state in the place of one that calls cannot leave (rule 12.19).
     pub fn usable(self) -> Self
         ensures { λ r. ⌜ r ≡ usableReader self ⌝ }
     {
@@ -55,7 +55,7 @@ impl RevolutionReader {
         self
     }
 
-    // A portion more of the values: the timings that end in it, to the front of a list.
+    // A portion more of the values: the timings that end in it, to the front of a list (rule 9.15).
     pub fn take(self, portion: &[u8], timings: &mut [u32]) -> TakenPortion
         ensures answer { λ r. ⌜ countedAnswer (r .answer) ≡ portionAnswer self (now (portion .entry)) (length (now (timings .entry))) ⌝ }
         ensures state { λ r. ⌜ r .next ≡ portionReader self (now (portion .entry)) (length (now (timings .entry))) ⌝ }

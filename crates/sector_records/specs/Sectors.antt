@@ -1,9 +1,10 @@
--- 01, "Sectors": the record of a sector, and the sectors of a track.
+-- Section 6 of the specification: the record of a sector, and the sectors of a track.
 --
 --   ID     p    mark   p+64  track  side  number  size code   p+128  check bytes   p+160
 --   data   q    mark   q+64  L bytes              check bytes        data end: q + 64 + 16L + 32
 --
--- f are the cells of the track, which go on round it. Assumes nothing.
+-- f are the cells of the track, which go on round it. The main property: `sectorsOf` has each ID mark's record, in the order of places.
+-- Assumes nothing.
 use Prim.Native.Nat.{ℕ, suc, _+_, _-_, _*_}
 use mathlib.Core.Bool.{Bool, false, cond, _&&_}
 use mathlib.Core.List.{List, [], _∷_, _++_}
@@ -18,17 +19,19 @@ use Rattle.sector_records.specs.Marks.{markByte, idMarkAt, dataMarkAt}
 use Rattle.sector_records.specs.declared.Sector.{Sector}
 use Rattle.sector_records.specs.declared.Sectors.{Sectors}
 
--- the cells of two check bytes, of a mark with its byte, of an ID with its mark and check bytes, and how far past an ID mark a data
--- mark is looked for
+-- 6.14: two check bytes have 32 cells
 abbrev pub checkLength : ℕ
 checkLength = 32
 
+-- 6.6: a mark with its byte has 64 cells; what it announces begins after them
 abbrev pub markLength : ℕ
 markLength = 64
 
+-- 6.7: an ID with its mark and its check bytes has 160 cells
 abbrev pub idLength : ℕ
 idLength = 160
 
+-- 6.9: the last distance from an ID mark at which a data mark is looked for
 abbrev pub reach : ℕ
 reach = 784
 
@@ -36,44 +39,46 @@ reach = 784
 unfoldable pub byteFrom : (ℕ → ℕ) → ℕ → ℕ → ℕ
 byteFrom f p i = byteOn f (p + 16 * i)
 
--- k bytes from p on
+-- 6.13: k bytes from p on. They may go over the index
 unfoldable pub bytesFrom : (ℕ → ℕ) → ℕ → ℕ → List ℕ
 bytesFrom f p k = listed (byteFrom f p) k
 
--- "two check bytes (high byte first, as after the data)"
+-- 6.7, 6.13: two check bytes as one number, the high one first
 unfoldable pub checkBytes : (ℕ → ℕ) → ℕ → ℕ
 checkBytes f p = byteOn f p * 256 + byteOn f (p + 16)
 
--- the check of a field whose mark stands at p, with k bytes after the mark byte: "covers A1 A1 A1, mark and" the bytes
+-- 6.8, 6.15: the check of a field is good, whose mark stands at p and which has k bytes after its mark byte: the check bytes behind them
+-- are the check word of A1 A1 A1, the mark byte and these k
 unfoldable pub checkGood : (ℕ → ℕ) → ℕ → ℕ → Bool
 checkGood f p k = eqb (checkWord (0xA1 ∷ 0xA1 ∷ 0xA1 ∷ bytesFrom f (p + 48) (suc k))) (checkBytes f (p + markLength + 16 * k))
 
--- the least place from p + after to p + until that passes the test; one more than the last where there is none
+-- 6.9: the least place that passes the test, of those from p + after to p + until; one more than the last of them where there is none
 unfoldable pub leastWithin : (ℕ → Bool) → ℕ → ℕ → ℕ → ℕ
 leastWithin test after until p = least test (until + 1 - after) (p + after)
 
--- "the least q from p+160 to p+784, counted on past N where need be, with a data mark"
+-- 6.9, 6.10: the place q of the data mark of an ID mark at p, from 160 to 784 cells on. The search asks for nothing but a data mark, so it
+-- passes other IDs, and two sectors may find the same
 abbrev pub leastData : (ℕ → ℕ) → ℕ → ℕ
 leastData f p = leastWithin (dataMarkAt f) idLength reach p
 
--- there is such a q
+-- 6.9: there is a data mark at these places
 abbrev pub dataFound : (ℕ → ℕ) → ℕ → Bool
 dataFound f p = leb (leastData f p) (p + reach)
 
--- "Size codes 0, 1, 2, 3 give L = 128, 256, 512, 1024. A code above 3 has no length"
+-- 6.11: the length L that a size code stands for. Codes above 3 have none, which is 0 here
 unfoldable pub lengthOf : ℕ → ℕ
 lengthOf code = getD (128 ∷ 256 ∷ 512 ∷ 1024 ∷ []) code 0
 
--- "After the ID mark: track, side, number, size code"
+-- 6.6: byte i of an ID, after its mark byte: 0 is the track, 1 the side, 2 the number, 3 the size code
 abbrev pub idByte : (ℕ → ℕ) → ℕ → ℕ → ℕ
 idByte f p i = byteOn f (p + markLength + 16 * i)
 
--- L, 0 "where no data is read": where there is no data mark, or no length
+-- 6.12: L where data is read. It is 0 where no data mark is found, and where the size code has no length
 unfoldable pub dataLength : (ℕ → ℕ) → ℕ → ℕ
 dataLength f p = cond (dataFound f p) (lengthOf (idByte f p 3)) 0
 
--- "A sector's record holds p, mark, track, side, number, size code, ID check, q and data mark (0 where there is none), L and data check
--- (0 and bad where no data is read)"
+-- 6.8, 6.15, 6.16: the record of the sector with its ID mark at p. Without a data mark its place and byte are 0; the data check is bad
+-- where L is 0
 unfoldable pub sectorAt : (ℕ → ℕ) → ℕ → Sector
 sectorAt f p =
     record {
@@ -90,11 +95,11 @@ sectorAt f p =
       «data_check_good» = ltb 0 (dataLength f p) && checkGood f (leastData f p) (dataLength f p);
     }
 
--- "Data end = q + 64 + 16L + 32": where the data of a sector ends, with its check bytes
+-- 6.14: where the data of a sector ends: after its mark, its L bytes and their check bytes
 abbrev pub endOfData : Sector → ℕ
 endOfData s = s .«data_place» + markLength + 16 * s .«data_length» + checkLength
 
--- a record that is all zeros
+-- 6.17: a record of zeros, with both checks bad
 abbrev pub noSector : Sector
 noSector =
     record {
@@ -111,18 +116,18 @@ noSector =
       «data_check_good» = false;
     }
 
--- "Each ID mark is a sector, its check good or bad"
+-- 6.5: what stands at p: a sector where it is an ID mark, also with a bad check, and else nothing
 unfoldable pub sectorsAt : (ℕ → ℕ) → ℕ → List Sector
 sectorsAt f p = cond (idMarkAt f p) (sectorAt f p ∷ []) []
 
--- "sectors are ordered by p": the sectors of a track of n cells
+-- 6.4, 6.5: the sectors of a track of n cells. Every place from 0 to n - 1 is tried, so they stand in the order of their places
 unfoldable pub sectorsOf : List ℕ → ℕ → List Sector
 sectorsOf bytes n = joined (sectorsAt (cell bytes n)) n
 
--- sectors as the struct keeps them: their number, and the first 64 of them, with zeros after the last
+-- 9.23: sectors as the struct keeps them: how many they are, and 64 records, with records of zeros after the last sector
 unfoldable pub kept : List Sector → Sectors
 kept sectors = record { all = take 64 (sectors ++ replicate 64 noSector); count = length sectors }
 
--- the data bytes of a sector
+-- 6.13: the data bytes of a sector, L of them, from 64 cells after its data mark's beginning
 unfoldable pub dataBytes : (ℕ → ℕ) → Sector → List ℕ
 dataBytes f s = bytesFrom f (s .«data_place» + markLength) (s .«data_length»)

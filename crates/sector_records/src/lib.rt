@@ -28,7 +28,7 @@ pub const ID_LENGTH: usize = 160;
 // The sync A1.
 pub const SYNC: u64 = 0x4489;
 
-// A sector's record. Places are cells, counted on past the track's end where need be.
+// A sector's record (rule 6.16). Places are cells; that of the data mark may be past the track's end.
 pub struct Sector {
     // Where its ID mark stands, and the mark's byte.
     pub place: u32,
@@ -41,7 +41,7 @@ pub struct Sector {
     // Where its data mark stands, and the mark's byte; 0 where there is none.
     pub data_place: u32,
     pub data_mark: u8,
-    // The data bytes, and their check; 0 and bad where no data is read.
+    // How many data bytes are read, and their check. It is bad where none are.
     pub data_length: u32,
     pub data_check_good: bool,
 }

@@ -43,7 +43,7 @@ pub enum ReadOut {
     Refused(Refusal),
 }
 
-// The sectors of a track of n cells, packed in `bytes`; `track` and `side` are the drive's.
+// The sectors of a track of n cells, packed in `bytes` (rule 9.3); `track` and `side` are the drive's.
 pub fn sectors_of(bytes: &[u8], n: usize, track: u32, side: u32) -> TrackSectors
     ensures answer { λ r. ⌜ countedAnswer (r .answer) ≡ sectorsAnswer (now (bytes .entry)) n track side ⌝ }
     ensures sectors { λ r. ⌜ r .sectors ≡ sectorsBeside (sectorsAnswer (now (bytes .entry)) n track side) (sectorsOf (now (bytes .entry)) n) ⌝ }
@@ -69,7 +69,7 @@ pub fn sectors_of(bytes: &[u8], n: usize, track: u32, side: u32) -> TrackSectors
     }
 }
 
-// Sector `index` of a track, from 0, with the number of its sectors.
+// Sector `index` of a track, from 0, with the number of its sectors (rule 9.2).
 pub fn sector_by_index(bytes: &[u8], n: usize, track: u32, side: u32, index: usize) -> Indexed
     ensures answer { λ r. ⌜ countedAnswer (r .answer) ≡ indexAnswer (now (bytes .entry)) n track side index ⌝ }
     ensures sector { λ r. ⌜ r .sector ≡ recordBeside (indexAnswer (now (bytes .entry)) n track side index) (sectorOf (now (bytes .entry)) n index) ⌝ }
@@ -91,7 +91,7 @@ pub fn sector_by_index(bytes: &[u8], n: usize, track: u32, side: u32, index: usi
     }
 }
 
-// Reads out sector `index` of a track: its data bytes go to the front of the buffer.
+// Reads out sector `index` of a track: its data bytes go to the front of the buffer (rule 9.4).
 pub fn read_out(
     bytes: &[u8],
     n: usize,

@@ -1,5 +1,5 @@
--- All that the call on a list promises, from its answer and the buffer that the answer leaves; demand 3 is the tolerance law at 01's
--- numbers. Assumes nothing.
+-- All that the call on a list promises, from its answer and the buffer that the answer leaves; demand 3 is the tolerance law at the figures
+-- of section 4 of the specification. Assumes nothing.
 use Prim.Native.Nat.{ℕ, _-_}
 use mathlib.Core.Path.{_≡_, refl, _∙_, ap}
 use mathlib.Core.List.{List, [], _∷_}

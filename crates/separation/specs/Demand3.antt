@@ -1,8 +1,8 @@
--- 01, "What demand 3 says": the separator recovers the cells written, on any track within the tolerance.
+-- Section 4 of the specification, demand 3: on a track within the tolerance the separator recovers the cells that were written.
 --
--- Reversals are written at true places; the drive reports a pulse for each. Places and pulses are whole nanoseconds. The timings are
--- the differences of neighbouring pulses. The lengths of a cell, the pulses' error and the centres' error are parameters of the
--- records; `Tolerable` and `Demand3` state 01's. Its premises can be met (`met`, in proofs/Witness). Assumes nothing.
+-- A flux transition is called a reversal here. The lengths of a cell, the error of a pulse and the error of a centre are parameters of the
+-- records; `Tolerable` and `Demand3` have the specification's figures. The main property is `Demand3`, which the call promises for all
+-- timings and every buffer. Its premises can be met (`met`, in proofs/Witness). Assumes nothing.
 use Prim.Native.Nat.{ℕ, _+_, _*_, _≤_}
 use mathlib.Core.List.{List, [], _∷_, _++_}
 use mathlib.Core.Path.{_≡_}
@@ -14,7 +14,8 @@ use Rattle.refusals.specs.RefusedCalls.{Answer, bufferAfter}
 use Rattle.separation.specs.Separation.{cellsFor, Window, windowsOf, cellsJudged}
 use Rattle.flux_timings.specs.Timings.{numberJudged}
 
--- a reversal after the first: how many cells after the one before it stands, its true place, and where the drive reports its pulse
+-- 4.1, 4.2, 4.4: a flux transition after the first: its g, which is how many cells it stands after the one that precedes it, its true
+-- place, and where the drive gives its pulse
 pub record Reversal : Type 0 where
   pub gap : ℕ
   pub place : ℤ
@@ -24,8 +25,9 @@ pub record Reversal : Type 0 where
 abbrev pub Within : ℕ → ℤ → ℤ → Type 0
 Within d x y = natAbs (x -ℤ y) ≤ d
 
--- a reversal v, and the timing t that ends at its pulse, where the reversal before has its true place at p and its pulse at q.
--- "g being 2, 3 or 4 .. their true places are 1950g to 2050g apart .. at most 250 before or after its true place"
+-- 4.2, 4.3, 4.4, 4.5: a transition v, and the timing t that ends at its pulse, where the one that precedes it has its true place at p and
+-- its pulse at q. Its g is 2, 3 or 4; from p to its place it is at least shortest * g and at most longest * g; its pulse is no more than
+-- `jitter` off; t is the distance of the two pulses
 pub record Fair (shortest longest jitter : ℕ) (p q : ℤ) (v : Reversal) (t : ℕ) : Type 0 where
   pub least : 2 ≤ v .gap
   pub most : v .gap ≤ 4
@@ -34,56 +36,63 @@ pub record Fair (shortest longest jitter : ℕ) (p q : ℤ) (v : Reversal) (t : 
   pub near : Within jitter (v .pulse) (v .place)
   pub timing : pos t ≡ v .pulse -ℤ q
 
--- the reversals vs and the timings ts, after a reversal at p whose pulse is reported at q
+-- 4.1, 4.5: any number of transitions vs, and their timings ts in order, after a transition at p whose pulse stands at q
 pub data Track (shortest longest jitter : ℕ) : ℤ → ℤ → List Reversal → List ℕ → Type 0 where
   last : {p q : ℤ} → Track shortest longest jitter p q [] []
   more : {p q : ℤ} {v : Reversal} {vs : List Reversal} {t : ℕ} {ts : List ℕ}
       → Fair shortest longest jitter p q v t → Track shortest longest jitter (v .place) (v .pulse) vs ts
       → Track shortest longest jitter p q (v ∷ vs) (t ∷ ts)
 
--- "The cells written are, for each such g in turn, g - 1 zeros and a one"
+-- 4.6: the cells written: transition by transition those of its g
 unfoldable pub cellsWritten : List Reversal → List ℕ
 cellsWritten [] = []
 cellsWritten (v ∷ vs) = cellsFor (v .gap) ++ cellsWritten vs
 
--- "the cells in all being the sum of the g"
+-- 4.8: how many they are: all g added up
 unfoldable pub cellsInAll : List Reversal → ℕ
 cellsInAll [] = 0
 cellsInAll (v ∷ vs) = v .gap + cellsInAll vs
 
--- "the window centre used lies e before the reported pulse that ends the timing", at most `error` from that pulse's true place
+-- 3.5, 4.11: the window centre of each timing lies e before the pulse that ends the timing, and so at most `error` away from the true place
+-- of the transition whose pulse that is
 pub data Centred (error : ℕ) : List Reversal → List Window → Type 0 where
   none : Centred error [] []
   also : {v : Reversal} {vs : List Reversal} {w : Window} {ws : List Window}
       → Within error (v .pulse -ℤ w .offset) (v .place) → Centred error vs ws → Centred error (v ∷ vs) (w ∷ ws)
 
--- "It refuses exactly when the table gives 6, 7, 9 or 10": of k timings, n cells in all and `room` bytes. 8 does not arise
+-- 4.8: the answer to k timings of n cells in all with a buffer of `room` bytes: 6 and 7 are judged, then 9 and 10. 8 is not among them
 unfoldable pub refusalTable : ℕ → ℕ → ℕ → Answer ℕ
 refusalTable k n room = numberJudged k (cellsJudged n room)
 
--- what a call on the timings ts that answers `answer` and takes a buffer from `before` to `after` makes of the reversals vs
+-- 4.8, 4.9, 4.10, 4.11: what a call on the timings ts that answers `answer` and takes a buffer from `before` to `after` makes of the
+-- transitions vs. It is refused as the table says and not otherwise; where it is accepted the cells written stand packed at the front of
+-- the buffer; and the centres are near, each by the e of the steps up to it
 pub record Recovered (error : ℕ) (ts : List ℕ) (vs : List Reversal) (answer : Answer ℕ) (before after : List ℕ) : Type 0 where
   pub refusal : answer ≡ refusalTable (length ts) (cellsInAll vs) (length before)
   pub cells : after ≡ bufferAfter answer (packed (cellsWritten vs)) before
   pub centres : Centred error vs (windowsOf ts)
 
--- 01's tolerance, in nanoseconds: the shortest and the longest cell, how far off a pulse may be, and how far off a centre then is
+-- 4.3: the shortest cell of the tolerance and the longest, in nanoseconds
 abbrev pub shortestCell : ℕ
 shortestCell = 1950
 
 abbrev pub longestCell : ℕ
 longestCell = 2050
 
+-- 4.4: how far a pulse may be off, in nanoseconds
 abbrev pub mostJitter : ℕ
 mostJitter = 250
 
+-- 4.11: how far a centre then is off at most, in nanoseconds
 abbrev pub mostError : ℕ
 mostError = 651
 
--- reversals within the tolerance whose timings are ts, from a first reversal at p whose pulse is reported at q
+-- 4.1, 4.2, 4.3, 4.4, 4.5: transitions within the tolerance whose timings are ts, from a first one at p whose pulse stands at q and may be
+-- off as well
 abbrev pub Tolerable : ℤ → ℤ → List Reversal → List ℕ → Type 0
 Tolerable p q vs ts = Within mostJitter q p × Track shortestCell longestCell mostJitter p q vs ts
 
--- demand 3: the call recovers every such track
+-- 4.7, 4.12: demand 3, one claim of the whole list: whatever the transitions and their pulses are, and whatever room the buffer has, the
+-- call on their timings recovers them
 pub record Demand3 (ts : List ℕ) (answer : Answer ℕ) (before after : List ℕ) : Type 0 where
   pub recovers : (p q : ℤ) (vs : List Reversal) → Tolerable p q vs ts → Recovered mostError ts vs answer before after

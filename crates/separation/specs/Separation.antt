@@ -1,4 +1,5 @@
--- 01, "The separator": the call on a whole list of timings, with its refusals 6 to 10. What it recovers is in Demand3. Assumes nothing.
+-- Section 3 of the specification, rules 3.10 to 3.12, and rule 9.6: the separator's call on a whole list of timings, with its refusals 6 to
+-- 10. The main property is demand 3: Demand3 states what the call recovers. Assumes nothing.
 use Prim.Native.Nat.{ℕ, zero, suc}
 use mathlib.Core.Bool.{cond}
 use mathlib.Core.List.{List, [], _∷_, _++_}
@@ -11,42 +12,44 @@ use Rattle.refusals.specs.RefusedCalls.Answer.{gives, refused}
 use Rattle.separator.specs.Rule.{cellsAt, offsetAt, residualAfter, halfWindow}
 use Rattle.flux_timings.specs.Timings.{timingsJudged}
 
--- "Output for this timing: n - 1 zeros and a one, or nothing where n is 0"
+-- 3.4: n cells: zeros, and a one as the last of them. Where n is 0 there are none
 unfoldable pub cellsFor : ℕ → List ℕ
 cellsFor zero = []
 cellsFor (suc k) = replicate k 0 ++ (1 ∷ [])
 
--- what the rule gives of one timing: its n and its e
+-- 3.5: what a step makes of a timing: n, and e, by which the window's centre lies before the pulse that ends the timing
 pub record Window : Type 0 where
   pub cells : ℕ
   pub offset : ℤ
 
--- the rule over a list of timings, from the residual r on
+-- 3.10: timings stepped in order from the residual r on, each from the residual that the one before left
 unfoldable pub windowsFrom : ℕ → ℤ → List ℕ → List Window
 windowsFrom half r [] = []
 windowsFrom half r (t ∷ ts) = record { cells = cellsAt half r t; offset = offsetAt half r t } ∷ windowsFrom half (residualAfter half r t) ts
 
--- "a residual r, at first 0"
+-- 3.2, 3.10, 4.10: the steps of a whole list, from the residual 0
 abbrev pub windowsOf : List ℕ → List Window
 windowsOf ts = windowsFrom halfWindow (pos 0) ts
 
--- the cells that windows give, in order
+-- 3.10: the cells of all steps, joined in their order
 unfoldable pub cellsIn : List Window → List ℕ
 cellsIn [] = []
 cellsIn (w ∷ ws) = cellsFor (w .cells) ++ cellsIn ws
 
--- the cells of a list of timings
+-- 3.10: the cells of a list of timings
 abbrev pub cellsOf : List ℕ → List ℕ
 cellsOf ts = cellsIn (windowsOf ts)
 
--- refusals 9 and 10 of n cells in all and a buffer of `room` bytes, and else the number of cells
+-- 3.12, 8.9, 8.10: n cells and a buffer of `room` bytes are judged. More than 131,072 cells are refused with 9, with n beside it; then a
+-- buffer that is too short with 10, with the bytes that the cells need beside it. Else n is given, also where it is 0
 unfoldable pub cellsJudged : ℕ → ℕ → Answer ℕ
 cellsJudged n room = cond (ltb 131072 n) (refused 9 n) (cond (ltb room (bytesFor n)) (refused 10 (bytesFor n)) (gives n))
 
--- "Separator: 6 to 10"
+-- 9.6, 9.21: the call's answer. The timings are judged by 6, 7 and 8, and then all cells are counted and judged by 9 and 10
 abbrev pub separation : List ℕ → ℕ → Answer ℕ
 separation ts room = timingsJudged ts (cellsJudged (length (cellsOf ts)) room)
 
--- the lent buffer afterwards: "Unused bits of the last byte written are 0; bytes after it keep their contents"
+-- 3.11, 8.31, 9.6: the lent buffer afterwards: the cells packed at its front, the spare bits of the last byte that is written 0, and the
+-- bytes after it as they were
 abbrev pub separatedCells : List ℕ → List ℕ → List ℕ
 separatedCells ts buffer = bufferAfter (separation ts (length buffer)) (packed (cellsOf ts)) buffer

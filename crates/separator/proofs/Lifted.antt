@@ -64,7 +64,7 @@ module _ (half b t : ℕ) where
       ∙ add-sub t 0 b half
       ∙ sub-same (t + b) (0 + half) (t + b) half (omega arith)
 
-  -- "(u + 1000)", which is never below 0
+  -- u and half a window, which are never below 0 together
   lifted-reading : reading (subℕ b half) t +ℤ pos half ≡ pos (t + b)
   lifted-reading =
       ap (λ (z : ℤ). z +ℤ pos half) reading-is

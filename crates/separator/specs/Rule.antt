@@ -1,8 +1,9 @@
--- 01, "The separator": the rule, one timing at a time.
+-- Section 3 of the specification: the separator's step, which takes one timing.
 --
 --   u = t + r          n = (u + half) / window, rounded down          e = u - window * n          the new r = e / 2, towards zero
 --
--- The window is 2,000 ns and its half 1,000 ns; the rule is stated over the half. Assumes nothing.
+-- The window is 2,000 ns and its half 1,000 ns; the step is stated over the half. The main property: the step by value and the lent one
+-- give the same answer, `stepAnswer`, and leave the same residual, `stepResidual`. Assumes nothing.
 use Prim.Native.Nat.{ℕ, _*_}
 use mathlib.Core.Bool.{cond, _&&_}
 use lib.IntN.{ℤ, pos, negsuc, _+ℤ_, _-ℤ_, natAbs}
@@ -13,43 +14,44 @@ use Rattle.flux_timings.specs.Timings.{inRange}
 use Rattle.separator.specs.declared.Taken.{Taken}
 use Rattle.separator.specs.declared.Taken.the-variants.{Cells, Refused}
 
--- "u = t + r"
+-- 3.3: u, the timing and the residual together
 unfoldable pub reading : ℤ → ℕ → ℤ
 reading r t = pos t +ℤ r
 
--- "n is (u + 1000) divided by 2000, rounded down". It is never below 0, since r is at least -500 and t at least 1
+-- 3.3: n, which is u and half a window, divided by the window and rounded down. It is never below 0, since r is at least -500 and t at
+-- least 1
 unfoldable pub cellsAt : ℕ → ℤ → ℕ → ℕ
 cellsAt half r t = natAbs (shrZ (reading r t +ℤ pos half) (2 * half))
 
--- "the offset is e = u - 2000n"
+-- 3.3: the offset e: how far u is beyond n windows, from -1000 to 999
 unfoldable pub offsetAt : ℕ → ℤ → ℕ → ℤ
 offsetAt half r t = reading r t -ℤ pos (2 * half * cellsAt half r t)
 
--- "divided by 2, rounded towards zero"
+-- 3.3: half of an offset, rounded towards zero
 unfoldable pub halved : ℤ → ℤ
 halved e = quotZ e (pos 2)
 
--- "the new r is e divided by 2, rounded towards zero"
+-- 3.3: the new r, from -500 to 499
 unfoldable pub residualAfter : ℕ → ℤ → ℕ → ℤ
 residualAfter half r t = halved (offsetAt half r t)
 
--- half of 01's window, in nanoseconds
+-- 3.3: half of the window, in nanoseconds
 abbrev pub halfWindow : ℕ
 halfWindow = 1000
 
--- "a state whose r is outside -500 to 499 is stepped as if r were 0" (negsuc 499 is -500)
+-- 3.6: the residual that a step uses: one below -500 or above 499 counts as 0 (negsuc 499 is -500)
 unfoldable pub usable : ℤ → ℤ
 usable r = cond (leZ (negsuc 499) r && leZ r (pos 499)) r (pos 0)
 
--- what one step answers, in 01's numbers
+-- 3.7, 3.8, 3.9: what a step hands back, as an answer: n, or the refusal
 abbrev pub takenAnswer : Taken → Answer ℕ
 takenAnswer (Cells count) = gives count
 takenAnswer (Refused refusal) = refusedWith refusal
 
--- "A step refuses a timing out of range with 8 and index 0"; else it gives the number of cells
+-- 3.7, 3.8, 3.9, 8.8, 9.5: the answer of a step, by value and lent: n, or 8 with index 0 where the timing is out of range
 unfoldable pub stepAnswer : ℤ → ℕ → Answer ℕ
 stepAnswer r t = cond (inRange t) (gives (cellsAt halfWindow (usable r) t)) (refused 8 0)
 
--- the residual afterwards: the rule's, or, beside a refusal, the one that there was
+-- 3.7, 3.8, 3.9, 9.5, 9.36: the state after a step, by value and lent: the new residual, or, beside a refusal, the one that came
 unfoldable pub stepResidual : ℤ → ℕ → ℤ
 stepResidual r t = cond (inRange t) (residualAfter halfWindow (usable r) t) r

@@ -28,6 +28,7 @@ pub struct Stepped {
 }
 
 impl Separator {
+    // A new state: its residual is 0.
     pub fn new() -> Self
         ensures { λ r. ⌜ r .residual ≡ pos 0 ⌝ }
     {
@@ -47,7 +48,7 @@ impl Separator {
         }
         let residual = self.residual;
         let r = usable_residual(residual);
-        // 01's u without the timing's whole windows: a division of u would make each step wait for the one before it.
+        // u of rule 3.3 without the timing's whole windows: a division of u would make each step wait for the one before it.
         let part = ((timing % TIMING_WINDOW) as i32) + r;
         let cells = timing / TIMING_WINDOW + cells_in(part);
         let e = offset_in(part);

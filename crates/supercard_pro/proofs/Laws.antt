@@ -1,6 +1,6 @@
 -- The whole call on a block, beside calls on portions of a revolution's bytes.
 --
---   as-whole-call    "where nothing is refused, the timings in all are the same" as the whole call's, on a list with room for them
+--   as-whole-call    portions of which none is refused give together what the whole call gives, on a list with room for it (rule 12.22)
 --   whole-in-one     where the whole call is accepted, so is one portion with all bytes, with the same answer and the same list
 --   in-any-portions  where the whole call is accepted, so is each portion of any cut, given room for its own timings
 --   all-portions     so the portions of any cut are accepted one after another, and give the timings that the whole call gives

@@ -1,4 +1,4 @@
--- 02, ticket 3 (docs/changes/03-supercard-pro.md has its text): one track block of a SuperCard Pro image, as a whole.
+-- Section 12 of the specification: one track block of a SuperCard Pro image, as a whole.
 --
 --   letters    track number    table: for each revolution                                          values
 --   T R K      1 byte          index time       number of values      offset from block's start    2 bytes each, high byte first
@@ -19,63 +19,65 @@ use Rattle.refusals.specs.RefusedCalls.Answer.{refused}
 use Rattle.revolution_portions.specs.Portions.{roomJudged}
 use Rattle.revolution_portions.specs.Timings.{valuesOf, timingsIn}
 
--- "twelve bytes for each revolution (index time, number of values, offset from the block's start, each 32 bits, low byte first)", of
--- revolution k from byte 4 + 12k on. The index time is not used
+-- 12.1, 12.2: from the table's twelve bytes of revolution k, which begin at 4 + 12 k: how many values it has, and at which byte of the
+-- block they begin. The index time before them is not used (rule 12.14)
 abbrev pub valueCount : List ℕ → ℕ → ℕ
 valueCount block k = number (drop (8 + 12 * k) block)
 
 abbrev pub valueOffset : List ℕ → ℕ → ℕ
 valueOffset block k = number (drop (12 + 12 * k) block)
 
--- where the table ends, after "the letters TRK, the track number"
+-- 12.3: where the table of so many revolutions ends, after three letters and a track number
 abbrev pub tableEnd : ℕ → ℕ
 tableEnd revolutions = 4 + 12 * revolutions
 
--- the bytes of a revolution's values
+-- 12.4: the bytes of a revolution's values
 abbrev pub valueBytes : List ℕ → ℕ → List ℕ
 valueBytes block k = take (2 * valueCount block k) (drop (valueOffset block k) block)
 
--- the timings of a revolution
+-- 12.13: the timings of a revolution
 abbrev pub revolutionTimings : List ℕ → ℕ → List ℕ
 revolutionTimings block k = timingsIn (valueBytes block k)
 
--- the last of some values is a 0
+-- 12.11: the last of some values is a 0
 unfoldable pub endsInZero : List ℕ → Bool
 endsInZero [] = false
 endsInZero (value ∷ []) = eqb value 0
 endsInZero (value ∷ next ∷ values) = endsInZero (next ∷ values)
 
--- "the letters are not TRK"
+-- 12.9: the first three bytes are not `TRK`, or are not all there
 abbrev pub otherLetters : List ℕ → Bool
 otherLetters block = not (eqb (getD block 0 0) 84 && (eqb (getD block 1 0) 82 && eqb (getD block 2 0) 75))
 
--- "the table is cut short"
+-- 12.10: the block ends before the table does
 abbrev pub tableShort : List ℕ → ℕ → Bool
 tableShort block revolutions = ltb (length block) (tableEnd revolutions)
 
--- a "revolution's values start inside the table, end beyond the block (both judged by its offset where it has none) or end in a 0"
+-- 12.11: the values of revolution k begin before the table's end, or end after the block's, or the last of them is a 0. Where it has no
+-- values, they begin and end at its offset
 unfoldable pub badRevolution : List ℕ → ℕ → ℕ → Bool
 badRevolution block revolutions k =
     ltb (valueOffset block k) (tableEnd revolutions)
     || (ltb (length block) (valueOffset block k + 2 * valueCount block k) || endsInZero (valuesOf (valueBytes block k)))
 
--- "some revolution's" values do: the first of which this holds is one of them
+-- 12.11: that holds of some revolution: the first of which it does is one of them
 abbrev pub someBad : List ℕ → ℕ → Bool
 someBad block revolutions = ltb (least (badRevolution block revolutions) revolutions 0) revolutions
 
--- refusal 16: "exactly where the letters are not TRK, the table is cut short, or some revolution's values" are bad
+-- 8.16, 12.8, 12.14: the bytes are no track block. Nothing but this is asked of them
 unfoldable pub notATrackBlock : List ℕ → ℕ → Bool
 notATrackBlock block revolutions = otherLetters block || (tableShort block revolutions || someBad block revolutions)
 
--- refusals 16 and 17 ("for a revolution it lacks"), in that order, and else what `next` answers
+-- 8.16, 8.17, 12.12: 16 for bytes that are no track block, then 17 for a revolution that is not in it, and else what `next` answers
 unfoldable pub blockJudged : {A : Type 0} → List ℕ → ℕ → ℕ → Answer A → Answer A
 blockJudged block revolutions k next = cond (notATrackBlock block revolutions) (refused 16 0) (cond (ltb k revolutions) next (refused 17 0))
 
--- "Order: 16, 17, 6, 7, 8, 10", of which 6 to 8 are "as for the separator"; else the number of timings
+-- 9.14, 12.13: refusals 16 and 17, then 6, 7 and 8 as for the separator, then 10; else the number of timings
 abbrev pub blockAnswer : List ℕ → ℕ → ℕ → ℕ → Answer ℕ
 blockAnswer block revolutions k room =
     blockJudged block revolutions k (timingsJudged (revolutionTimings block k) (roomJudged (length (revolutionTimings block k)) room))
 
--- "Give the timings of one chosen revolution, counted from 0, into a lent list": at its front, the rest kept
+-- 9.14, 12.13: the lent list afterwards: the timings of revolution k at its front, and what follows kept; beside a refusal all of it is
+-- kept
 abbrev pub blockTimings : List ℕ → ℕ → ℕ → List ℕ → List ℕ
 blockTimings block revolutions k list = bufferAfter (blockAnswer block revolutions k (length list)) (revolutionTimings block k) list

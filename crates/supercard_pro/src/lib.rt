@@ -13,8 +13,8 @@ ghost use Rattle.basis.specs.Bytes.{number};
 ghost use Rattle.refusals.specs.RefusedCalls.{countedAnswer};
 ghost use Rattle.supercard_pro.specs.TrackBlock.{valueCount, valueOffset, tableEnd, otherLetters, badRevolution, someBad, notATrackBlock, blockAnswer, blockTimings};
 
-// The timings of one revolution of a block, counted from 0, in nanoseconds, to the front of a list. `revolutions` is their number in the
-// image's header.
+// The timings of one revolution of a block, counted from 0, in nanoseconds, to the front of a list (rule 9.14). `revolutions` is
+// their number in the image's header.
 pub fn revolution_timings(
     block: &[u8],
     revolutions: u32,
@@ -40,7 +40,7 @@ pub fn revolution_timings(
     taken.answer
 }
 
-// Whether a block is refused with 16.
+// Whether a block is refused with 16 (rule 12.8).
 fn not_a_block(block: &[u8], revolutions: u32) -> bool
     ensures { λ r. ⌜ r ≡ notATrackBlock (now (block .entry)) revolutions ⌝ }
 {
@@ -82,7 +82,7 @@ fn some_bad(block: &[u8], revolutions: u32) -> bool
     false
 }
 
-// Whether a revolution's values start inside the table, end beyond the block or end in a 0.
+// Whether the values of a revolution are bad: they start before the table's end, end after the block's, or have a 0 at their end.
 fn bad_revolution(block: &[u8], revolutions: u32, k: u32) -> bool
     requires { ⌜ (k < revolutions) × (tableEnd revolutions ≤ length (now block)) ⌝ }
     ensures { λ r. ⌜ r ≡ badRevolution (now (block .entry)) revolutions k ⌝ }

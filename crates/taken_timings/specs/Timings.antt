@@ -1,5 +1,6 @@
--- Timings that come one by one: what each does to the timings taken so far and to the cell buffer, and what they give in all. Taken one
--- after another they give what the separator's call on the list of them gives (proofs/Taking and proofs/TimingCells). Assumes nothing.
+-- Section 10 of the specification, rules 10.8 and 10.12: timings that come one by one: what each does to those taken so far and to the cell
+-- buffer, and what they give in all. The main property: taken one after another they give what the separator's call on the list of them
+-- gives (proofs/Taking and proofs/TimingCells). Assumes nothing.
 use Prim.Native.Nat.{ℕ, _+_, _-_}
 use mathlib.Core.Bool.{cond}
 use mathlib.Core.List.{List}
@@ -12,7 +13,7 @@ use Rattle.refusals.specs.RefusedCalls.Answer.{gives, refused}
 use Rattle.taken_timings.specs.declared.TakenTimings.{TakenTimings}
 use Rattle.taken_timings.specs.declared.TakenTimings.the-variants.{InRange, OutOfRange}
 
--- before the first timing: "a residual r, at first 0"
+-- 3.2, 10.12: before the first timing: no timing, no cell, and a residual of 0
 abbrev pub noneTaken : TakenTimings
 noneTaken = InRange 0 0 (record { residual = pos 0 })
 
@@ -20,23 +21,24 @@ noneTaken = InRange 0 0 (record { residual = pos 0 })
 unfoldable pub countAfter : ℕ → ℕ → ℕ
 countAfter count more = cond (ltb count 1000000000) (count + more) count
 
--- the cells of a timing put at cell `at`, where zeros stand: "n - 1 zeros and a one, or nothing where n is 0". Past 131,072 cells nothing
--- is put
+-- 3.4, 10.12: the cells of a timing put at cell `at`. Zeros stand there, so that only its one is put, as the last of its n cells; nothing
+-- is where n is 0. From cell 131,072 on nothing is put
 unfoldable pub timingCells : ℕ → ℕ → List ℕ → List ℕ
 timingCells at n buffer =
     cond (eqb n 0) buffer (cond (ltb (countAfter at (n - 1)) 131072) (withOne buffer (countAfter at (n - 1))) buffer)
 
--- the timings taken, after a step that answers so and leaves the residual r
+-- 10.8: the timings taken, after a step that answers so and leaves the residual r. The first one out of range is the last that is looked
+-- at: its index is kept
 unfoldable pub takenStep : ℕ → ℕ → Answer ℕ → ℤ → TakenTimings
 takenStep timings cells (gives n) r = InRange (countAfter timings 1) (countAfter cells n) (record { residual = r })
 takenStep timings cells (refused number value) r = OutOfRange timings
 
--- a timing more, by the separator's step
+-- 10.12: the timings taken, with one more, by the separator's step
 unfoldable pub takenAfter : TakenTimings → ℕ → TakenTimings
 takenAfter (InRange timings cells separator) t = takenStep timings cells (stepAnswer (separator .residual) t) (stepResidual (separator .residual) t)
 takenAfter (OutOfRange index) t = OutOfRange index
 
--- and what it does to the buffer
+-- 10.12: the buffer after that timing: its cells are put, and none of one that is out of range or follows such a one
 unfoldable pub stepCells : ℕ → Answer ℕ → List ℕ → List ℕ
 stepCells at (gives n) buffer = timingCells at n buffer
 stepCells at (refused number value) buffer = buffer
@@ -45,7 +47,7 @@ unfoldable pub takenCells : TakenTimings → ℕ → List ℕ → List ℕ
 takenCells (InRange timings cells separator) t buffer = stepCells cells (stepAnswer (separator .residual) t) buffer
 takenCells (OutOfRange index) t buffer = buffer
 
--- what the timings give in all: 8 before 9
+-- 8.8, 8.9, 10.8: what all timings give: 8 with the index, then 9 with the cells where they are above 131,072, and else the number of cells
 unfoldable pub timingsAnswer : TakenTimings → Answer ℕ
 timingsAnswer (InRange timings cells separator) = cond (ltb 131072 cells) (refused 9 cells) (gives cells)
 timingsAnswer (OutOfRange index) = refused 8 index

@@ -1,5 +1,5 @@
--- Answers as callers in another language get them: a number, 0 for an accepted call and else the refusal's, and a value beside it.
--- Assumes nothing.
+-- Section 9 of the specification, rules 9.31 to 9.34: answers as callers from C get them. The main property: a call returns a number, 0
+-- where it is accepted and else the refusal's, and stores the value beside it. Assumes nothing.
 use Prim.Native.Nat.{ℕ}
 use mathlib.Core.Bool.{cond}
 use mathlib.Core.List.{List, [], _∷_}
@@ -11,17 +11,18 @@ use Rattle.sectors.specs.Calls.{DataRead}
 use Rattle.sector_records.specs.declared.Sector.{Sector}
 use Rattle.track_file.specs.TrackFile.{Content}
 
--- the number that a call returns, whatever it gives
+-- 9.31: the number that a call returns, whatever it gives: 0 where it is accepted, and else the number of the refusal
 abbrev pub numberIn : {A : Type 0} → Answer A → ℕ
 numberIn (gives result) = 0
 numberIn (refused number value) = number
 
--- the value that it stores: what an accepted call counts, or what the refusal gives also
+-- 9.31: the value that it stores: what an accepted call counted, or what is given beside the refusal
 abbrev pub valueIn : Answer ℕ → ℕ
 valueIn (gives count) = count
 valueIn (refused number value) = value
 
--- reading out stores the bytes of the data, and in the lent check result 1 where it is good and else 0. A refused call keeps that
+-- 9.31, 9.32: reading out stores how many data bytes there are, and in the lent check result 1 for a good check and 0 for a bad one. A
+-- refused call keeps the check result
 abbrev pub valueRead : Answer DataRead → ℕ
 valueRead (gives read) = read .size
 valueRead (refused number value) = value
@@ -30,8 +31,8 @@ abbrev pub checkRead : Answer DataRead → ℕ → ℕ
 checkRead (gives read) before = cond (read .good) 1 0
 checkRead (refused number value) before = before
 
--- a track file stores the number of its cells, and its track and side at the front of the lent place, as many of the two as it has room
--- for. A refused call keeps that
+-- 9.31, 9.33: a track file stores how many cells it has, and its T and H at the front of a lent list, as many of the two as there is room
+-- for. A refused call keeps the list
 abbrev pub valueGiven : Answer Content → ℕ
 valueGiven (gives content) = content .cells
 valueGiven (refused number value) = value
@@ -40,7 +41,7 @@ abbrev pub placeGiven : Answer Content → List ℕ → List ℕ
 placeGiven (gives content) place = writtenOver (take (length place) (content .track ∷ content .side ∷ [])) place
 placeGiven (refused number value) place = place
 
--- a sector's record as eleven numbers, in 01's order; a check is 1 where it is good
+-- 9.34: a sector's record as eleven numbers, in the order of rule 6.16, with 1 for a good check and 0 for a bad one
 unfoldable pub sectorNumbers : Sector → List ℕ
 sectorNumbers s =
     s .place ∷ s .mark ∷ s .track ∷ s .side ∷ s .number ∷ s .«size_code» ∷ cond (s .«id_check_good») 1 0 ∷ s .«data_place» ∷ s .«data_mark»

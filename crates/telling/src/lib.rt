@@ -1,5 +1,5 @@
 // Answers, told to a caller in another language: a number, 0 where a call is accepted and else the refusal's, and what the call gives, or
-// what the refusal gives also, stored behind a reference.
+// what is given beside the refusal, stored behind a reference.
 use refusals::Counted;
 use revolution_portions::RevolutionReader;
 use revolution_portions::TakenPortion;

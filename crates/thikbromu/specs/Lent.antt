@@ -1,4 +1,5 @@
--- What a caller in another language lends for a count table and for a record, after the call. Assumes nothing.
+-- Section 9 of the specification, rules 9.34 and 9.35: the list that a caller from C lends for a record or for counts, after the call. The
+-- main property: it gets as much as it has room for, and all zeros beside a refusal. Assumes nothing.
 use Prim.Native.Nat.{ℕ}
 use mathlib.Core.List.{List}
 use lib.ListN.{length, take}
@@ -7,11 +8,11 @@ use Rattle.histogram.specs.Histogram.{counting, countsAfter}
 use Rattle.sectors.specs.Calls.{indexAnswer, recordBeside, sectorOf}
 use Rattle.telling.specs.Numbers.{sectorNumbers}
 
--- a lent list of counts after the histogram's call: the 256 counts at its front, or as many as it has room for
+-- 8.32, 9.35: a list lent for counts after the histogram's call: the 256 counts at its front, or as many as it has room for
 abbrev pub countsLent : List ℕ → List ℕ → List ℕ
 countsLent timings counts = writtenOver (take (length counts) (countsAfter (counting timings) timings)) counts
 
--- a lent list of numbers after the call of a sector by index: the record at its front, or as much of it as there is room for
+-- 8.32, 9.34: a list lent for a record after the call of a sector by index: the eleven numbers at its front, or as many as it has room for
 abbrev pub recordLent : List ℕ → (N T H index : ℕ) → List ℕ → List ℕ
 recordLent bytes N T H index list =
     writtenOver (take (length list) (sectorNumbers (recordBeside (indexAnswer bytes N T H index) (sectorOf bytes N index)))) list

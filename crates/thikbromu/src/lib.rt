@@ -1,8 +1,8 @@
 // The library for C and Rust: each routine on numbers and slices, which pass as an address and a length.
 //
-// A routine that 01 refuses some calls of returns a number: 0 where the call is accepted, else the refusal's number in 01's table. What the
-// call gives, or what the refusal gives also, is stored at `value`; beside a refusal nothing else is written, but that a record or a count
-// table is set to zeros, as 01 says.
+// A routine of which some calls are refused returns a number: 0 where the call is accepted, else the number of the refusal (section 8 of
+// the specification). What the call gives, or what is given beside the refusal, is stored at `value`; beside a refusal nothing else is
+// written, but that a record or a table of counts is set to zeros (rule 8.32).
 //
 // What the boundary asks of a caller in another language: each address is valid for its length, lent memory does not overlap what else is
 // passed, and a bool is 0 or 1. The routines ask nothing of the values.
@@ -167,9 +167,9 @@ pub extern "C" fn thikbromu_histogram(timings: &[u32], counts: &mut [u32], value
     told(answer, value)
 }
 
-// Sector `index` of a track, from 0: its record as eleven numbers at the front of `numbers` (place, mark, track, side,
-// number, size code, ID check, data place, data mark, data length, data check; a check is 1 where it is good), all zeros
-// beside a refusal; `value` is the number of sectors. `track` and `side` are the drive's.
+// Sector `index` of a track, from 0: its record as eleven numbers at the front of `numbers` (rule 6.16: place, mark, the ID's track, side,
+// number and size code, whether the ID check is good, data place, data mark, data length, whether the data check is good; good is 1 and bad
+// 0), all zeros beside a refusal; `value` is the number of sectors. `track` and `side` are the drive's.
 #[no_mangle]
 pub extern "C" fn thikbromu_sector(
     bytes: &[u8],

@@ -1,4 +1,4 @@
--- The file's answer as 01 orders it is what the sections give one after another. Assumes nothing.
+-- The file's answer, in the order of rules 10.4 to 10.8, is what the sections give one after another. Assumes nothing.
 use Prim.Native.Nat.{ℕ, suc, _+_, _-_, _*_, _≤_, _<_}
 use mathlib.Core.Path.{_≡_, refl, _∙_, ap}
 use mathlib.Core.Bool.{Bool, true, false, cond, not, _&&_, _||_}

@@ -1,11 +1,11 @@
--- 01, "Track file and listing": the track file as a whole.
+-- Section 10 of the specification: the track file as a whole.
 --
 --   place                  cells                       flux
 --   count 2    T    H      count N    packed bytes     count k    k timings
 --   4 bytes    1    1      4 bytes    (N + 7) / 8      4 bytes    4 bytes each
 --
--- Read in portions, a file gives what is said here of all its bytes (`WholeFile`, in Portions). What is asked of a file that lacks the
--- bytes for it counts them as 0: such a file is short and refused. Assumes nothing.
+-- The main property: `fileAnswer`, which is what a file gives, also where it is read in portions (`WholeFile`, in Portions). What is asked
+-- of a file that lacks the bytes for it counts them as 0: such a file is short and refused. Assumes nothing.
 use Prim.Native.Nat.{ℕ, zero, suc, _+_, _*_}
 use mathlib.Core.Bool.{Bool, cond, not, _&&_, _||_}
 use mathlib.Core.List.{List, [], _∷_}
@@ -18,12 +18,12 @@ use Rattle.separation.specs.Separation.{cellsOf, separation}
 use Rattle.refusals.specs.RefusedCalls.{Answer}
 use Rattle.refusals.specs.RefusedCalls.Answer.{gives, refused}
 
--- so many counts or timings, one after another
+-- 10.2: so many counts or timings, one after another
 unfoldable pub numbers : ℕ → List ℕ → List ℕ
 numbers zero bytes = []
 numbers (suc k) bytes = number bytes ∷ numbers k (drop 4 bytes)
 
--- "Sections in a fixed order, each after its count (32 bits, low byte first): place (count 2: T, H, one byte each)"
+-- 10.1, 10.2: the place: its count, and T and H in a byte each
 abbrev pub placeCount : List ℕ → ℕ
 placeCount file = number file
 
@@ -33,7 +33,7 @@ trackOf file = getD file 4 0
 abbrev pub sideOf : List ℕ → ℕ
 sideOf file = getD file 5 0
 
--- "cells (count N, then packed bytes)"
+-- 10.1, 10.3: the cells: their count N, and the bytes that N cells are packed in
 abbrev pub cellSection : List ℕ → List ℕ
 cellSection file = drop 6 file
 
@@ -43,7 +43,7 @@ cellCount file = number (cellSection file)
 abbrev pub packedBytes : List ℕ → List ℕ
 packedBytes file = take (bytesFor (cellCount file)) (drop 4 (cellSection file))
 
--- "flux (count, then 32-bit timings, low byte first)"
+-- 10.1, 10.3: the flux timings: their count, and four bytes for each
 abbrev pub fluxSection : List ℕ → List ℕ
 fluxSection file = drop (bytesFor (cellCount file)) (drop 4 (cellSection file))
 
@@ -53,71 +53,72 @@ fluxCount file = number (fluxSection file)
 abbrev pub timings : List ℕ → List ℕ
 timings file = numbers (fluxCount file) (drop 4 (fluxSection file))
 
--- the bytes that the counts ask for
+-- 10.7: how many bytes a file with these counts has
 abbrev pub fileLength : List ℕ → ℕ
 fileLength file = 14 + bytesFor (cellCount file) + 4 * fluxCount file
 
--- what an accepted file gives: its place, and the number of its cells
+-- 10.9: what an accepted file gives: T, H and the number of its cells
 pub record Content : Type 0 where
   pub track : ℕ
   pub side : ℕ
   pub cells : ℕ
 
--- an answer that gives a number of cells, at a place
+-- 10.9: an answer that gives a number of cells, with T and H beside it
 abbrev pub placed : ℕ → ℕ → Answer ℕ → Answer Content
 placed track side (gives cells) = gives (record { track = track; side = side; cells = cells })
 placed track side (refused number value) = refused number value
 
--- a section's count is there
+-- 10.4: the four bytes of a section's count are there
 abbrev pub hasCount : List ℕ → Bool
 hasCount section = leb 4 (length section)
 
--- "15: place count not 2 (given at once)"
+-- 8.15, 10.4: the count of the place is there and is not 2
 abbrev pub placeCountRefused : List ℕ → Bool
 placeCountRefused file = hasCount file && not (eqb (placeCount file) 2)
 
--- "A cell count above 131,072 gives 2 at once"
+-- 8.2, 10.4: the count of cells is there and above 131,072
 abbrev pub cellCountRefused : List ℕ → Bool
 cellCountRefused file = hasCount (cellSection file) && ltb 131072 (cellCount file)
 
--- "and a flux count above 65,536 gives 7 at once"
+-- 8.7, 10.4: the count of timings is there and above 65,536
 abbrev pub fluxCountRefused : List ℕ → Bool
 fluxCountRefused file = hasCount (fluxSection file) && ltb 65536 (fluxCount file)
 
--- the refusals that are given at once, in the file's order and "before 15 for two counts"; and else what `next` answers
+-- 10.4, 10.5: the refusals that are given at once: that of the count which stands first in the file; and else what `next` answers
 unfoldable pub givenAtOnce : List ℕ → Answer Content → Answer Content
 givenAtOnce file next =
     cond (placeCountRefused file) (refused 15 0)
     (cond (cellCountRefused file) (refused 2 (cellCount file)) (cond (fluxCountRefused file) (refused 7 (fluxCount file)) next))
 
--- there is one of them
+-- 10.4: one of the three is given
 unfoldable pub refusedAtOnce : List ℕ → Bool
 refusedAtOnce file = placeCountRefused file || (cellCountRefused file || fluxCountRefused file)
 
--- "both or neither of the other counts zero"
+-- 10.7: the counts of cells and of timings are both 0, or both not 0
 abbrev pub bothOrNeither : ℕ → ℕ → Bool
 bothOrNeither cells timings = cond (eqb cells 0) (eqb timings 0) (not (eqb timings 0))
 
--- 15 "is judged over the whole file": "both or neither of the other counts zero, a short file, bytes left over"
+-- 8.15, 10.7: the bytes are no track file, judged at their end: for these two counts, or because bytes are missing or left over
 unfoldable pub notATrackFile : List ℕ → Bool
 notATrackFile file = bothOrNeither (cellCount file) (fluxCount file) || not (eqb (length file) (fileLength file))
 
--- "15 is judged over the whole file before any other refusal, then the separator's": the answer of the separator's call on the file's
--- timings, with room for 131,072 cells. Refusals 1 to 5 are the findings'
+-- 10.5, 10.8, 10.9, 10.10: what a file gives: the refusals at once, then 15, then those of the separator's list call on its timings, with
+-- room for 131,072 cells; else T, H and the number of cells, which are not judged further
 unfoldable pub fileAnswer : List ℕ → Answer Content
 fileAnswer file =
     givenAtOnce file
     (cond (notATrackFile file) (refused 15 0)
     (placed (trackOf file) (sideOf file) (cond (eqb (fluxCount file) 0) (gives (cellCount file)) (separation (timings file) 16384))))
 
--- the packed cells of an accepted file: as they stand in it, or the separator's
+-- 10.9: the packed cells of an accepted file: its own bytes, or the separator's cells
 unfoldable pub fileCells : List ℕ → List ℕ
 fileCells file = cond (eqb (fluxCount file) 0) (packedBytes file) (packed (cellsOf (timings file)))
 
--- the answer with a cell buffer of `room` bytes: 131,072 cells need 16,384
+-- 8.10, 9.10, 10.11: what a file gives that is read into a buffer of `room` bytes: 10 goes first, with the bytes that 131,072 cells need
+-- beside it
 unfoldable pub fileAnswerIn : ℕ → List ℕ → Answer Content
 fileAnswerIn room file = cond (ltb room 16384) (refused 10 16384) (fileAnswer file)
 
--- a cell buffer of `room` bytes after an accepted file: its cells, and then zeros
+-- 10.14: that buffer after an accepted file: its cells, and then zeros
 unfoldable pub fileBuffer : ℕ → List ℕ → List ℕ
 fileBuffer room file = writtenOver (fileCells file) (replicate room 0)

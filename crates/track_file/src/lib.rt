@@ -20,7 +20,7 @@ pub enum Read {
     Refused(Refusal),
 }
 
-// The beginning, before any byte: the cell buffer is cleared, or refused where it has too little room.
+// The beginning, before any byte: the cell buffer is cleared, or refused where it has too little room (rule 10.11).
 pub fn start(cells: &mut [u8]) -> Reader
     ensures reader { λ r. ⌜ r ≡ startOf (length (now (cells .entry))) ⌝ }
     ensures buffer { λ _. ⌜ now (cells .exit) ≡ startCells (now (cells .entry)) ⌝ }
@@ -33,7 +33,7 @@ pub fn start(cells: &mut [u8]) -> Reader
     Reader::PlaceCount(Number::Empty)
 }
 
-// A portion more of the file: byte by byte, and after a byte the whole timings that follow.
+// A portion more of the file (rule 10.12): byte by byte, and after a byte the whole timings that follow.
 pub fn feed(reader: Reader, portion: &[u8], cells: &mut [u8]) -> Reader
     ensures reader { λ r. ⌜ r ≡ readerAfter reader (now (portion .entry)) ⌝ }
     ensures buffer { λ _. ⌜ now (cells .exit) ≡ cellsAfter reader (now (portion .entry)) (now (cells .entry)) ⌝ }
@@ -49,7 +49,7 @@ pub fn feed(reader: Reader, portion: &[u8], cells: &mut [u8]) -> Reader
     at
 }
 
-// Whether a refusal is given at once, so that no more of the file need be read.
+// Whether a refusal is given at once, so that no more of the file need be read (rule 10.13).
 pub fn stopped(reader: Reader) -> bool
     ensures answer { λ r. ⌜ r ≡ isStopped reader ⌝ }
     ensures file { λ r. ⌜ AtOnce reader r ⌝ }
@@ -60,7 +60,7 @@ pub fn stopped(reader: Reader) -> bool
     }
 }
 
-// The end of the file: what it gives. It writes nothing: the cells stand in the buffer that the portions were fed with.
+// The end of the file: what it gives (rule 10.14). It writes nothing: the cells stand in the buffer that the portions were fed with.
 pub fn finish(reader: Reader) -> Read
     ensures answer { λ r. ⌜ readAnswer r ≡ finishAnswer reader ⌝ }
     ensures file { λ r. ⌜ WholeFile reader (readAnswer r) ⌝ }

@@ -1,7 +1,7 @@
--- What the program makes of its input. The contract of the system's `read` says how many bytes it may put at the start of a portion, and
--- not which. So a read is here a number that was answered and a portion that was left, and the promises say that there are reads of which
--- all this holds; that they are those of standard input is seen in the code of `read_portion`, and a program that reads nothing and takes
--- its first read for a failure meets them too. Assumes nothing.
+-- Section 13 of the specification, rules 13.1 to 13.6: what track_listing makes of its input. The contract of the system's `read` says how
+-- many bytes it may put at the start of a portion, and not which. So a read is here a number that was answered and a portion that was left,
+-- and the promises say that there are reads of which all this holds; that they are those of standard input is seen in the code of
+-- `read_portion`, and a program that reads nothing and takes its first read for a failure meets them too. Assumes nothing.
 use Prim.Native.Nat.{ℕ, zero, suc}
 use mathlib.Core.Path.{_≡_}
 use mathlib.Core.Bool.{cond}
@@ -14,19 +14,20 @@ use Rattle.file_reader.specs.declared.Reader.{Reader}
 use Rattle.track_listing.specs.declared.Input.{Input}
 use Rattle.track_listing.specs.declared.Input.the-variants.{Open, Ended, Failed}
 
--- the bytes that a read brought, which answered this and left this portion: none at the end of the input, and none where it failed
+-- 13.1, 13.2: the bytes that a read brought, which answered this and left this portion: none at the end of the input, and none where it
+-- failed
 abbrev pub bytesRead : ℤ → List ℕ → List ℕ
 bytesRead (pos n) portion = take n portion
 bytesRead (negsuc k) portion = []
 
--- the input after a read that answered this, with the reader that took its bytes: nothing more is to be read at the end of the input, nor
--- where the reader is stopped
+-- 13.1, 13.2, 13.5: the input after a read that answered this, with the reader that took its bytes: nothing more is to be read at the end
+-- of the input, where the read failed, and where the reader is stopped
 unfoldable pub inputWith : ℤ → Reader → Input
 inputWith (pos zero) reader = Ended reader
 inputWith (pos (suc n)) reader = cond (isStopped reader) (Ended reader) (Open reader)
 inputWith (negsuc k) reader = Failed
 
--- the input after a read: its bytes are fed, once
+-- 13.1: the input after a read: its bytes are fed, once
 unfoldable pub inputAfter : Reader → ℤ → List ℕ → Input
 inputAfter reader got portion = inputWith got (readerAfter reader (bytesRead got portion))
 
@@ -36,31 +37,31 @@ pub record OneRead : Type 0 where
   pub got : ℤ
   pub portion : List ℕ
 
--- reads lead from one input to another: each is made where the input is open
+-- 13.1, 13.2: reads lead from one input to another: each is made where the input is open
 pub data Leads : Input → List OneRead → Input → Type 0 where
   none : {input : Input} → Leads input [] input
   one : {reader : Reader} {read : OneRead} {reads : List OneRead} {last : Input}
       → Leads (inputAfter reader (read .got) (read .portion)) reads last → Leads (Open reader) (read ∷ reads) last
 
--- the portions that reads brought
+-- 13.1: the portions that reads brought, in their order
 unfoldable pub portionsOf : List OneRead → List (List ℕ)
 portionsOf [] = []
 portionsOf (read ∷ reads) = bytesRead (read .got) (read .portion) ∷ portionsOf reads
 
--- the reads that are made from a reader on: none after the end or a failure, and none missing before it, unless 2^64 - 1 were made, which
--- no run does
+-- 13.1: the reads that are made from a reader on: none after the end or a failure, and none missing before it, unless 2^64 - 1 were made,
+-- which no run does
 pub record AllReads (first : Reader) (reads : List OneRead) (last : Input) : Type 0 where
   pub leads : Leads (Open first) reads last
   pub to-end : (reader : Reader) → last ≡ Open reader → length reads ≡ 18446744073709551615
 
--- what is listed of an input that the reads brought to this, with a cell buffer of `room` bytes: where it has ended, the file that their
--- bytes make up, and else nothing
+-- 13.2, 13.4, 13.6: what is listed of an input that the reads brought to this, with a cell buffer of `room` bytes: where it has ended, the
+-- file that their bytes make up, and else nothing. The program has 16,384 bytes, so that 10 is not given
 unfoldable pub listedOf : ℕ → Input → List OneRead → List ℕ
 listedOf room (Open reader) reads = []
 listedOf room (Ended reader) reads = fileListing room (wholeOf (portionsOf reads))
 listedOf room Failed reads = []
 
--- there are reads of which what is listed stands at the front of `out`; the answer is its number of bytes
+-- 13.1, 13.4: there are reads of which what is listed stands at the front of `out`; the answer is its number of bytes
 pub record ListedInput (buffer : List ℕ) (answer : ℕ) (out : List ℕ) : Type 0 where
   pub reads : List OneRead
   pub last : Input

@@ -1,4 +1,4 @@
--- 01's worked examples hold, each by computation. Assumes nothing.
+-- The examples of rules 1.17, 2.4 and 3.13 hold, each by computation. Assumes nothing.
 use mathlib.Core.Path.{refl}
 use Rattle.basis.specs.Lists.{listed}
 use Rattle.cells.specs.CellsAndBytes.{word, packedByte, packed}

@@ -1,5 +1,5 @@
--- 01, "What every statement must pin": "Proved as a single table under a single statement: the six separator rows, the 4E and two 00
--- codings, and the three check words." The statement is `AllHold table`; `table-holds`, in proofs/Table, proves it. Assumes nothing.
+-- The examples of rules 1.17, 2.4 and 3.13 of the specification in one table: six rows of the separator, three codings, three check words.
+-- The main property, `AllHold table`, says that every one of them holds; `table-holds`, in proofs/Table, proves it. Assumes nothing.
 use Prim.Native.Nat.{ℕ}
 use mathlib.Core.List.{List, [], _∷_, map}
 use mathlib.Core.Path.{_≡_}
@@ -9,7 +9,7 @@ use Rattle.separator.specs.Rule.{halved}
 use Rattle.separation.specs.Separation.{Window, windowsOf}
 use Rattle.mfm.specs.Coding.{encoded}
 
--- an example: a row of the separator's table, with n, e and "r after" of each timing; a byte coded after a bit; a check word
+-- an example: timings, with n, e and the r after each of them; a byte coded after a bit; bytes and their check word
 pub data Example : Type 0 where
   separates : List ℕ → List ℕ → List ℤ → List ℤ → Example
   codes : ℕ → ℕ → List ℕ → Example
@@ -26,7 +26,7 @@ abbrev pub AllHold : List Example → Type 0
 AllHold [] = Unit
 AllHold (example ∷ examples) = Holds example × AllHold examples
 
--- the table, in 01's order within each kind; negsuc k is -(k + 1)
+-- 1.17, 2.4, 3.13: the examples, in the order of the specification within each kind; negsuc k is -(k + 1)
 abbrev pub table : List Example
 table =
     separates (4900 ∷ 4000 ∷ []) (2 ∷ 2 ∷ []) (pos 900 ∷ pos 450 ∷ []) (pos 450 ∷ pos 225 ∷ [])

@@ -1,5 +1,5 @@
-//! 02, ticket 3: the program `scp_track` beside the second program, on whole blocks and on blocks that come in portions, and what it does
-//! with inputs that fail and with other arguments.
+//! Section 13 of the specification: the program `scp_track` beside the second program, on whole blocks and on blocks that come in portions,
+//! and what it does with inputs that fail and with other arguments.
 
 use crate::program::{
     built, ends_within, in_portions, in_shell, left_after_pipe, left_after_socket, listed_alone, not_listed, says_one_line,
@@ -7,19 +7,19 @@ use crate::program::{
 };
 use crate::report::{Group, Report};
 use second_program::listing::listing;
-use second_program::random::Random;
 use second_program::track_block::printed;
-use second_program::track_blocks::{
-    block_of_parts, block_of_values, bytes_of_values, odd_track_block, random_portions, samplings, standard_track_block,
-    track_that_ends_in_a_one, BlockPlan, BETWEEN_SECTORS, GROUPS, IN_A_SECTOR,
-};
-use second_program::track_builder::standard_track as standard_track_cells;
-use second_program::track_files::file_of_cells;
 use std::ffi::OsStr;
 use std::fs::File;
 use std::os::unix::ffi::OsStrExt;
 use std::process::{Command, Stdio};
 use std::time::Duration;
+use test_inputs::block_inputs::{
+    block_of_parts, block_of_values, bytes_of_values, odd_track_block, random_portions, samplings, standard_track_block,
+    track_that_ends_in_a_one, BlockPlan, BETWEEN_SECTORS, GROUPS, IN_A_SECTOR,
+};
+use test_inputs::file_inputs::file_of_cells;
+use test_inputs::random::Random;
+use test_inputs::track_builder::standard_track as standard_track_cells;
 use thikbromu::TrackBlock;
 
 /// The most bytes of a block that the program takes.
@@ -118,7 +118,7 @@ pub fn standard_track(report: &mut Report) {
     }
     let block = standard_track_block(14, 0, 0, 0xE5, 1).bytes();
     let ours = text(&through_pipe(program_with([1, 0, 0, 0]), &block));
-    group.same(ours, "T00 H0 cells 100000 sectors 9 findings 0\n".to_string(), || "as 01 prints it".to_string());
+    group.same(ours, "T00 H0 cells 100000 sectors 9 findings 0\n".to_string(), || "the listing of rule 11.10".to_string());
     group.close(report);
 }
 

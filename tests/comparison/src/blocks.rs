@@ -1,12 +1,12 @@
-//! 02, ticket 3: the timings and the cells of a revolution of a track block, and its values in portions.
+//! Section 12 of the specification: the timings and the cells of a revolution of a track block, and its values in portions.
 
 use crate::report::{Group, Lent, Report};
 use crate::terms::answer;
-use second_program::random::Random;
 use second_program::refusal::{Refusal, MOST_TIMINGS};
 use second_program::track_block::{self, revolution_bytes, BytesSoFar, Carried, PortionAnswer};
-use second_program::track_blocks::{any_carried, any_portion, cases, equal_portions, random_portions, with_empty_portions};
 use std::collections::HashSet;
+use test_inputs::block_inputs::{any_carried, any_portion, cases, equal_portions, random_portions, with_empty_portions};
+use test_inputs::random::Random;
 use thikbromu::boundary::{revolution_cells, revolution_portion, revolution_timings};
 use thikbromu::{RevolutionReader, TrackBlock, MOST_CELL_BYTES};
 

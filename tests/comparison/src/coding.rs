@@ -1,9 +1,9 @@
-//! 01, "Cells and bytes": coding, decoding and the check word.
+//! Coding and decoding (rules 1.10 to 1.19), and the check word (section 2 of the specification).
 
 use crate::report::{Group, Report};
 use crate::terms::answer;
-use second_program::random::Random;
 use second_program::{check_word, mfm};
+use test_inputs::random::Random;
 
 fn bytes_of(random: &mut Random, length: usize) -> Vec<u8> {
     // Runs of equal bytes now and then: the clock rule looks at neighbours.
@@ -123,9 +123,9 @@ pub fn round_trip(report: &mut Report) {
     group.close(report);
 }
 
-/// The numbers that 01 prints.
-pub fn printed(report: &mut Report) {
-    let mut group = Group::new("01's codings and check words");
+/// The codings and check words to know.
+pub fn known(report: &mut Report) {
+    let mut group = Group::new("the codings of rule 1.17 and the check words of rule 2.4");
     let codings: [(u8, &[bool], [u8; 2]); 6] = [
         (0x4E, &[false], [0x92, 0x54]),
         (0x00, &[false], [0xAA, 0xAA]),

@@ -1,14 +1,14 @@
-//! 01, "Track file and listing": files that are whole in memory, files that the crate reads, and listings.
+//! Sections 10 and 11 of the specification: files that are whole in memory, files that the crate reads, and listings.
 
 use crate::report::{Group, Lent, Report};
 use crate::terms::answer;
 use second_program::cells::bytes_needed;
 use second_program::listing::listing;
-use second_program::random::Random;
 use second_program::refusal::Refusal;
 use second_program::track_file::{read_cells, TrackCells};
-use second_program::track_files::{self, FilePlan};
 use std::io::{self, Read};
+use test_inputs::file_inputs::{self, FilePlan};
+use test_inputs::random::Random;
 use thikbromu::boundary::{self, file_cells, file_listing};
 use thikbromu::{Track, TrackFile, LONGEST_FILE};
 
@@ -89,7 +89,7 @@ pub fn in_memory(report: &mut Report) {
     let mut group = Group::new("files in memory, their cells");
     let mut listings = Group::new("files in memory, their listings");
     let mut places = (0..4).cycle();
-    for file in track_files::files() {
+    for file in file_inputs::files() {
         let bytes = &file.bytes;
         let given = || file.name.clone();
         let second = read_cells(bytes);
@@ -148,7 +148,7 @@ impl Read for Portions<'_> {
 pub fn from_readers(report: &mut Report) {
     let mut group = Group::new("files that the crate reads");
     let mut random = Random::new(63);
-    for file in track_files::files() {
+    for file in file_inputs::files() {
         let bytes = &file.bytes;
         let second = read_cells(bytes);
         let expected = listing(bytes);
@@ -172,16 +172,16 @@ pub fn from_readers(report: &mut Report) {
 pub fn short_rooms(report: &mut Report) {
     let mut group = Group::new("rooms for a file's cells and for its place");
     let mut random = Random::new(64);
-    let of_timings = |timings: &[u32]| track_files::file_of_timings(12, 1, timings);
+    let of_timings = |timings: &[u32]| file_inputs::file_of_timings(12, 1, timings);
     let mut broken = FilePlan::of_timings(12, 1, &[4_100; 2_500]);
     broken.timings[2_400] = 0;
     let files = [
         ("25,000 timings", of_timings(&[4_100; 25_000])),
         ("65,536 timings and 131,072 cells", of_timings(&[4_000; 65_536])),
         ("timings without cells", of_timings(&[1; 9])),
-        ("one cell", track_files::file_of_cells(83, 1, &[1])),
-        ("131,072 cells", track_files::file_of_cells(255, 255, &vec![1; 131_072])),
-        ("131,065 cells", track_files::file_of_cells(0, 2, &vec![1; 131_065])),
+        ("one cell", file_inputs::file_of_cells(83, 1, &[1])),
+        ("131,072 cells", file_inputs::file_of_cells(255, 255, &vec![1; 131_072])),
+        ("131,065 cells", file_inputs::file_of_cells(0, 2, &vec![1; 131_065])),
         ("a timing of 0", broken.bytes()),
         ("a cell too many", of_timings(&[vec![4_000; 65_535], vec![6_000]].concat())),
         ("no bytes", Vec::new()),

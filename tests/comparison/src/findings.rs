@@ -1,13 +1,13 @@
-//! 01, "Findings": the list of a track's findings.
+//! Section 7 of the specification: the list of a track's findings.
 
 use crate::report::{Element, Group, Report};
 use crate::terms::{self, answer};
 use second_program::cells;
 use second_program::findings::{self, Finding};
-use second_program::random::Random;
 use second_program::refusal::Refusal;
-use second_program::track_builder::{filled, nine_sectors, odd_track, standard_track, turn, SectorPlan, TrackBuilder};
 use std::fmt::Display;
+use test_inputs::random::Random;
+use test_inputs::track_builder::{filled, nine_sectors, odd_track, standard_track, turn, SectorPlan, TrackBuilder};
 use thikbromu::boundary::{self, FindingRecord, FINDING_NUMBERS};
 use thikbromu::Track;
 

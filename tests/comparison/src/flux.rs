@@ -1,12 +1,12 @@
-//! 01, "The separator": the step on a lent residual and by value, the call on a list, and the histogram.
+//! Sections 3 to 5 of the specification: the separator's step on a lent residual and by value, its call on a list, and the histogram.
 
 use crate::report::{Group, Lent, Report};
 use crate::terms::answer;
 use second_program::cells;
-use second_program::flux_tracks::{flux_track, flux_track_of, timings_of_cells, Choice, FluxTrack};
-use second_program::random::Random;
 use second_program::refusal::Refusal;
 use second_program::separator::{self, SeparatorState};
+use test_inputs::flux_inputs::{flux_track, flux_track_of, timings_of_cells, Choice, FluxTrack};
+use test_inputs::random::Random;
 use thikbromu::{boundary, separate, Separator};
 
 /// The list call: answer, buffer and the timings afterwards.
@@ -60,9 +60,9 @@ fn offset_of(residual: i32, timing: u32, count: usize) -> i64 {
     i64::from(timing) + i64::from(residual) - 2_000 * count as i64
 }
 
-/// The rows and the cells that 01 prints.
-pub fn printed(report: &mut Report) {
-    let mut group = Group::new("01's rows of the separator, and its cells");
+/// The rows and the cells to know.
+pub fn known(report: &mut Report) {
+    let mut group = Group::new("the rows of rule 3.13 and the cells of rule 3.14");
     // Timings, n, e, r after.
     let rows: [(&[u32], &[usize], &[i64], &[i32]); 6] = [
         (&[4_900, 4_000], &[2, 2], &[900, 450], &[450, 225]),

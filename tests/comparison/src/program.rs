@@ -1,15 +1,11 @@
-//! 01, "Track file and listing": the program `track_listing` beside the second program, on whole files and on files that come in
+//! Section 13 of the specification: the program `track_listing` beside the second program, on whole files and on files that come in
 //! portions.
 
 use crate::block_program;
 use crate::report::{Group, Report};
-use second_program::flux_tracks::timings_of_cells;
 use second_program::listing::listing;
-use second_program::random::Random;
 use second_program::track_block;
-use second_program::track_builder::{odd_track, standard_track};
 use second_program::track_file::at_once;
-use second_program::track_files::{self, NamedFile};
 use std::ffi::OsStr;
 use std::fs::File;
 use std::io::{ErrorKind, Read, Write};
@@ -18,6 +14,10 @@ use std::os::unix::net::{UnixDatagram, UnixStream};
 use std::path::Path;
 use std::process::{Child, Command, Output, Stdio};
 use std::time::{Duration, Instant};
+use test_inputs::file_inputs::{self, NamedFile};
+use test_inputs::flux_inputs::timings_of_cells;
+use test_inputs::random::Random;
+use test_inputs::track_builder::{odd_track, standard_track};
 
 /// A program, as `rt ci` builds it.
 pub fn built(name: &str) -> Command {
@@ -181,7 +181,7 @@ impl Seen {
 pub fn whole_files(report: &mut Report) {
     let mut group = Group::new("the program on whole files");
     let mut seen = Seen::default();
-    for file in track_files::files() {
+    for file in file_inputs::files() {
         let expected = text(&listing(&file.bytes));
         seen.note(&expected);
         group.same(text(&through_pipe(program(), &file.bytes)), expected, || file.name.clone());
@@ -198,18 +198,18 @@ fn ten_files() -> Vec<NamedFile> {
     let mut add = |name: &str, bytes: Vec<u8>| files.push(NamedFile { name: name.to_string(), bytes });
     let standard = standard_track(0, 0, 0xE5);
     let odd = odd_track(&mut random, 33);
-    add("standard track", track_files::file_of_cells(0, 0, &standard));
-    add("standard track as timings", track_files::file_of_timings(0, 0, &timings_of_cells(&standard)));
-    add("odd track", track_files::file_of_cells(33, 1, &odd));
-    add("odd track as timings", track_files::file_of_timings(33, 1, &timings_of_cells(&odd)));
-    add("131,069 cells", track_files::file_of_cells(82, 0, &vec![1; 131_069]));
-    add("20,000 cells from four timings", track_files::file_of_timings(79, 0, &[10_000_000; 4]));
-    add("a timing out of range", track_files::file_of_timings(1, 0, &[4_000, 4_000, 10_000_001, 0, 4_000]));
-    add("too many cells", track_files::file_of_timings(1, 0, &[10_000_000; 30]));
-    let mut left_over = track_files::file_of_cells(2, 0, &vec![0; 20_001]);
+    add("standard track", file_inputs::file_of_cells(0, 0, &standard));
+    add("standard track as timings", file_inputs::file_of_timings(0, 0, &timings_of_cells(&standard)));
+    add("odd track", file_inputs::file_of_cells(33, 1, &odd));
+    add("odd track as timings", file_inputs::file_of_timings(33, 1, &timings_of_cells(&odd)));
+    add("131,069 cells", file_inputs::file_of_cells(82, 0, &vec![1; 131_069]));
+    add("20,000 cells from four timings", file_inputs::file_of_timings(79, 0, &[10_000_000; 4]));
+    add("a timing out of range", file_inputs::file_of_timings(1, 0, &[4_000, 4_000, 10_000_001, 0, 4_000]));
+    add("too many cells", file_inputs::file_of_timings(1, 0, &[10_000_000; 30]));
+    let mut left_over = file_inputs::file_of_cells(2, 0, &vec![0; 20_001]);
     left_over.extend([0; 70]);
     add("bytes left over", left_over);
-    add("65,536 timings", track_files::file_of_timings(3, 0, &vec![4_000; 65_536]));
+    add("65,536 timings", file_inputs::file_of_timings(3, 0, &vec![4_000; 65_536]));
     files
 }
 
@@ -365,7 +365,7 @@ pub fn system(report: &mut Report) {
     let mut child = started(program(), Stdio::piped());
     drop(child.stdout.take());
     let mut input = child.stdin.take().expect("a pipe");
-    input.write_all(&track_files::file_of_cells(5, 0, &vec![1; 20_000])).expect("the program reads");
+    input.write_all(&file_inputs::file_of_cells(5, 0, &vec![1; 20_000])).expect("the program reads");
     drop(input);
     group.same(ends_within(&mut child, Duration::from_secs(20)), true, || "the output's reader has gone".to_string());
     // An empty input is a short file; so is a file on the disk, read as such.

@@ -1,12 +1,12 @@
-//! 01, "Sectors": records, the sector by index, and reading out.
+//! Section 6 of the specification: records, the sector by index, and reading out.
 
 use crate::report::{Group, Lent, Report};
 use crate::terms::{self, answer};
 use second_program::cells;
-use second_program::random::Random;
 use second_program::refusal::Refusal;
 use second_program::sectors::{self, SectorRecord};
-use second_program::track_builder::{filled, odd_track, standard_track, turn, SectorPlan, TrackBuilder};
+use test_inputs::random::Random;
+use test_inputs::track_builder::{filled, odd_track, standard_track, turn, SectorPlan, TrackBuilder};
 use thikbromu::boundary::{self, SECTOR_NUMBERS};
 
 /// A packed track: its bytes and its number of cells.
@@ -111,9 +111,9 @@ fn whole_track(group: &mut Group, random: &mut Random, track: &Track, drive: (u3
     read_case(group, track, drive, index, room);
 }
 
-/// The standard track, as 01 gives it, and turned so that the index falls on every cell of a record.
+/// The standard track of rule 6.19 as it is, and turned so that the index falls on every cell of a record.
 pub fn standard(report: &mut Report) {
-    let mut group = Group::new("the standard track, by 01's numbers");
+    let mut group = Group::new("the standard track, by the numbers of rule 6.19");
     let mut random = Random::new(20);
     let standard_cells = standard_track(3, 1, 0xE5);
     let track = packed(&standard_cells);

@@ -64,7 +64,7 @@ pub fn finding(ours: thikbromu::Finding) -> Finding {
     }
 }
 
-/// 01's tables of refusals and kinds, and the refusals that 02 adds, as the crate and as the second program has them.
+/// The tables of refusals and kinds, as the crate and as the second program has them.
 pub fn tables(report: &mut Report) {
     let mut group = Group::new("the tables of refusals and kinds");
     let rows = [

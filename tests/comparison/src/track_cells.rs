@@ -1,8 +1,8 @@
-//! 01, "Cells and bytes": cells of a circular track, words of cells, the least place of a word, and packing.
+//! Rules 1.1 to 1.9: cells of the ring, words of cells, the least place of a word, and packing.
 
 use crate::report::{Group, Lent, Report};
 use second_program::cells;
-use second_program::random::Random;
+use test_inputs::random::Random;
 use thikbromu::{boundary, clear, put_one, Track};
 
 fn track(random: &mut Random) -> (Vec<u8>, usize) {

@@ -1,11 +1,11 @@
 //! Writes the track files and the track block of samples/ into the folder that its argument names. samples/README.md says what each shows.
 
-use second_program::flux_tracks::flux_track_of;
-use second_program::random::Random;
-use second_program::track_blocks::standard_track_block;
-use second_program::track_builder::{nine_sectors, standard_track, turn, SectorPlan, TrackBuilder, STANDARD_TRACK_CELLS};
-use second_program::track_files::{file_of_cells, file_of_timings};
 use std::path::Path;
+use test_inputs::block_inputs::standard_track_block;
+use test_inputs::file_inputs::{file_of_cells, file_of_timings};
+use test_inputs::flux_inputs::flux_track_of;
+use test_inputs::random::Random;
+use test_inputs::track_builder::{nine_sectors, standard_track, turn, SectorPlan, TrackBuilder, STANDARD_TRACK_CELLS};
 
 /// The nine standard sectors of a track, each changed by `change`, with the standard track's gaps, and 4E up to its length.
 fn changed(track: u8, change: impl Fn(&mut SectorPlan)) -> Vec<u8> {

@@ -1,10 +1,9 @@
-//! 01, "Cells and bytes": the circular track of packed cells.
+//! The ring of packed cells (rules 1.1 to 1.7).
 //!
-//! "A track is N cells, circular: cell N is cell 0, the index. Cells are packed
-//! eight to a byte, highest bit first." In this module `n` is N. Cells past the
-//! given bytes are 0, and a track of no cells has only zeros.
+//! In this module `n` is N. Where the bytes end too early the missing cells are 0, and
+//! a track of no cells has only zeros (rule 1.5).
 
-/// The place on the track, 0 to n - 1, of a place counted on past n. For a track of
+/// The place on the track, 0 to n - 1, of a place that may be n or more. For a track of
 /// no cells it is 0.
 fn reduced(n: usize, place: usize) -> usize {
     if n == 0 {
@@ -23,7 +22,7 @@ pub fn place_on_track(n: usize, place: usize, further: usize) -> usize {
     ((place as u128 + further as u128) % n as u128) as usize
 }
 
-/// The place after `place` on a circular track: "cell N is cell 0".
+/// The place after `place` on the ring (rule 1.1).
 fn next_place(n: usize, place: usize) -> usize {
     if place + 1 >= n {
         0
@@ -43,13 +42,13 @@ fn stored_cell(bytes: &[u8], n: usize, place: usize) -> u8 {
     }
 }
 
-/// The cell at place `p`, counted on past n where need be.
+/// The cell at place `p`, which may be n or more (rule 1.2).
 pub fn cell(bytes: &[u8], n: usize, p: usize) -> u8 {
     stored_cell(bytes, n, reduced(n, p))
 }
 
 /// The `k` cells from place `p` on as a number, the first cell as its highest bit.
-/// A `k` above 64 counts as 64.
+/// A `k` above 64 counts as 64 (rule 1.6).
 pub fn word(bytes: &[u8], n: usize, p: usize, k: usize) -> u64 {
     let mut value = 0;
     let mut place = reduced(n, p);
@@ -69,8 +68,8 @@ fn mask(k: usize) -> u64 {
     }
 }
 
-/// The least place p with `from` <= p < `to` at which the `k` cells are `sought`.
-/// Places are counted on past n. Where there is none, the greater of `from` and `to`.
+/// The least place p with `from` <= p < `to` at which the `k` cells are `sought`, or the
+/// greater of `from` and `to` where there is none (rule 1.7). Places may be n or more.
 pub fn find_word(bytes: &[u8], n: usize, sought: u64, k: usize, from: usize, to: usize) -> usize {
     let none = from.max(to);
     if from >= to {
@@ -92,13 +91,13 @@ pub fn find_word(bytes: &[u8], n: usize, sought: u64, k: usize, from: usize, to:
     none
 }
 
-/// The bytes that `n` cells need, eight cells to a byte.
+/// The bytes that `n` cells need (rule 1.3).
 pub fn bytes_needed(n: usize) -> usize {
     n.div_ceil(8)
 }
 
-/// Packs cells, one to an element, eight to a byte, highest bit first.
-/// An element other than 0 is a one. Unused bits of the last byte are 0.
+/// Packs cells that stand one to an element (rule 1.3). An element other than 0 is a
+/// one. Spare bits at the end are 0.
 pub fn pack(cells: &[u8]) -> Vec<u8> {
     let mut bytes = vec![0; bytes_needed(cells.len())];
     for (place, &cell) in cells.iter().enumerate() {
@@ -128,7 +127,7 @@ mod tests {
     }
 
     #[test]
-    fn cell_n_is_cell_0() {
+    fn places_go_round_the_track() {
         let bytes = [0b1010_0000];
         for p in 0..30 {
             assert_eq!(cell(&bytes, 3, p), [1, 0, 1][p % 3]);
@@ -204,7 +203,7 @@ mod tests {
     }
 
     #[test]
-    fn packing_leaves_unused_bits_zero() {
+    fn packing_leaves_spare_bits_zero() {
         assert_eq!(pack(&[0, 0, 1, 0, 1]), [0b0010_1000]);
         assert_eq!(pack(&[1; 9]), [0xFF, 0x80]);
         assert!(pack(&[]).is_empty());

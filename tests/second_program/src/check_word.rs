@@ -1,15 +1,12 @@
-//! 01, "Cells and bytes": the check word.
-//!
-//! "Check word: 16 bits, polynomial 1021 (hexadecimal), start FFFF, highest bit
-//! first."
+//! The check word (rules 2.1 to 2.4).
 
-/// The polynomial of the check word.
+/// What the word is combined with where the two bits differ (rule 2.2).
 const POLYNOMIAL: u16 = 0x1021;
 
-/// The check word before the first byte.
+/// The check word before the first byte (rule 2.1).
 pub const START: u16 = 0xFFFF;
 
-/// The check word after the bytes, `start` being the check word before them.
+/// The check word after the bytes, `start` being the check word before them (rule 2.3).
 pub fn check_word_from(start: u16, bytes: &[u8]) -> u16 {
     let mut check = start;
     for &byte in bytes {
@@ -35,7 +32,7 @@ mod tests {
     use super::*;
 
     #[test]
-    fn the_three_check_words_of_01() {
+    fn the_three_check_words_of_rule_2_4() {
         assert_eq!(check_word(&[0xA1, 0xA1, 0xA1]), 0xCDB4);
         assert_eq!(check_word(&[0xA1, 0xA1, 0xA1, 0xFE]), 0xB230);
         assert_eq!(check_word(&[0xA1, 0xA1, 0xA1, 0xFB]), 0xE295);

@@ -1,11 +1,11 @@
-//! 01, "Track file and listing": what the program prints for a track file.
+//! The listing of a track file (rules 11.1 to 11.8).
 
 use crate::findings;
 use crate::refusal::Refusal;
 use crate::track_file::{self, Track};
 
-/// The listing of a file that is not refused: "header: track, side, cells, sectors,
-/// findings; lines: kind, name, level, place, detail". "The track has two digits."
+/// The listing of a file that is not refused: the header (rules 11.2 and 11.5), and then
+/// a line for each finding (rule 11.3).
 fn lines_of(track: &Track) -> String {
     let mut lines = format!(
         "T{:02} H{} cells {} sectors {} findings {}\n",
@@ -28,7 +28,7 @@ fn lines_of(track: &Track) -> String {
     lines
 }
 
-/// "A refused file prints 'refused' and the number", and nothing else.
+/// All that is printed of a refused file (rule 11.4).
 fn refused_line(refusal: Refusal) -> String {
     format!("refused {}\n", refusal.number)
 }
@@ -40,91 +40,4 @@ pub fn listing(file: &[u8]) -> Vec<u8> {
         Err(refusal) => refused_line(refusal),
     };
     text.into_bytes()
-}
-
-#[cfg(test)]
-mod tests {
-    use super::*;
-    use crate::track_builder::standard_track;
-    use crate::track_files::{file_of_cells, file_of_timings, FilePlan};
-
-    fn assert_prints(file: &[u8], expected: &str) {
-        assert_eq!(String::from_utf8(listing(file)).unwrap(), expected);
-    }
-
-    #[test]
-    fn all_bytes_aa() {
-        assert_prints(
-            &FilePlan::of_cells(5, 0, 100_000, &[0xAA; 12_500]).bytes(),
-            "T05 H0 cells 100000 sectors 0 findings 2\n\
-             3 NOS level 3 place 0 detail 0\n\
-             4 TNF level 2 place 0 detail 0\n",
-        );
-        // "At T 80 line 4 is absent and the header says findings 1."
-        assert_prints(
-            &FilePlan::of_cells(80, 0, 100_000, &[0xAA; 12_500]).bytes(),
-            "T80 H0 cells 100000 sectors 0 findings 1\n\
-             3 NOS level 3 place 0 detail 0\n",
-        );
-    }
-
-    #[test]
-    fn the_standard_track() {
-        assert_prints(
-            &file_of_cells(0, 0, &standard_track(0, 0, 0xE5)),
-            "T00 H0 cells 100000 sectors 9 findings 0\n",
-        );
-    }
-
-    #[test]
-    fn all_zero_cells() {
-        assert_prints(
-            &FilePlan::of_cells(80, 0, 100_000, &[0x00; 12_500]).bytes(),
-            "T80 H0 cells 100000 sectors 0 findings 2\n\
-             3 NOS level 3 place 0 detail 0\n\
-             21 NFA level 1 place 0 detail 100000\n",
-        );
-    }
-
-    #[test]
-    fn timings() {
-        // Ones at 4,999, 9,999, 14,999 and 19,999; four equal runs of 4,999 zeros.
-        assert_prints(
-            &file_of_timings(5, 1, &[10_000_000; 4]),
-            "T05 H1 cells 20000 sectors 0 findings 5\n\
-             2 SHT level 1 place 0 detail 20000\n\
-             3 NOS level 3 place 0 detail 0\n\
-             4 TNF level 2 place 0 detail 0\n\
-             20 MTV level 3 place 4999 detail 4\n\
-             21 NFA level 1 place 0 detail 4999\n",
-        );
-    }
-
-    #[test]
-    fn places_and_details_of_a_sector_kind() {
-        // The standard track of T 0 at T 80: EXT, and ITN for each of its sectors.
-        let mut expected = String::from("T80 H1 cells 100000 sectors 9 findings 10\n");
-        expected += "5 EXT level 2 place 0 detail 9\n";
-        for place in [
-            1_152, 10_976, 20_800, 30_624, 40_448, 50_272, 60_096, 69_920, 79_744,
-        ] {
-            expected += &format!("8 ITN level 2 place {place} detail 0\n");
-        }
-        assert_prints(
-            &file_of_cells(80, 1, &standard_track(0, 0, 0xE5)),
-            &expected,
-        );
-    }
-
-    #[test]
-    fn refused_files_print_one_line() {
-        assert_prints(b"", "refused 15\n");
-        assert_prints(&[3, 0, 0, 0], "refused 15\n");
-        assert_prints(&[2, 0, 0, 0, 0, 0, 1, 0, 2, 0], "refused 2\n");
-        assert_prints(&[2, 0, 0, 0, 0, 0, 0, 0, 0, 0, 1, 0, 1, 0], "refused 7\n");
-        assert_prints(&file_of_timings(0, 0, &[0]), "refused 8\n");
-        assert_prints(&file_of_timings(0, 0, &[10_000_000; 27]), "refused 9\n");
-        assert_prints(&file_of_timings(84, 0, &[10_000_000; 4]), "refused 1\n");
-        assert_prints(&file_of_cells(0, 0, &[1; 19_999]), "refused 2\n");
-    }
 }

@@ -1,18 +1,16 @@
-//! 01, "Cells and bytes": MFM coding and decoding.
+//! MFM coding and decoding (rules 1.10 to 1.19).
 //!
-//! "A data bit takes two cells, clock then data; the clock is 1 exactly if the
-//! data bits before and at it are both 0. A byte takes 16 cells, highest bit
-//! first. Decoding takes the data cells only: one byte for each two bytes of
-//! cells, an odd last byte not read."
+//! Coding puts a clock before every data bit (rules 1.10 to 1.13). Decoding drops all
+//! clocks (rules 1.14 and 1.15).
 
 use crate::refusal::{Refusal, MOST_BYTES_TO_CODE, MOST_BYTES_TO_DECODE};
 
-/// "The sync A1 lacks a clock: 4489."
+/// The cells of the sync (rule 1.18).
 pub const SYNC_A1: u16 = 0x4489;
-/// "The sync C2: 5224."
+/// The cells of C2 with a missing clock, for which no rule looks (rule 1.19).
 pub const SYNC_C2: u16 = 0x5224;
 
-/// The 16 cells of one byte, `before` being the data bit before it.
+/// The 16 cells of one byte, `before` being the data bit before it (rule 1.12).
 pub fn code_byte(byte: u8, before: bool) -> u16 {
     let mut cells = 0;
     let mut bit_before = before;
@@ -26,7 +24,7 @@ pub fn code_byte(byte: u8, before: bool) -> u16 {
     cells
 }
 
-/// The byte whose data cells these 16 cells hold, whatever their clocks are.
+/// The byte whose data cells these 16 cells hold, whatever their clocks are (rule 1.14).
 pub fn decode_cells(cells: u16) -> u8 {
     let mut byte = 0;
     for bit in (0..8).rev() {
@@ -36,9 +34,9 @@ pub fn decode_cells(cells: u16) -> u8 {
     byte
 }
 
-/// Coding: "given up to 8,192 bytes and the data bit before them (a yes or no),
-/// two bytes of cells for each. No bytes give no cells." `room` is the room for
-/// the cells in bytes. Refusals in 01's order: 14, 13.
+/// Coding (rules 1.13 and 9.8): the cells of all bytes. `before` is the data bit ahead of
+/// them, `room` how many bytes of cells the caller has room for. Refusals in order: 14,
+/// 13.
 pub fn code(bytes: &[u8], before: bool, room: usize) -> Result<Vec<u8>, Refusal> {
     if bytes.len() > MOST_BYTES_TO_CODE {
         return Err(Refusal::too_many_bytes(bytes.len()));
@@ -56,8 +54,8 @@ pub fn code(bytes: &[u8], before: bool, room: usize) -> Result<Vec<u8>, Refusal>
     Ok(cells)
 }
 
-/// Decoding: "one byte for each two bytes of cells, an odd last byte not read".
-/// `room` is the room for the bytes. Refusals in 01's order: 14, 13.
+/// Decoding (rules 1.15 and 9.9). `room` is the room for the bytes. Refusals in order:
+/// 14, 13.
 pub fn decode(cells: &[u8], room: usize) -> Result<Vec<u8>, Refusal> {
     if cells.len() > MOST_BYTES_TO_DECODE {
         return Err(Refusal::too_many_bytes(cells.len()));
@@ -79,7 +77,7 @@ mod tests {
     use crate::cells;
 
     #[test]
-    fn the_codings_of_01() {
+    fn the_codings_of_rule_1_17() {
         assert_eq!(code_byte(0x4E, false), 0x9254);
         assert_eq!(code_byte(0x00, false), 0xAAAA);
         assert_eq!(code_byte(0x00, true), 0x2AAA);
@@ -113,7 +111,7 @@ mod tests {
 
     #[test]
     fn one_cell_off_the_sync_c2_is_lawful() {
-        // 01: "one cell off it is lawful MFM, the data bits 00010100".
+        // The example of rule 1.19.
         let coded = code(&[0b0001_0100, 0xFF], false, 4).unwrap();
         assert_eq!(cells::find_word(&coded, 32, 0x5224, 16, 0, 16), 1);
     }

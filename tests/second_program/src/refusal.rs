@@ -1,32 +1,30 @@
-//! 01, "Refused calls": the fifteen refusals and the value that each gives also; and
-//! 16 and 17, which ticket 3 of 02 adds. "Refusals added later give 0 unless they say
-//! otherwise."
+//! The refusals, each with what is given beside it: rule 8.K is refusal K.
 //!
 //! The order in which a routine judges them stands in the routine itself.
 
-/// 01, row 1: the highest track of the drive.
+/// Rule 8.1: the highest track of the drive.
 pub const HIGHEST_TRACK: u32 = 83;
-/// 01, row 1: the highest side of the drive.
+/// Rule 8.1: the highest side of the drive.
 pub const HIGHEST_SIDE: u32 = 1;
-/// 01, row 2: the fewest cells of a track.
+/// Rule 8.2: the fewest cells of a track.
 pub const FEWEST_CELLS: usize = 20_000;
-/// 01, rows 2 and 9: the most cells of a track.
+/// Rules 8.2 and 8.9: the most cells of a track.
 pub const MOST_CELLS: usize = 131_072;
-/// 01, row 4: the most sectors of a track.
+/// Rule 8.4: the most sectors of a track.
 pub const MOST_SECTORS: usize = 64;
-/// 01, row 7: the most timings of a list.
+/// Rule 8.7: the most timings of a list.
 pub const MOST_TIMINGS: usize = 65_536;
-/// 01, row 14: the most bytes to code.
+/// Rule 8.14: the most bytes to code.
 pub const MOST_BYTES_TO_CODE: usize = 8_192;
-/// 01, row 14: the most bytes of cells to decode.
+/// Rule 8.14: the most bytes of cells to decode.
 pub const MOST_BYTES_TO_DECODE: usize = 16_384;
 
-/// A refused call: the number of the table's row, and what it "gives also".
+/// A refused call: the number of the refusal, and what is given beside it.
 #[derive(Clone, Copy, Debug, PartialEq, Eq)]
 pub struct Refusal {
-    /// The row of 01's table, 1 to 15, or a number added later.
+    /// The number, 1 to 17.
     pub number: u32,
-    /// The value of the column "gives also".
+    /// What is given beside it.
     pub value: u64,
 }
 
@@ -38,92 +36,92 @@ impl Refusal {
         }
     }
 
-    /// 1: T above 83 or H above 1; gives 0.
+    /// 1: the drive has no such track or side. Beside it: 0.
     pub fn drive_place_out_of_range() -> Refusal {
         Refusal::new(1, 0)
     }
 
-    /// 2: N below 20,000 or above 131,072; gives N.
+    /// 2: too few or too many cells. Beside it: N.
     pub fn cell_count_out_of_range(cells: usize) -> Refusal {
         Refusal::new(2, cells)
     }
 
-    /// 3: fewer bytes than N cells need; gives the bytes needed.
+    /// 3: bytes of the cells are missing. Beside it: how many N cells need.
     pub fn too_few_bytes_of_cells(bytes_needed: usize) -> Refusal {
         Refusal::new(3, bytes_needed)
     }
 
-    /// 4: more than 64 sectors; gives the sectors on the track.
+    /// 4: too many sectors. Beside it: how many there are.
     pub fn too_many_sectors(sectors: usize) -> Refusal {
         Refusal::new(4, sectors)
     }
 
-    /// 5: findings list too short; gives the findings.
+    /// 5: the list cannot hold the findings. Beside it: how many there are.
     pub fn findings_list_too_short(findings: usize) -> Refusal {
         Refusal::new(5, findings)
     }
 
-    /// 6: no timings; gives 0.
+    /// 6: there is no timing. Beside it: 0.
     pub fn no_timings() -> Refusal {
         Refusal::new(6, 0)
     }
 
-    /// 7: more than 65,536 timings; gives the timings.
+    /// 7: too many timings. Beside it: how many there are.
     pub fn too_many_timings(timings: usize) -> Refusal {
         Refusal::new(7, timings)
     }
 
-    /// 8: a timing outside its range; gives the index of the first.
+    /// 8: a timing is out of range. Beside it: the least index of such a one.
     pub fn timing_out_of_range(index: usize) -> Refusal {
         Refusal::new(8, index)
     }
 
-    /// 9: more than 131,072 cells in all; gives the cells.
+    /// 9: the timings give too many cells. Beside it: how many.
     pub fn too_many_cells(cells: usize) -> Refusal {
         Refusal::new(9, cells)
     }
 
-    /// 10: too little room for the cells; gives the bytes needed.
+    /// 10: the buffer cannot hold the cells. Beside it: how many bytes they need.
     pub fn too_little_room_for_cells(bytes_needed: usize) -> Refusal {
         Refusal::new(10, bytes_needed)
     }
 
-    /// 10 of a track block: "10 for room, with the timings needed".
+    /// 10 of a track block: the list cannot hold the timings. Beside it: how many they are.
     pub fn too_little_room_for_timings(timings_needed: usize) -> Refusal {
         Refusal::new(10, timings_needed)
     }
 
-    /// 11: no sector of that index; gives the sectors.
+    /// 11: the index is too high. Beside it: how many sectors there are.
     pub fn no_such_sector(sectors: usize) -> Refusal {
         Refusal::new(11, sectors)
     }
 
-    /// 12: that sector has no data read; gives 0.
+    /// 12: of this sector no data is read. Beside it: 0.
     pub fn no_data_read() -> Refusal {
         Refusal::new(12, 0)
     }
 
-    /// 13: too little room for the bytes; gives the bytes needed.
+    /// 13: the buffer cannot hold the bytes. Beside it: how many they are.
     pub fn too_little_room_for_bytes(bytes_needed: usize) -> Refusal {
         Refusal::new(13, bytes_needed)
     }
 
-    /// 14: more than 8,192 bytes to code, 16,384 to decode; gives the bytes given.
+    /// 14: too many bytes to code or decode. Beside it: how many were handed over.
     pub fn too_many_bytes(bytes_given: usize) -> Refusal {
         Refusal::new(14, bytes_given)
     }
 
-    /// 15: not a track file; gives 0.
+    /// 15: the bytes are no track file. Beside it: 0.
     pub fn not_a_track_file() -> Refusal {
         Refusal::new(15, 0)
     }
 
-    /// 16: not a track block; gives 0.
+    /// 16: the bytes are no track block. Beside it: 0.
     pub fn not_a_track_block() -> Refusal {
         Refusal::new(16, 0)
     }
 
-    /// 17: a revolution that the track block lacks; gives 0.
+    /// 17: the block has no such revolution. Beside it: 0.
     pub fn no_such_revolution() -> Refusal {
         Refusal::new(17, 0)
     }

@@ -1,44 +1,39 @@
-//! 01, "The separator": from flux timings to cells; and the histogram of timings.
-//!
-//! "Timings are nanoseconds between pulses, each 1 to 10,000,000. The state holds
-//! a residual r, at first 0. For a timing t: u = t + r; n is (u + 1000) divided by
-//! 2000, rounded down; the offset is e = u - 2000n; the new r is e divided by 2,
-//! rounded towards zero. Output for this timing: n - 1 zeros and a one, or nothing
-//! where n is 0."
+//! The separator (rules 3.1 to 3.14), which turns flux timings into cells; and the
+//! histogram (rules 5.1 to 5.3).
 
 use crate::cells;
 use crate::refusal::{Refusal, MOST_CELLS, MOST_TIMINGS};
 
-/// The shortest timing in nanoseconds.
+/// The shortest timing in nanoseconds (rule 3.1).
 pub const SHORTEST_TIMING: u32 = 1;
-/// The longest timing in nanoseconds.
+/// The longest timing in nanoseconds (rule 3.1).
 pub const LONGEST_TIMING: u32 = 10_000_000;
 /// The nanoseconds of one cell.
 const CELL: i64 = 2_000;
 /// Half of the nanoseconds of one cell.
 const HALF_CELL: i64 = 1_000;
-/// "A state whose r is outside -500 to 499 is stepped as if r were 0."
+/// The residuals that a step takes as they are (rule 3.6).
 const LEAST_RESIDUAL: i64 = -500;
 const MOST_RESIDUAL: i64 = 499;
 
-/// Whether the timing is 1 to 10,000,000.
+/// Whether the timing is in range.
 pub fn timing_in_range(timing: u32) -> bool {
     (SHORTEST_TIMING..=LONGEST_TIMING).contains(&timing)
 }
 
-/// The separator's state: the residual r, at first 0.
+/// The separator's state (rule 3.2).
 #[derive(Clone, Copy, Debug, Default, PartialEq, Eq)]
 pub struct SeparatorState {
     /// The residual r.
     pub residual: i64,
 }
 
-/// What one timing gives: "n - 1 zeros and a one, or nothing where n is 0".
+/// What one timing gives (rules 3.3 to 3.5).
 #[derive(Clone, Copy, Debug, PartialEq, Eq)]
 pub struct Step {
     /// n, the cells of this timing.
     pub cells: i64,
-    /// e: "the window centre used lies e before the pulse".
+    /// e, by which the pulse lies after the window's centre.
     pub offset: i64,
 }
 
@@ -48,9 +43,8 @@ impl SeparatorState {
         SeparatorState { residual: 0 }
     }
 
-    /// One step by value: takes the state and one timing, hands back the next
-    /// state. "A step refuses a timing out of range with 8 and index 0, its state
-    /// kept."
+    /// One step by value (rules 3.3 and 3.8): takes the state and one timing, hands back
+    /// the next state. A timing out of range leaves the state as it came (rule 3.7).
     pub fn step(self, timing: u32) -> (SeparatorState, Result<Step, Refusal>) {
         if !timing_in_range(timing) {
             return (self, Err(Refusal::timing_out_of_range(0)));
@@ -72,8 +66,7 @@ impl SeparatorState {
         (next, Ok(step))
     }
 
-    /// The form in which the host "lends the state and finds it advanced in its
-    /// own place". It answers like `step`.
+    /// The step on a state that the caller lends (rule 3.9). It answers like `step`.
     pub fn advance(&mut self, timing: u32) -> Result<Step, Refusal> {
         let (next, answer) = self.step(timing);
         *self = next;
@@ -81,7 +74,7 @@ impl SeparatorState {
     }
 }
 
-/// One row of 01's table for one timing.
+/// What a row of rule 3.13 says of one timing.
 #[derive(Clone, Copy, Debug, PartialEq, Eq)]
 pub struct Row {
     /// n.
@@ -108,7 +101,7 @@ fn judge_timings(timings: &[u32]) -> Result<(), Refusal> {
     Ok(())
 }
 
-/// n, e and r after each timing, r at first 0. Refusals 6 to 8.
+/// n, e and r after each timing of a list (rule 3.10). Refusals 6 to 8.
 pub fn rows(timings: &[u32]) -> Result<Vec<Row>, Refusal> {
     judge_timings(timings)?;
     let mut state = SeparatorState::new();
@@ -124,9 +117,9 @@ pub fn rows(timings: &[u32]) -> Result<Vec<Row>, Refusal> {
     Ok(rows)
 }
 
-/// The separator over a whole list of timings, r at first 0: the number of cells
-/// and the packed cells. `room` is the room for the cells in bytes. Refusals in
-/// 01's order: 6 to 10. "Zero cells in all is accepted."
+/// The call on a list (rules 3.10 to 3.12 and 9.6): the number of cells and the packed
+/// cells. `room` is the room for the cells in bytes. Refusals in order: 6 to 10. All
+/// timings are judged before cells are counted (rule 9.21).
 pub fn separate(timings: &[u32], room: usize) -> Result<(usize, Vec<u8>), Refusal> {
     judge_timings(timings)?;
 
@@ -159,9 +152,7 @@ pub fn separate(timings: &[u32], room: usize) -> Result<(usize, Vec<u8>), Refusa
     Ok((cells_in_all, bytes))
 }
 
-/// The histogram: "256 counts, all zero before the first timing is counted; count
-/// i is of timings 100i to 100i+99, and count 255 of all from 25,500 up."
-/// Refusals in 01's order: 6 to 8.
+/// The histogram (rules 5.1, 5.2 and 9.7). Refusals in order: 6 to 8.
 pub fn histogram(timings: &[u32]) -> Result<[u32; 256], Refusal> {
     judge_timings(timings)?;
     let mut counts = [0; 256];
@@ -189,7 +180,7 @@ mod tests {
     }
 
     #[test]
-    fn the_six_rows_of_01() {
+    fn the_six_rows_of_rule_3_13() {
         assert_eq!(
             rows(&[4_900, 4_000]),
             Ok(vec![row(2, 900, 450), row(2, 450, 225)])
@@ -214,7 +205,7 @@ mod tests {
     }
 
     #[test]
-    fn zero_cells_in_all_is_accepted() {
+    fn timings_without_cells_are_accepted() {
         assert_eq!(separate(&[500], 0), Ok((0, vec![])));
         assert_eq!(separate(&[1], 0), Ok((0, vec![])));
     }

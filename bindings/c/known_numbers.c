@@ -1,0 +1,453 @@
+/*
+ * The numbers that docs/SPECIFICATION.md gives to know (rules 1.17, 2.4, 3.13, 3.14, 6.19 and 11.10), and a small track block, through
+ * include/thikbromu.h: every routine is called, and every refusal is given.
+ * The argument is samples/standard.track. It compiles as C99 and as C++.
+ */
+#include "thikbromu.h"
+
+#include <stdio.h>
+#include <string.h>
+
+#define TRACK_CELLS 100000
+#define TRACK_BYTES 12500
+/* The file's bytes before its cells. */
+#define BEFORE_CELLS 10
+
+static int passed = 0;
+static int failed = 0;
+
+static void expect(int holds, int line, const char *text)
+{
+    if (holds) {
+        passed++;
+    } else {
+        failed++;
+        printf("line %d: %s\n", line, text);
+    }
+}
+
+#define EXPECT(condition) expect((condition) ? 1 : 0, __LINE__, #condition)
+
+/* An answer and the value beside it. */
+#define GIVES(call, expected) EXPECT((value = 77, (call) == 0 && value == (expected)))
+#define REFUSES(call, name, expected) EXPECT((value = 77, (call) == THIKBROMU_REFUSED_##name && value == (expected)))
+
+static size_t value;
+static uint8_t room[THIKBROMU_MOST_CELL_BYTES];
+static uint32_t timings[THIKBROMU_MOST_TIMINGS + 1];
+static const uint8_t nothing[1] = {0};
+
+static uint32_t coded(uint8_t byte, bool before)
+{
+    uint8_t cells[2] = {0, 0};
+    uint32_t refusal = thikbromu_encode(&byte, 1, before, cells, 2, &value);
+    return refusal == 0 && value == 2 ? (uint32_t)cells[0] << 8 | cells[1] : 0;
+}
+
+static void test_cells(void)
+{
+    uint8_t cells[3] = {0x44, 0x89, 0xFF};
+    EXPECT(thikbromu_cell(cells, 3, 16, 1) == 1);
+    EXPECT(thikbromu_cell(cells, 3, 16, 17) == 1);
+    EXPECT(thikbromu_cell(cells, 3, 16, 18) == 0);
+    EXPECT(thikbromu_word(cells, 3, 16, 0, 16) == 0x4489);
+    EXPECT(thikbromu_word(cells, 3, 16, 8, 16) == 0x8944);
+    EXPECT(thikbromu_find_word(cells, 3, 16, 0x8944, 16, 0, 16) == 8);
+    EXPECT(thikbromu_find_word(cells, 3, 16, 0x8945, 16, 0, 16) == 16);
+    EXPECT(thikbromu_find_word(cells, 3, 16, 0x8944, 16, 20, 9) == 20);
+    thikbromu_clear(cells, 3, 2);
+    EXPECT(cells[0] == 0 && cells[1] == 0 && cells[2] == 0xFF);
+    thikbromu_put_one(cells, 3, 9);
+    thikbromu_put_one(cells, 3, 24);
+    EXPECT(cells[0] == 0 && cells[1] == 0x40 && cells[2] == 0xFF);
+}
+
+static void test_coding(void)
+{
+    EXPECT(coded(0x4E, false) == 0x9254);
+    EXPECT(coded(0x00, false) == 0xAAAA);
+    EXPECT(coded(0x00, true) == 0x2AAA);
+    EXPECT(coded(0xFF, false) == 0x5555);
+    EXPECT(coded(0xA1, false) == 0x44A9);
+    EXPECT(coded(0xC2, false) == 0x52A4);
+
+    const uint8_t syncs[5] = {0x44, 0x89, 0x52, 0x24, 0xFF};
+    uint8_t bytes[3] = {7, 7, 7};
+    GIVES(thikbromu_decode(syncs, 5, bytes, 3, &value), 2);
+    EXPECT(bytes[0] == 0xA1 && bytes[1] == 0xC2 && bytes[2] == 7);
+    REFUSES(thikbromu_decode(syncs, 5, bytes, 1, &value), NO_ROOM_FOR_BYTES, 2);
+    REFUSES(thikbromu_encode(syncs, 5, false, bytes, 3, &value), NO_ROOM_FOR_BYTES, 10);
+    EXPECT(bytes[0] == 0xA1 && bytes[1] == 0xC2 && bytes[2] == 7);
+    GIVES(thikbromu_encode(nothing, 0, true, bytes, 0, &value), 0);
+    REFUSES(thikbromu_encode(room, THIKBROMU_MOST_BYTES_TO_CODE + 1, false, bytes, 0, &value), TOO_MANY_BYTES, 8193);
+    static const uint8_t many[THIKBROMU_MOST_BYTES_TO_DECODE + 1] = {0};
+    REFUSES(thikbromu_decode(many, sizeof many, bytes, 0, &value), TOO_MANY_BYTES, 16385);
+
+    const uint8_t mark[4] = {0xA1, 0xA1, 0xA1, 0xFE};
+    const uint8_t data_mark[1] = {0xFB};
+    EXPECT(thikbromu_check_word(mark, 3) == 0xCDB4);
+    EXPECT(thikbromu_check_word(mark, 4) == 0xB230);
+    EXPECT(thikbromu_check_word_from(0xCDB4, data_mark, 1) == 0xE295);
+}
+
+/* A step of a row of rule 3.13, from a residual. */
+static void test_step(int32_t residual, uint32_t timing, size_t cells, int32_t after)
+{
+    GIVES(thikbromu_step(&residual, timing, &value), cells);
+    EXPECT(residual == after);
+}
+
+static void test_separator(void)
+{
+    test_step(0, 4900, 2, 450);
+    test_step(450, 4000, 2, 225);
+    test_step(0, 4999, 2, 499);
+    test_step(0, 5000, 3, -500);
+    test_step(-500, 5000, 2, 250);
+    test_step(0, 5001, 3, -499);
+    test_step(0, 500, 0, 250);
+    test_step(250, 3500, 2, -125);
+    test_step(0, 10000000, 5000, 0);
+    test_step(500, 4900, 2, 450);
+    int32_t residual = 3;
+    REFUSES(thikbromu_step(&residual, 0, &value), TIMING_OUT_OF_RANGE, 0);
+    EXPECT(residual == 3);
+    residual = 700;
+    REFUSES(thikbromu_step(&residual, 10000001, &value), TIMING_OUT_OF_RANGE, 0);
+    EXPECT(residual == 700);
+    /* Step by step, as the row 4900, 4000 has it. */
+    residual = 0;
+    GIVES(thikbromu_step(&residual, 4900, &value), 2);
+    GIVES(thikbromu_step(&residual, 4000, &value), 2);
+    EXPECT(residual == 225);
+
+    const uint32_t two[2] = {5000, 5000};
+    uint8_t cells[2] = {7, 7};
+    GIVES(thikbromu_separate(two, 2, cells, 2, &value), 5);
+    EXPECT(cells[0] == 0x28 && cells[1] == 7);
+    REFUSES(thikbromu_separate(two, 0, cells, 2, &value), NO_TIMINGS, 0);
+    REFUSES(thikbromu_separate(two, 2, cells, 0, &value), NO_ROOM, 1);
+    EXPECT(cells[0] == 0x28 && cells[1] == 7);
+    for (size_t i = 0; i <= THIKBROMU_MOST_TIMINGS; i++) {
+        timings[i] = 6000;
+    }
+    REFUSES(thikbromu_separate(timings, THIKBROMU_MOST_TIMINGS + 1, cells, 2, &value), TOO_MANY_TIMINGS, 65537);
+    REFUSES(thikbromu_separate(timings, THIKBROMU_MOST_TIMINGS, cells, 2, &value), TOO_MANY_CELLS, 196608);
+    timings[9] = 0;
+    REFUSES(thikbromu_separate(timings, THIKBROMU_MOST_TIMINGS, cells, 2, &value), TIMING_OUT_OF_RANGE, 9);
+}
+
+static void test_histogram(void)
+{
+    const uint32_t some[5] = {1, 99, 100, 25500, 10000000};
+    uint32_t counts[THIKBROMU_HISTOGRAM_COUNTS];
+    GIVES(thikbromu_histogram(some, 5, counts, THIKBROMU_HISTOGRAM_COUNTS, &value), 5);
+    EXPECT(counts[0] == 2 && counts[1] == 1 && counts[2] == 0 && counts[254] == 0 && counts[255] == 2);
+    REFUSES(thikbromu_histogram(some, 0, counts, THIKBROMU_HISTOGRAM_COUNTS, &value), NO_TIMINGS, 0);
+    EXPECT(counts[0] == 0 && counts[1] == 0 && counts[255] == 0);
+}
+
+/* Two revolutions on track 5. The table ends at 28; the first has three values there, the second two at 34. The block has 38 bytes. */
+#define BLOCK_BYTES 38
+#define SECOND_COUNT 20
+#define SECOND_OFFSET 24
+static const uint8_t two_revolutions[BLOCK_BYTES] = {
+    'T', 'R', 'K', 5,
+    0xD0, 2, 0, 0, 3, 0, 0, 0, 28, 0, 0, 0,
+    1, 0, 1, 0, 2, 0, 0, 0, 34, 0, 0, 0,
+    0, 160, 0, 240, 1, 64,
+    0, 0, 0, 1};
+
+static void test_track_blocks(void)
+{
+    uint8_t block[BLOCK_BYTES];
+    uint32_t list[4] = {7, 7, 7, 7};
+    uint8_t cells[3] = {7, 7, 7};
+
+    /* 160, 240 and 320 units of 25 ns; 65,536 + 1 units. */
+    GIVES(thikbromu_revolution_timings(two_revolutions, BLOCK_BYTES, 2, 0, list, 4, &value), 3);
+    EXPECT(list[0] == 4000 && list[1] == 6000 && list[2] == 8000 && list[3] == 7);
+    GIVES(thikbromu_revolution_timings(two_revolutions, BLOCK_BYTES, 2, 1, list, 1, &value), 1);
+    EXPECT(list[0] == 1638425 && list[1] == 6000);
+    /* 2, 3 and 4 cells: 01, 001, 0001. */
+    GIVES(thikbromu_revolution_cells(two_revolutions, BLOCK_BYTES, 2, 0, cells, 3, &value), 9);
+    EXPECT(cells[0] == 0x48 && cells[1] == 0x80 && cells[2] == 7);
+
+    /* What is refused leaves the memory as it was. */
+    list[0] = 7;
+    cells[0] = 7;
+    REFUSES(thikbromu_revolution_timings(two_revolutions, BLOCK_BYTES - 1, 2, 0, list, 4, &value), NOT_A_TRACK_BLOCK, 0);
+    REFUSES(thikbromu_revolution_timings(two_revolutions, BLOCK_BYTES, 3, 0, list, 4, &value), NOT_A_TRACK_BLOCK, 0);
+    REFUSES(thikbromu_revolution_timings(two_revolutions, BLOCK_BYTES, 2, 2, list, 0, &value), NO_SUCH_REVOLUTION, 0);
+    REFUSES(thikbromu_revolution_timings(two_revolutions, BLOCK_BYTES, 2, 0, list, 2, &value), NO_ROOM, 3);
+    REFUSES(thikbromu_revolution_cells(two_revolutions, BLOCK_BYTES, 3, 0, cells, 3, &value), NOT_A_TRACK_BLOCK, 0);
+    REFUSES(thikbromu_revolution_cells(two_revolutions, BLOCK_BYTES, 2, 2, cells, 3, &value), NO_SUCH_REVOLUTION, 0);
+    REFUSES(thikbromu_revolution_cells(two_revolutions, BLOCK_BYTES, 2, 0, cells, 1, &value), NO_ROOM, 2);
+    /* The second revolution without values, and with one, which is a 0. */
+    memcpy(block, two_revolutions, BLOCK_BYTES);
+    block[SECOND_COUNT] = 0;
+    REFUSES(thikbromu_revolution_timings(block, BLOCK_BYTES, 2, 1, list, 4, &value), NO_TIMINGS, 0);
+    REFUSES(thikbromu_revolution_cells(block, BLOCK_BYTES, 2, 1, cells, 3, &value), NO_TIMINGS, 0);
+    block[SECOND_COUNT] = 1;
+    REFUSES(thikbromu_revolution_timings(block, BLOCK_BYTES, 2, 0, list, 4, &value), NOT_A_TRACK_BLOCK, 0);
+    /* Its values from the last byte of the table on. */
+    block[SECOND_OFFSET] = 27;
+    REFUSES(thikbromu_revolution_timings(block, BLOCK_BYTES, 2, 0, list, 4, &value), NOT_A_TRACK_BLOCK, 0);
+    EXPECT(list[0] == 7 && list[1] == 6000 && list[2] == 8000 && list[3] == 7);
+    EXPECT(cells[0] == 7 && cells[1] == 0x80 && cells[2] == 7);
+
+    /* 65,537 values of 1 in one revolution. */
+    static uint8_t many[16 + 2 * (THIKBROMU_MOST_TIMINGS + 1)];
+    static const uint8_t front[16] = {'T', 'R', 'K', 0, 0, 0, 0, 0, 1, 0, 1, 0, 16, 0, 0, 0};
+    memcpy(many, front, sizeof front);
+    for (size_t i = 17; i < sizeof many; i += 2) {
+        many[i] = 1;
+    }
+    REFUSES(thikbromu_revolution_timings(many, sizeof many, 1, 0, timings, THIKBROMU_MOST_TIMINGS + 1, &value),
+            TOO_MANY_TIMINGS, 65537);
+    /* With its sixth to twelfth value 0, the thirteenth is more than seven times 65,536 units. */
+    memset(many + 16 + 2 * 5, 0, 2 * 7);
+    REFUSES(thikbromu_revolution_timings(many, sizeof many, 1, 0, timings, THIKBROMU_MOST_TIMINGS + 1, &value),
+            TIMING_OUT_OF_RANGE, 5);
+}
+
+/* A number of a state: so many timings and zeros, and 1 more than the byte that is held, or 0. */
+static uint32_t number_of(uint32_t ended, uint32_t zeros, uint32_t held)
+{
+    return held + 257 * (zeros + 8 * ended);
+}
+
+static void test_portions(void)
+{
+    /* 0, 1 and 160 in three portions: 65,537 units and 160. */
+    const uint8_t *values = two_revolutions + 34;
+    const uint8_t last[2] = {0, 160};
+    uint32_t list[2] = {7, 7};
+    uint32_t number = 0;
+    GIVES(thikbromu_revolution_portion(&number, values, 3, list, 0, &value), 0);
+    EXPECT(number == number_of(0, 1, 1));
+    REFUSES(thikbromu_revolution_portion(&number, values + 3, 1, list, 0, &value), NO_ROOM, 1);
+    EXPECT(number == number_of(0, 1, 1) && list[0] == 7);
+    GIVES(thikbromu_revolution_portion(&number, values + 3, 1, list, 2, &value), 1);
+    EXPECT(number == 2056 && list[0] == 1638425 && list[1] == 7);
+    GIVES(thikbromu_revolution_portion(&number, nothing, 0, list, 2, &value), 0);
+    EXPECT(number == 2056);
+    GIVES(thikbromu_revolution_portion(&number, last, 2, list, 1, &value), 1);
+    EXPECT(number == number_of(2, 0, 0) && list[0] == 4000 && list[1] == 7);
+
+    /* Counted from the revolution's start. */
+    number = number_of(65535, 7, 0);
+    REFUSES(thikbromu_revolution_portion(&number, last, 2, list, 2, &value), TIMING_OUT_OF_RANGE, 65535);
+    EXPECT(number == number_of(65535, 7, 0));
+    number = number_of(65536, 7, 1);
+    REFUSES(thikbromu_revolution_portion(&number, last + 1, 1, list, 2, &value), TOO_MANY_TIMINGS, 65537);
+    EXPECT(number == number_of(65536, 7, 1) && list[0] == 4000 && list[1] == 7);
+
+    /* A number that no call leaves counts as 0, and is kept beside a refusal. */
+    number = number_of(65537, 0, 0);
+    REFUSES(thikbromu_revolution_portion(&number, last, 2, list, 0, &value), NO_ROOM, 1);
+    EXPECT(number == number_of(65537, 0, 0));
+    GIVES(thikbromu_revolution_portion(&number, values, 4, list, 2, &value), 1);
+    EXPECT(number == 2056 && list[0] == 1638425 && list[1] == 7);
+}
+
+static void test_standard_track(const uint8_t *cells)
+{
+    uint32_t sector[THIKBROMU_SECTOR_NUMBERS];
+    for (size_t index = 0; index < 9; index++) {
+        uint32_t place = 1152 + 9824 * (uint32_t)index;
+        const uint32_t expected[THIKBROMU_SECTOR_NUMBERS] = {
+            place, 0xFE, 0, 0, (uint32_t)index + 1, 2, 1, place + 704, 0xFB, 512, 1};
+        GIVES(thikbromu_sector(cells, TRACK_BYTES, TRACK_CELLS, 0, 0, index, sector, THIKBROMU_SECTOR_NUMBERS, &value), 9);
+        EXPECT(memcmp(sector, expected, sizeof expected) == 0);
+    }
+    const uint32_t zeros[THIKBROMU_SECTOR_NUMBERS] = {0};
+    REFUSES(thikbromu_sector(cells, TRACK_BYTES, TRACK_CELLS, 0, 0, 9, sector, THIKBROMU_SECTOR_NUMBERS, &value),
+            NO_SUCH_SECTOR, 9);
+    EXPECT(memcmp(sector, zeros, sizeof zeros) == 0);
+
+    uint8_t data[THIKBROMU_LONGEST_SECTOR] = {0};
+    uint8_t decoded[512];
+    uint32_t good = 77;
+    data[512] = 7;
+    GIVES(thikbromu_read_out(cells, TRACK_BYTES, TRACK_CELLS, 0, 0, 0, data, sizeof data, &good, &value), 512);
+    EXPECT(good == 1 && data[512] == 7);
+    GIVES(thikbromu_decode(cells + (1152 + 704 + 64) / 8, 1024, decoded, sizeof decoded, &value), 512);
+    EXPECT(memcmp(data, decoded, sizeof decoded) == 0);
+    good = 77;
+    REFUSES(thikbromu_read_out(cells, TRACK_BYTES, TRACK_CELLS, 0, 0, 0, data, 511, &good, &value), NO_ROOM_FOR_BYTES, 512);
+    EXPECT(good == 77);
+
+    /* With the syncs of the first data mark spoilt, its ID has no data; all other sectors keep theirs. */
+    memcpy(room, cells, TRACK_BYTES);
+    thikbromu_clear(room + (1152 + 704) / 8, 6, 6);
+    REFUSES(thikbromu_read_out(room, TRACK_BYTES, TRACK_CELLS, 0, 0, 0, data, sizeof data, &good, &value), NO_DATA_READ, 0);
+}
+
+static void test_findings(const uint8_t *cells)
+{
+    EXPECT(sizeof(struct thikbromu_finding) == 12);
+    EXPECT(offsetof(struct thikbromu_finding, level) == 1);
+    EXPECT(offsetof(struct thikbromu_finding, place) == 4);
+    EXPECT(offsetof(struct thikbromu_finding, detail) == 8);
+
+    static struct thikbromu_finding records[THIKBROMU_MOST_FINDINGS];
+    uint32_t numbers[2 * THIKBROMU_FINDING_NUMBERS];
+    GIVES(thikbromu_finding_records(cells, TRACK_BYTES, TRACK_CELLS, 0, 0, records, THIKBROMU_MOST_FINDINGS, &value), 0);
+
+    /* All bytes AA, at track 5. */
+    memset(room, 0xAA, TRACK_BYTES);
+    GIVES(thikbromu_finding_records(room, TRACK_BYTES, TRACK_CELLS, 5, 0, records, THIKBROMU_MOST_FINDINGS, &value), 2);
+    EXPECT(records[0].kind == THIKBROMU_KIND_NOS && records[0].level == 3);
+    EXPECT(records[1].kind == THIKBROMU_KIND_TNF && records[1].level == 2);
+
+    /* All zero cells, at track 80. */
+    memset(room, 0, TRACK_BYTES);
+    const uint32_t expected[8] = {THIKBROMU_KIND_NOS, 3, 0, 0, THIKBROMU_KIND_NFA, 1, 0, 100000};
+    GIVES(thikbromu_findings(room, TRACK_BYTES, TRACK_CELLS, 80, 0, numbers, 8, &value), 2);
+    EXPECT(memcmp(numbers, expected, sizeof expected) == 0);
+    REFUSES(thikbromu_findings(room, TRACK_BYTES, TRACK_CELLS, 80, 0, numbers, 7, &value), LIST_TOO_SHORT, 2);
+    REFUSES(thikbromu_finding_records(room, TRACK_BYTES, TRACK_CELLS, 80, 0, records, 1, &value), LIST_TOO_SHORT, 2);
+
+    REFUSES(thikbromu_findings(room, 0, 0, 84, 0, numbers, 0, &value), TRACK_OR_SIDE, 0);
+    REFUSES(thikbromu_findings(room, 0, 19999, 83, 1, numbers, 0, &value), CELL_COUNT, 19999);
+    REFUSES(thikbromu_findings(room, 0, 131073, 83, 1, numbers, 0, &value), CELL_COUNT, 131073);
+    REFUSES(thikbromu_findings(room, 2499, 20000, 83, 1, numbers, 0, &value), TOO_FEW_BYTES, 2500);
+}
+
+/* The records and the numbers of the same findings, by their names: the fields of the struct stand where the library writes them. In each
+ * of these findings the kind, the level, the place and the detail are four different numbers. */
+static void test_records(const uint8_t *cells)
+{
+    enum { FINDINGS = 3 };
+    struct thikbromu_finding records[FINDINGS];
+    uint32_t numbers[FINDINGS][THIKBROMU_FINDING_NUMBERS];
+    /* Zeros in the data of the second sector: its check is bad, two ones are far apart, and a stretch has no flux. */
+    memcpy(room, cells, TRACK_BYTES);
+    memset(room + 2000, 0, 200);
+    GIVES(thikbromu_finding_records(room, TRACK_BYTES, TRACK_CELLS, 0, 0, records, FINDINGS, &value), FINDINGS);
+    GIVES(thikbromu_findings(room, TRACK_BYTES, TRACK_CELLS, 0, 0, numbers[0], FINDINGS * THIKBROMU_FINDING_NUMBERS, &value),
+          FINDINGS);
+    for (size_t i = 0; i < FINDINGS; i++) {
+        EXPECT(records[i].kind == numbers[i][0]);
+        EXPECT(records[i].level == numbers[i][1]);
+        EXPECT(records[i].place == numbers[i][2]);
+        EXPECT(records[i].detail == numbers[i][3]);
+        for (size_t j = 0; j < THIKBROMU_FINDING_NUMBERS; j++) {
+            for (size_t k = 0; k < j; k++) {
+                EXPECT(numbers[i][j] != numbers[i][k]);
+            }
+        }
+    }
+    EXPECT(records[0].kind == THIKBROMU_KIND_SBD && records[0].level == 1 && records[0].place == 10976 && records[0].detail == 2);
+    EXPECT(records[1].kind == THIKBROMU_KIND_MTV && records[1].level == 3);
+    EXPECT(records[2].kind == THIKBROMU_KIND_NFA && records[2].level == 1 && records[2].detail >= 1600);
+}
+
+/* An ID mark every 40 bytes of cells, 65 in all. */
+static void test_too_many_sectors(void)
+{
+    const uint8_t mark[8] = {0x44, 0x89, 0x44, 0x89, 0x44, 0x89, 0x55, 0x54};
+    memset(room, 0xAA, sizeof room);
+    for (size_t sector = 0; sector < 65; sector++) {
+        memcpy(room + 40 * sector, mark, sizeof mark);
+    }
+    uint32_t numbers[4];
+    REFUSES(thikbromu_findings(room, 65 * 40, 65 * 320, 0, 0, numbers, 4, &value), TOO_MANY_SECTORS, 65);
+}
+
+/* What a refused file leaves as it was: the cells and the place. */
+#define KEPT() (room[0] == 7 && room[TRACK_BYTES - 1] == 7 && room[sizeof room - 1] == 7 && place[0] == 77 && place[1] == 77)
+
+/* A file in its whole length, to all the room that there is. */
+#define CELLS_OF(file, length) thikbromu_file_cells(file, length, room, sizeof room, place, THIKBROMU_PLACE_NUMBERS, &value)
+
+static void test_file_cells(const uint8_t *file, size_t length)
+{
+    uint32_t place[THIKBROMU_PLACE_NUMBERS] = {77, 77};
+    memset(room, 7, sizeof room);
+
+    /* Refusals that a count gives, whatever follows it. */
+    const uint8_t other_place_count[5] = {3, 0, 0, 0, 7};
+    const uint8_t many_cells[11] = {2, 0, 0, 0, 0, 0, 1, 0, 2, 0, 7};
+    const uint8_t many_timings[15] = {2, 0, 0, 0, 0, 0, 0, 0, 0, 0, 1, 0, 1, 0, 7};
+    REFUSES(CELLS_OF(other_place_count, 5), NOT_A_TRACK_FILE, 0);
+    REFUSES(CELLS_OF(many_cells, 11), CELL_COUNT, 131073);
+    REFUSES(CELLS_OF(many_timings, 15), TOO_MANY_TIMINGS, 65537);
+    /* Those of a whole file: cut short, neither cells nor timings, a timing of 0 behind one of 256, 30 timings of 5,000 cells. */
+    const uint8_t neither[14] = {2, 0, 0, 0, 0, 0, 0, 0, 0, 0, 0, 0, 0, 0};
+    const uint8_t timing_of_0[22] = {2, 0, 0, 0, 0, 0, 0, 0, 0, 0, 2, 0, 0, 0, 0, 1, 0, 0, 0, 0, 0, 0};
+    uint8_t long_timings[14 + 30 * 4] = {2, 0, 0, 0, 0, 0, 0, 0, 0, 0, 30, 0, 0, 0};
+    for (size_t i = 14; i < sizeof long_timings; i += 4) {
+        long_timings[i] = 0x80; /* 10,000,000 is 989680 in hexadecimal */
+        long_timings[i + 1] = 0x96;
+        long_timings[i + 2] = 0x98;
+    }
+    REFUSES(CELLS_OF(nothing, 0), NOT_A_TRACK_FILE, 0);
+    REFUSES(CELLS_OF(file, length - 1), NOT_A_TRACK_FILE, 0);
+    REFUSES(CELLS_OF(neither, 14), NOT_A_TRACK_FILE, 0);
+    REFUSES(CELLS_OF(timing_of_0, 22), TIMING_OUT_OF_RANGE, 1);
+    REFUSES(CELLS_OF(long_timings, sizeof long_timings), TOO_MANY_CELLS, 150000);
+    /* Too little room is judged last. */
+    REFUSES(thikbromu_file_cells(file, length, room, TRACK_BYTES - 1, place, THIKBROMU_PLACE_NUMBERS, &value), NO_ROOM, 12500);
+    REFUSES(thikbromu_file_cells(file, length - 1, room, 0, place, THIKBROMU_PLACE_NUMBERS, &value), NOT_A_TRACK_FILE, 0);
+    EXPECT(KEPT());
+
+    GIVES(CELLS_OF(file, length), TRACK_CELLS);
+    EXPECT(place[0] == 0 && place[1] == 0);
+    EXPECT(memcmp(room, file + BEFORE_CELLS, TRACK_BYTES) == 0);
+    EXPECT(room[TRACK_BYTES] == 7 && room[sizeof room - 1] == 7);
+
+    /* Two timings, at track 83 and side 1; room for their 5 cells, and for the track alone. */
+    const uint8_t two_timings[22] = {2, 0, 0, 0, 83, 1, 0, 0, 0, 0, 2, 0, 0, 0, 0x88, 0x13, 0, 0, 0x88, 0x13, 0, 0};
+    uint32_t places[3] = {77, 77, 77};
+    GIVES(thikbromu_file_cells(two_timings, 22, room, 1, places, 1, &value), 5);
+    EXPECT(room[0] == 0x28 && places[0] == 83 && places[1] == 77);
+    GIVES(thikbromu_file_cells(two_timings, 22, room, 1, places, 3, &value), 5);
+    EXPECT(places[0] == 83 && places[1] == 1 && places[2] == 77);
+}
+
+static void test_listings(const uint8_t *file, size_t length)
+{
+    static const char listing[] = "T00 H0 cells 100000 sectors 9 findings 0\n";
+    static const char refused[] = "refused 15\n";
+    uint8_t out[64];
+
+    EXPECT(thikbromu_listing(file + BEFORE_CELLS, TRACK_BYTES, TRACK_CELLS, 0, 0, out, sizeof out) == sizeof listing - 1);
+    EXPECT(memcmp(out, listing, sizeof listing - 1) == 0);
+    memset(out, 7, sizeof out);
+    EXPECT(thikbromu_file_listing(file, length, out, sizeof out) == sizeof listing - 1);
+    EXPECT(memcmp(out, listing, sizeof listing - 1) == 0 && out[sizeof listing - 1] == 7);
+    /* As much as there is room for. */
+    memset(out, 7, sizeof out);
+    EXPECT(thikbromu_file_listing(file, length, out, 3) == sizeof listing - 1);
+    EXPECT(memcmp(out, "T00", 3) == 0 && out[3] == 7);
+    EXPECT(thikbromu_file_listing(file, length - 1, out, sizeof out) == sizeof refused - 1);
+    EXPECT(memcmp(out, refused, sizeof refused - 1) == 0);
+}
+
+int main(int count, char **arguments)
+{
+    static uint8_t file[BEFORE_CELLS + TRACK_BYTES + 4];
+    FILE *input = count == 2 ? fopen(arguments[1], "rb") : NULL;
+    if (input == NULL || fread(file, 1, sizeof file, input) != sizeof file) {
+        fprintf(stderr, "usage: known_numbers samples/standard.track\n");
+        return 2;
+    }
+    fclose(input);
+
+    test_cells();
+    test_coding();
+    test_separator();
+    test_histogram();
+    test_track_blocks();
+    test_portions();
+    test_standard_track(file + BEFORE_CELLS);
+    test_findings(file + BEFORE_CELLS);
+    test_records(file + BEFORE_CELLS);
+    test_too_many_sectors();
+    test_file_cells(file, sizeof file);
+    test_listings(file, sizeof file);
+    printf("%d passed, %d failed\n", passed, failed);
+    return failed == 0 ? 0 : 1;
+}

@@ -1,0 +1,85 @@
+//! Rules 11.1 to 11.11: whole listings, among them those of rule 11.10.
+
+use second_program::listing::listing;
+use test_inputs::file_inputs::{file_of_cells, file_of_timings, FilePlan};
+use test_inputs::track_builder::standard_track;
+
+fn assert_prints(file: &[u8], expected: &str) {
+    assert_eq!(String::from_utf8(listing(file)).unwrap(), expected);
+}
+
+#[test]
+fn all_bytes_aa() {
+    assert_prints(
+        &FilePlan::of_cells(5, 0, 100_000, &[0xAA; 12_500]).bytes(),
+        "T05 H0 cells 100000 sectors 0 findings 2\n\
+         3 NOS level 3 place 0 detail 0\n\
+         4 TNF level 2 place 0 detail 0\n",
+    );
+    // The same further in: T 80 has no TNF.
+    assert_prints(
+        &FilePlan::of_cells(80, 0, 100_000, &[0xAA; 12_500]).bytes(),
+        "T80 H0 cells 100000 sectors 0 findings 1\n\
+         3 NOS level 3 place 0 detail 0\n",
+    );
+}
+
+#[test]
+fn the_standard_track() {
+    assert_prints(
+        &file_of_cells(0, 0, &standard_track(0, 0, 0xE5)),
+        "T00 H0 cells 100000 sectors 9 findings 0\n",
+    );
+}
+
+#[test]
+fn all_zero_cells() {
+    assert_prints(
+        &FilePlan::of_cells(80, 0, 100_000, &[0x00; 12_500]).bytes(),
+        "T80 H0 cells 100000 sectors 0 findings 2\n\
+         3 NOS level 3 place 0 detail 0\n\
+         21 NFA level 1 place 0 detail 100000\n",
+    );
+}
+
+#[test]
+fn timings() {
+    // Ones at 4,999, 9,999, 14,999 and 19,999; four equal runs of 4,999 zeros.
+    assert_prints(
+        &file_of_timings(5, 1, &[10_000_000; 4]),
+        "T05 H1 cells 20000 sectors 0 findings 5\n\
+         2 SHT level 1 place 0 detail 20000\n\
+         3 NOS level 3 place 0 detail 0\n\
+         4 TNF level 2 place 0 detail 0\n\
+         20 MTV level 3 place 4999 detail 4\n\
+         21 NFA level 1 place 0 detail 4999\n",
+    );
+}
+
+#[test]
+fn places_and_details_of_a_sector_kind() {
+    // The standard track of T 0 at T 80: EXT, and ITN for each of its sectors.
+    let mut expected = String::from("T80 H1 cells 100000 sectors 9 findings 10\n");
+    expected += "5 EXT level 2 place 0 detail 9\n";
+    for place in [
+        1_152, 10_976, 20_800, 30_624, 40_448, 50_272, 60_096, 69_920, 79_744,
+    ] {
+        expected += &format!("8 ITN level 2 place {place} detail 0\n");
+    }
+    assert_prints(
+        &file_of_cells(80, 1, &standard_track(0, 0, 0xE5)),
+        &expected,
+    );
+}
+
+#[test]
+fn refused_files_print_one_line() {
+    assert_prints(b"", "refused 15\n");
+    assert_prints(&[3, 0, 0, 0], "refused 15\n");
+    assert_prints(&[2, 0, 0, 0, 0, 0, 1, 0, 2, 0], "refused 2\n");
+    assert_prints(&[2, 0, 0, 0, 0, 0, 0, 0, 0, 0, 1, 0, 1, 0], "refused 7\n");
+    assert_prints(&file_of_timings(0, 0, &[0]), "refused 8\n");
+    assert_prints(&file_of_timings(0, 0, &[10_000_000; 27]), "refused 9\n");
+    assert_prints(&file_of_timings(84, 0, &[10_000_000; 4]), "refused 1\n");
+    assert_prints(&file_of_cells(0, 0, &[1; 19_999]), "refused 2\n");
+}

@@ -1,0 +1,308 @@
+//! Rules 10.1 to 10.10: files at and past each limit, and the order of the refusals.
+
+use second_program::cells;
+use second_program::refusal::Refusal;
+use second_program::track_file::{at_once, read, read_cells, TrackCells, ROOM_FOR_FINDINGS};
+use test_inputs::file_inputs::{cut, file_of_cells, file_of_timings, mixed_file, FilePlan};
+use test_inputs::track_builder::TrackBuilder;
+
+/// 10,000,000, low byte first: 5,000 cells.
+const LONGEST: [u8; 4] = [0x80, 0x96, 0x98, 0x00];
+
+fn assert_refused(file: &[u8], number: u32, value: u64) {
+    assert_eq!(read(file), Err(Refusal { number, value }));
+}
+
+/// A file whose bytes these are, one part after the other.
+fn joined(parts: &[&[u8]]) -> Vec<u8> {
+    parts.concat()
+}
+
+/// A track of n cells with so many IDs.
+fn ids_on(count: usize, n: usize) -> Vec<u8> {
+    let mut builder = TrackBuilder::new();
+    for number in 0..count {
+        builder.write_id(0xFE, [0, 0, number as u8, 2], 0);
+    }
+    let mut track_cells = builder.cells().to_vec();
+    while track_cells.len() < n {
+        track_cells.push((track_cells.len() % 2) as u8);
+    }
+    track_cells
+}
+
+#[test]
+fn a_file_of_cells() {
+    // 20,000 is 4E20.
+    let file = joined(&[
+        &[2, 0, 0, 0, 5, 1, 0x20, 0x4E, 0, 0],
+        &[0xAA; 2_500],
+        &[0, 0, 0, 0],
+    ]);
+    let expected = TrackCells {
+        drive_track: 5,
+        drive_side: 1,
+        n: 20_000,
+        bytes: vec![0xAA; 2_500],
+    };
+    assert_eq!(read_cells(&file), Ok(expected.clone()));
+    let track = read(&file).unwrap();
+    assert_eq!(track.cells, expected);
+    assert_eq!(track.sectors, []);
+    // SHT, NOS and TNF.
+    let kinds: Vec<u32> = track.findings.iter().map(|finding| finding.kind).collect();
+    assert_eq!(kinds, [2, 3, 4]);
+}
+
+#[test]
+fn a_file_of_timings() {
+    let file = joined(&[
+        &[2, 0, 0, 0, 80, 0, 0, 0, 0, 0, 4, 0, 0, 0],
+        &LONGEST.repeat(4),
+    ]);
+    let track = read(&file).unwrap();
+    assert_eq!((track.cells.drive_track, track.cells.drive_side), (80, 0));
+    assert_eq!((track.cells.n, track.cells.bytes.len()), (20_000, 2_500));
+    for place in 0..20_000 {
+        let one = u8::from(place % 5_000 == 4_999);
+        assert_eq!(cells::cell(&track.cells.bytes, 20_000, place), one);
+    }
+}
+
+#[test]
+fn a_place_count_that_is_not_2_is_refused_at_once() {
+    for count in [0, 1, 3, 0x102, 0x0200_0000, u32::MAX] {
+        let mut plan = FilePlan::of_timings(0, 0, &[10_000_000; 4]);
+        plan.place_count = count;
+        // 15 goes before 2 and before 7, and nothing need follow.
+        plan.cell_count = 131_073;
+        plan.flux_count = 65_537;
+        let file = plan.bytes();
+        for length in 0..file.len() {
+            assert_refused(&cut(&file, length), 15, 0);
+            assert_eq!(at_once(&cut(&file, length)).is_some(), length >= 4);
+        }
+    }
+}
+
+#[test]
+fn a_cell_count_above_131072_is_refused_at_once() {
+    // 131,073 is 020001.
+    let start = [2, 0, 0, 0, 84, 2, 1, 0, 2, 0];
+    for length in 0..10 {
+        assert_eq!(at_once(&start[..length]), None);
+        assert_refused(&start[..length], 15, 0);
+    }
+    for rest in [
+        // A short file; 15 for two counts; 7; bytes left over.
+        vec![],
+        vec![0],
+        [&[0; 16_385][..], &[1, 0, 0, 0, 0xA0, 0x0F, 0, 0]].concat(),
+        [&[0; 16_385][..], &[1, 0, 1, 0]].concat(),
+        [&[0; 16_385][..], &[0; 5]].concat(),
+    ] {
+        assert_refused(&joined(&[&start, &rest]), 2, 131_073);
+    }
+    let highest = [2, 0, 0, 0, 0, 0, 0xFF, 0xFF, 0xFF, 0xFF];
+    assert_refused(&highest, 2, 4_294_967_295);
+    assert_eq!(
+        at_once(&highest),
+        Some(Refusal {
+            number: 2,
+            value: 4_294_967_295
+        })
+    );
+    // 131,072 cells are accepted.
+    let most = joined(&[
+        &[2, 0, 0, 0, 0, 0, 0, 0, 2, 0],
+        &[0xAA; 16_384],
+        &[0, 0, 0, 0],
+    ]);
+    assert_eq!(read(&most).unwrap().cells.n, 131_072);
+    assert_refused(&most[..10], 15, 0);
+}
+
+#[test]
+fn a_flux_count_above_65536_is_refused_at_once() {
+    // 65,537 is 010001; after no cells, and after 9 cells in two bytes.
+    for start in [
+        vec![2, 0, 0, 0, 84, 2, 0, 0, 0, 0, 1, 0, 1, 0],
+        vec![2, 0, 0, 0, 84, 2, 9, 0, 0, 0, 0xAA, 0x80, 1, 0, 1, 0],
+    ] {
+        for length in 0..start.len() {
+            assert_eq!(at_once(&start[..length]), None);
+            assert_refused(&start[..length], 15, 0);
+        }
+        for rest in [vec![], vec![0], vec![0; 4 * 65_537], vec![0; 4 * 65_538]] {
+            assert_refused(&joined(&[&start, &rest]), 7, 65_537);
+        }
+    }
+    let highest = [2, 0, 0, 0, 0, 0, 0, 0, 0, 0, 0xFF, 0xFF, 0xFF, 0xFF];
+    assert_refused(&highest, 7, 4_294_967_295);
+    // 65,536 timings of two cells are accepted.
+    let most = file_of_timings(0, 0, &vec![4_000; 65_536]);
+    assert_eq!(at_once(&most), None);
+    assert_eq!(read(&most).unwrap().cells.n, 131_072);
+}
+
+#[test]
+fn a_file_that_is_cut_anywhere_is_a_short_file() {
+    for file in [
+        file_of_timings(5, 0, &[10_000_000; 4]),
+        file_of_cells(5, 0, &[1, 0].repeat(10_000)),
+    ] {
+        assert!(read(&file).is_ok());
+        for length in 0..file.len() {
+            assert_refused(&file[..length], 15, 0);
+            assert_eq!(at_once(&file[..length]), None);
+        }
+    }
+}
+
+#[test]
+fn bytes_left_over_make_no_track_file() {
+    for file in [
+        file_of_timings(5, 0, &[10_000_000; 4]),
+        file_of_cells(5, 0, &[1, 0].repeat(10_000)),
+    ] {
+        for left_over in [&[0][..], &[0xFF], &[0; 4], &file] {
+            assert_refused(&joined(&[&file, left_over]), 15, 0);
+        }
+    }
+}
+
+#[test]
+fn both_or_neither_of_the_counts_zero_make_no_track_file() {
+    assert_refused(&[2, 0, 0, 0, 5, 0, 0, 0, 0, 0, 0, 0, 0, 0], 15, 0);
+    let mut plan = FilePlan::of_cells(5, 0, 20_000, &[0xAA; 2_500]);
+    plan.flux_count = 1;
+    plan.timings = vec![4_000];
+    assert_refused(&plan.bytes(), 15, 0);
+    plan.flux_count = 65_536;
+    plan.timings = vec![4_000; 65_536];
+    assert_refused(&plan.bytes(), 15, 0);
+    // One more gives 7, which goes before 15.
+    plan.flux_count = 65_537;
+    assert_refused(&plan.bytes(), 7, 65_537);
+}
+
+#[test]
+fn fifteen_goes_before_every_refusal_that_is_not_given_at_once() {
+    let longest = [10_000_000; 27];
+    for (file, number, value) in [
+        // 8, 9, 1, 2 and 4.
+        (file_of_timings(5, 0, &[4_000, 0]), 8, 1),
+        (file_of_timings(5, 0, &longest), 9, 135_000),
+        (file_of_timings(84, 0, &longest[..4]), 1, 0),
+        (file_of_cells(5, 2, &[0; 20_000]), 1, 0),
+        (file_of_cells(5, 0, &[0; 19_999]), 2, 19_999),
+        (file_of_cells(5, 0, &ids_on(65, 20_000)), 4, 65),
+    ] {
+        assert_refused(&file, number, value);
+        assert_refused(&file[..file.len() - 1], 15, 0);
+        assert_refused(&joined(&[&file, &[0]]), 15, 0);
+    }
+    // Two counts go before 8, 1 and 2.
+    let mut plan = FilePlan::of_cells(84, 0, 8, &[0xAA]);
+    plan.flux_count = 1;
+    plan.timings = vec![0];
+    assert_refused(&plan.bytes(), 15, 0);
+}
+
+#[test]
+fn timings_out_of_range_go_before_all_but_15() {
+    assert_refused(&file_of_timings(84, 0, &[0]), 8, 0);
+    assert_refused(&file_of_timings(84, 2, &[4_000, 10_000_001, 0]), 8, 1);
+    assert_refused(&file_of_timings(0, 0, &[4_000, 1, u32::MAX]), 8, 2);
+    // Also after the cells have passed 131,072.
+    let mut timings = vec![10_000_000; 27];
+    timings.push(0);
+    assert_refused(&file_of_timings(0, 0, &timings), 8, 27);
+    // 1 and 10,000,000 are in range: 25,000 cells, and none for the 1.
+    let mut timings = vec![10_000_000; 5];
+    timings.push(1);
+    assert_eq!(
+        read(&file_of_timings(0, 0, &timings)).unwrap().cells.n,
+        25_000
+    );
+}
+
+#[test]
+fn too_many_cells_in_all_go_before_1() {
+    let mut timings = vec![10_000_000; 26];
+    timings.push(2_000 * 1_072);
+    assert_eq!(
+        read(&file_of_timings(0, 0, &timings)).unwrap().cells.n,
+        131_072
+    );
+    timings.push(2_000);
+    assert_refused(&file_of_timings(0, 0, &timings), 9, 131_073);
+    assert_refused(&file_of_timings(84, 2, &timings), 9, 131_073);
+}
+
+#[test]
+fn no_cells_from_timings_are_refused_with_1_or_2() {
+    assert_refused(&file_of_timings(83, 1, &[500]), 2, 0);
+    assert_refused(&file_of_timings(84, 1, &[500]), 1, 0);
+    assert_refused(&file_of_timings(0, 0, &vec![1; 65_536]), 2, 0);
+}
+
+#[test]
+fn the_refusals_of_findings_in_order() {
+    let fewest = [1, 0].repeat(10_000);
+    assert!(read(&file_of_cells(83, 1, &fewest)).is_ok());
+    assert_refused(&file_of_cells(84, 1, &fewest), 1, 0);
+    assert_refused(&file_of_cells(83, 2, &fewest), 1, 0);
+    assert_refused(&file_of_cells(255, 255, &fewest), 1, 0);
+    // 1 goes before 2, and 1 and 2 before 4.
+    assert_refused(&file_of_cells(83, 1, &fewest[1..]), 2, 19_999);
+    assert_refused(&file_of_cells(84, 1, &fewest[1..]), 1, 0);
+    assert_refused(&file_of_cells(0, 0, &[1]), 2, 1);
+    assert_eq!(
+        read(&file_of_cells(0, 0, &ids_on(64, 20_000)))
+            .unwrap()
+            .sectors
+            .len(),
+        64
+    );
+    assert_refused(&file_of_cells(0, 0, &ids_on(65, 20_000)), 4, 65);
+    assert_refused(&file_of_cells(84, 0, &ids_on(65, 20_000)), 1, 0);
+    assert_refused(&file_of_cells(0, 0, &ids_on(65, 19_999)), 2, 19_999);
+}
+
+#[test]
+fn what_is_refused_at_once_does_not_change_with_what_follows() {
+    for seed in 0..500 {
+        let file = mixed_file(seed).bytes;
+        let mut stopped = None;
+        for length in 0..=file.len().min(60) {
+            let prefix = cut(&file, length);
+            if stopped.is_some() {
+                assert_eq!(at_once(&prefix), stopped);
+            }
+            stopped = at_once(&prefix);
+            if let Some(refusal) = stopped {
+                assert_eq!(read(&prefix), Err(refusal));
+                assert_eq!(read(&file), Err(refusal));
+            }
+        }
+    }
+}
+
+#[test]
+fn bits_past_the_cells_are_not_looked_at() {
+    // 20,001 cells: seven bits of the last byte are unused.
+    let mut packed = vec![0xAA; 2_500];
+    packed.push(0x00);
+    let plain = read(&FilePlan::of_cells(5, 0, 20_001, &packed).bytes()).unwrap();
+    packed[2_500] = 0x7F;
+    let ones_past = read(&FilePlan::of_cells(5, 0, 20_001, &packed).bytes()).unwrap();
+    assert_eq!(plain.findings, ones_past.findings);
+    assert_eq!(plain.sectors, ones_past.sectors);
+}
+
+#[test]
+fn there_is_room_for_every_finding_of_64_sectors() {
+    // Kinds 1 to 5, 20 and 21 once, kinds 6 to 19 for each sector.
+    assert_eq!(ROOM_FOR_FINDINGS, 7 + 14 * 64);
+}

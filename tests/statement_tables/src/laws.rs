@@ -1,0 +1,119 @@
+//! Theorems that have a rule, and the rules that no function promises and no test runs, each with its reason.
+use crate::numbers::{number, Number};
+
+/// A rule, the file of the theorems, and their names. A theorem follows from the definitions: it adds nothing to what has to be believed.
+pub type Law = (&'static str, &'static str, &'static [&'static str]);
+
+pub const LAWS: &[Law] = &[
+    ("1.3", "cells/proofs/Packing", &["cell-packed"]),
+    (
+        "1.16",
+        "mfm/proofs/RoundTrip",
+        &["decoded-encoded", "calls-round-trip"],
+    ),
+    ("1.17", "worked_examples/proofs/Table", &["table-holds"]),
+    ("2.4", "worked_examples/proofs/Table", &["table-holds"]),
+    ("3.13", "worked_examples/proofs/Table", &["table-holds"]),
+    ("4.12", "separation/proofs/Witness", &["met"]),
+    ("5.3", "histogram/proofs/Counts", &["counts-sum"]),
+    (
+        "6.5",
+        "sector_records/proofs/Places",
+        &["sectors-ordered", "sector-of-mark", "mark-of-sector"],
+    ),
+    (
+        "6.9",
+        "sector_records/proofs/Places",
+        &["data-least", "data-none"],
+    ),
+    ("6.11", "sector_records/proofs/Places", &["no-length"]),
+    ("6.14", "sector_records/proofs/Places", &["data-end-below"]),
+    ("7.4", "finding_list/proofs/Laws", &["tnf-only"]),
+    (
+        "7.31",
+        "finding_list/proofs/Laws",
+        &["stands-exactly", "empty-means-none", "kinds-in-range"],
+    ),
+    ("7.32", "finding_list/proofs/Laws", &["strictly-ordered"]),
+    ("10.8", "whole_file/proofs/Laws", &["as-separated"]),
+    ("11.7", "listing/proofs/Laws", &["never-five"]),
+    (
+        "11.9",
+        "listing/proofs/Laws",
+        &["whole-in-room", "front-in-room"],
+    ),
+    (
+        "11.10",
+        "listing/proofs/Examples",
+        &[
+            "lines-of-findings",
+            "listing-80",
+            "standard-header",
+            "zero-cells",
+        ],
+    ),
+    (
+        "12.19",
+        "revolution_portions/proofs/Laws",
+        &["left-exactly"],
+    ),
+    (
+        "12.21",
+        "block_cells/proofs/Examples",
+        &["met", "recovered"],
+    ),
+    (
+        "12.22",
+        "supercard_pro/proofs/Laws",
+        &["as-whole-call", "all-portions"],
+    ),
+    (
+        "12.24",
+        "reader_as_number/proofs/ByNumbers",
+        &["read-back", "number-back", "calls-by-numbers"],
+    ),
+    ("13.6", "file_listing/proofs/Laws", &["never-ten"]),
+];
+
+/// A rule that no function promises, or, where it is only run, that no test names; and why.
+pub const EXCEPTIONS: &[(&str, &str)] = &[
+    (
+        "1.17",
+        "an example: a theorem of the definitions, for no code",
+    ),
+    (
+        "2.4",
+        "an example: a theorem of the definitions, for no code",
+    ),
+    (
+        "3.13",
+        "an example: a theorem of the definitions, for no code",
+    ),
+    (
+        "11.11",
+        "run on the files without cells of tests/test_inputs, which do not name it",
+    ),
+    (
+        "13.3",
+        "run by `not_listed` of tests/comparison, which does not name it",
+    ),
+    (
+        "13.12",
+        "tells users what the system does with packets; nothing tries it",
+    ),
+];
+
+pub fn parsed(rule: &str) -> Number {
+    number(rule).expect("a rule's number")
+}
+
+pub fn laws(rule: Number) -> Vec<&'static Law> {
+    LAWS.iter().filter(|law| parsed(law.0) == rule).collect()
+}
+
+pub fn exception(rule: Number) -> Option<&'static str> {
+    EXCEPTIONS
+        .iter()
+        .find(|(excepted, _)| parsed(excepted) == rule)
+        .map(|(_, why)| *why)
+}

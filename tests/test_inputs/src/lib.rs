@@ -1,0 +1,14 @@
+//! Inputs for the tests: tracks, flux timings, track files and track blocks, sound and
+//! broken, made by hand or at random from a seed.
+//!
+//! Nothing here says what a program should answer. Cells and check words are made by the
+//! second program, whose own tests, the comparison, the samples and the benchmarks use
+//! these inputs. The tests in this crate show that the inputs are what they are said to
+//! be, and that together they reach every finding and every refusal. The numbers of rules
+//! are those of docs/SPECIFICATION.md.
+
+pub mod block_inputs;
+pub mod file_inputs;
+pub mod flux_inputs;
+pub mod random;
+pub mod track_builder;
