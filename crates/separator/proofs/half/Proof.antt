@@ -1,5 +1,5 @@
 -- `separator::half` meets its contract: a shift rounds down, and below zero one is added first. Assumes nothing.
-use Prim.Native.Nat.{ℕ, zero, suc, _-_, _/_}
+use Prim.Native.Nat.{ℕ, zero, suc, _-_, _/_, _≤_}
 use mathlib.Core.Path.{_≡_, refl, _∙_, ap}
 use mathlib.Core.Bool.{true, false}
 use native.Mathlib.Omega.{arith}
@@ -31,26 +31,28 @@ from-zero-up : (z : ℤ) → ltZ z (pos 0) ≡ false → shrZ z 2 ≡ quotZ z (p
 from-zero-up (pos a) e = refl
 from-zero-up (negsuc a) e = let z : _≡_ {A = ℕ} 0 1 = cc in absurd (omega arith)
 
-one-more-fits : (z : ℤ) → ltZ z (pos 0) ≡ true → SFits w32 z → SFits w32 (z +ℤ pos 1)
-one-more-fits (pos a) e f = absurd (omega (arith, ltb-true a 0 e))
-one-more-fits (negsuc zero) e f = record { sfits = omega arith }
-one-more-fits (negsuc (suc b)) e f = rw (next b) (record { sfits = omega (arith, f .sfits) })
+-- a number below 0 with 0 or 1 added to it fits
+more-fits : (z : ℤ) (k : ℕ) → k ≤ 1 → ltZ z (pos 0) ≡ true → SFits w32 z → SFits w32 (z +ℤ pos k)
+more-fits (pos a) k h e f = absurd (omega (arith, ltb-true a 0 e))
+more-fits (negsuc a) zero h e f =
+    let is : suc a - 1 ≡ a = omega arith in
+    rw (lt-ltb 0 (suc a) (omega arith), is) f
+more-fits (negsuc zero) (suc zero) h e f = record { sfits = omega arith }
+more-fits (negsuc (suc b)) (suc zero) h e f = rw (next b) (record { sfits = omega (arith, f .sfits) })
+more-fits (negsuc a) (suc (suc k)) h e f = absurd (omega arith)
 
 same : (c : tie.Start) → readBack (c .args .offset) ≡ c .args .offset
 same c = toZ-ofZ (c .fits .offset)
 
-more-fits : (c : tie.Then1) → SFits w32 (c .before .args .offset +ℤ pos 1)
-more-fits c = one-more-fits _ (rw (same (c .before)) at (c .if1 .taken)) (c .before .fits .offset)
-
 add-result : tie.Need-add-result
-add-result c = rw (same (c .before)) (more-fits c)
+add-result c = let s = same (c .before) in rw s (more-fits _ _ (omega arith) (rw s at (c .if1 .taken)) (c .before .fits .offset))
 
 returns : tie.Need-returns
 unfolding halved
 returns c =
     let s = same (c .before) in
     ap (λ (x : ℤ). readBack (shrZ (readBack (x +ℤ pos 1)) 2)) s
-    ∙ ap (λ (x : ℤ). readBack (shrZ x 2)) (toZ-ofZ (more-fits c))
+    ∙ ap (λ (x : ℤ). readBack (shrZ x 2)) (toZ-ofZ (more-fits (c .before .args .offset) 1 (omega arith) (rw s at (c .if1 .taken)) (c .before .fits .offset)))
     ∙ ap readBack (below (c .before .args .offset) (rw s at (c .if1 .taken)))
     ∙ toZ-ofZ (half-fits _ (c .before .fits .offset))
 
