@@ -16,7 +16,7 @@ pub const MOST_TIMINGS: usize = 65_536;
 /// The counts of a histogram.
 pub const HISTOGRAM_COUNTS: usize = 256;
 
-/// The separator's state (rules 3.2 and 3.6). A step takes a state and a timing and hands the next state back.
+/// The separator's state (rules 3.2 and 3.6). A step makes the next state of a state and a timing.
 #[derive(Clone, Copy, Debug, Default, PartialEq, Eq)]
 pub struct Separator {
     residual: i32,

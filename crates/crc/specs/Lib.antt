@@ -1,1 +1,2 @@
 pub mod CheckWord
+pub mod PrivateContracts

@@ -2,6 +2,7 @@
 ghost use mathlib.Core.Path.{_≡_};
 ghost use Prim.Native.Nat.{_<_, _*_};
 ghost use Rattle.crc.specs.CheckWord.{afterBits, afterByte, checkWordFrom, checkWord};
+ghost use Rattle.crc.specs.PrivateContracts.{stepTable};
 
 // What a check word starts from.
 pub const START: u16 = 0xFFFF;
@@ -13,33 +14,56 @@ pub fn check_word(bytes: &[u8]) -> u16
     check_word_from(START, bytes)
 }
 
-// The check word after bytes, from a word that earlier bytes left.
+// The check word after bytes, from a word that earlier bytes left. The table is made once for the call: indexed where it is a constant, it
+// would be copied for each byte.
 pub fn check_word_from(word: u16, bytes: &[u8]) -> u16
     ensures { λ r. ⌜ r ≡ checkWordFrom word (now (bytes .entry)) ⌝ }
 {
-    let mut so_far = word;
-    let mut i: usize = 0;
-    while i < bytes.len() {
-        so_far = step(so_far, bytes[i]);
-        i += 1;
-    }
-    so_far
+    let table = step_table();
+    after_bytes(&table, word, bytes)
 }
 
 // The check word after one byte more.
 pub fn step(word: u16, byte: u8) -> u16
     ensures { λ r. ⌜ r ≡ afterByte word byte ⌝ }
 {
+    let table = step_table();
+    after_byte(&table, word, byte)
+}
+
+fn step_table() -> [u16; 256]
+    ensures { λ r. ⌜ r ≡ stepTable ⌝ }
+{
+    STEPS
+}
+
+fn after_bytes(table: &[u16; 256], word: u16, bytes: &[u8]) -> u16
+    requires { ⌜ now table ≡ stepTable ⌝ }
+    ensures { λ r. ⌜ r ≡ checkWordFrom word (now (bytes .entry)) ⌝ }
+{
+    let mut so_far = word;
+    let mut i: usize = 0;
+    while i < bytes.len() {
+        so_far = after_byte(table, so_far, bytes[i]);
+        i += 1;
+    }
+    so_far
+}
+
+fn after_byte(table: &[u16; 256], word: u16, byte: u8) -> u16
+    requires { ⌜ now table ≡ stepTable ⌝ }
+    ensures { λ r. ⌜ r ≡ afterByte word byte ⌝ }
+{
     let high = (word / 256) ^ wide(byte);
-    entry(high) ^ ((word % 256) * 256)
+    entry(table, high) ^ ((word % 256) * 256)
 }
 
 // The table's entry of a high byte.
-fn entry(high: u16) -> u16
-    requires { ⌜ high < 256 ⌝ }
+fn entry(table: &[u16; 256], high: u16) -> u16
+    requires { ⌜ (now table ≡ stepTable) × (high < 256) ⌝ }
     ensures { λ r. ⌜ r ≡ afterBits 8 (high * 256) 0 ⌝ }
 {
-    STEPS[high as usize]
+    table[high as usize]
 }
 
 fn wide(byte: u8) -> u16

@@ -1,0 +1,106 @@
+//! Section 4 of the specification: the separator on flux transitions within the tolerance.
+
+use second_program::cells;
+use second_program::refusal::Refusal;
+use second_program::separator;
+use test_inputs::flux_inputs::{flux_track, flux_track_of, Choice, FluxTrack};
+use test_inputs::random::Random;
+
+/// Rules 4.8 to 4.11 of one list that is not refused. Gives the greatest distance of
+/// a window centre from the true place.
+fn assert_within_tolerance(track: &FluxTrack) -> i64 {
+    let needed = cells::bytes_needed(track.cells.len());
+    let packed = cells::pack(&track.cells);
+    assert_eq!(
+        separator::separate(&track.timings, needed),
+        Ok((track.cells.len(), packed))
+    );
+    if needed > 0 {
+        assert_eq!(
+            separator::separate(&track.timings, needed - 1),
+            Err(Refusal {
+                number: 10,
+                value: needed as u64
+            })
+        );
+    }
+    let rows = separator::rows(&track.timings).unwrap();
+    let mut greatest = 0;
+    for (index, row) in rows.iter().enumerate() {
+        let window_centre = track.pulses[index + 1] - row.offset;
+        let distance = (window_centre - track.true_places[index + 1]).abs();
+        assert!(distance <= 651, "distance {distance}");
+        greatest = greatest.max(distance);
+    }
+    greatest
+}
+
+#[test]
+fn the_separator_recovers_the_cells_written() {
+    let mut random = Random::new(33);
+    for choice in [Choice::Any, Choice::Bounds, Choice::LongDrift] {
+        for timings in [1, 2, 3, 10, 1_000, 30_000] {
+            assert_within_tolerance(&flux_track(&mut random, timings, choice));
+        }
+        for _ in 0..100 {
+            assert_within_tolerance(&flux_track(&mut random, 20, choice));
+        }
+    }
+}
+
+#[test]
+fn slow_and_fast_drives_with_shifts_to_and_fro() {
+    let mut greatest = 0;
+    for for_a_cell in [1_950, 2_050] {
+        for gap in [2, 3, 4] {
+            for first in [-250, 250] {
+                let gaps = vec![gap; 200];
+                let distances = vec![for_a_cell * gap as i64; 200];
+                let held = vec![first; 201];
+                let distance = assert_within_tolerance(&flux_track_of(&gaps, &distances, &held));
+                greatest = greatest.max(distance);
+                let mut swapped = held.clone();
+                for shift in swapped.iter_mut().skip(100) {
+                    *shift = -*shift;
+                }
+                assert_within_tolerance(&flux_track_of(&gaps, &distances, &swapped));
+                for shift in swapped.iter_mut().step_by(2) {
+                    *shift = -*shift;
+                }
+                assert_within_tolerance(&flux_track_of(&gaps, &distances, &swapped));
+            }
+        }
+    }
+    // The bound of 651 is nearly reached.
+    assert!(greatest >= 640, "greatest distance {greatest}");
+}
+
+#[test]
+fn refusals_6_7_and_9() {
+    let mut random = Random::new(4);
+    let none = flux_track(&mut random, 0, Choice::Any);
+    assert_eq!(separator::separate(&none.timings, 0).unwrap_err().number, 6);
+    let many = flux_track(&mut random, 65_537, Choice::Any);
+    assert_eq!(
+        separator::separate(&many.timings, 0),
+        Err(Refusal {
+            number: 7,
+            value: 65_537
+        })
+    );
+    let long = flux_track(&mut random, 60_000, Choice::Any);
+    assert!(long.cells.len() > 131_072);
+    assert_eq!(
+        separator::separate(&long.timings, 0),
+        Err(Refusal {
+            number: 9,
+            value: long.cells.len() as u64
+        })
+    );
+    let gaps = vec![2; 65_536];
+    let distances = vec![4_000; 65_536];
+    let shifts = vec![0; 65_537];
+    let longest = flux_track_of(&gaps, &distances, &shifts);
+    assert_eq!(longest.cells.len(), 131_072);
+    assert_within_tolerance(&longest);
+}
