@@ -102,9 +102,14 @@ fn offset_in(part: i32) -> i32
     }
 }
 
-// Half of an offset, rounded towards zero.
+// Half of an offset, rounded towards zero. A shift rounds down, which below zero is away from it, so there one is added first: the timing 5001
+// has the offset -999 and leaves -499, not -500.
 fn half(offset: i32) -> i32
     ensures { λ r. ⌜ r ≡ halved offset ⌝ }
 {
-    offset / 2
+    if offset < 0 {
+        (offset + 1) >> 1
+    } else {
+        offset >> 1
+    }
 }
