@@ -1,5 +1,5 @@
--- `thikbromu::thikbromu_finding_records` meets its contract: a walk of its MIR, by hand. The list's borrow is handed to `findings` for good, and the value's to `told_found`, each at its own lifetime, share and ghost name: what the callee says of the last value is said of the caller's.
--- All that the proof knows of `findings` and of `told_found` is that each meets its contract.
+-- `thikbromu::thikbromu_finding_records` meets its contract: a walk of its MIR, by hand. The list's borrow is handed to `findings` for good, and the value's to `told`, each at its own lifetime, share and ghost name: what the callee says of the last value is said of the caller's.
+-- All that the proof knows of `findings` and of `told` is that each meets its contract.
 -- Assumes nothing.
 use mathlib.Core.Path.{_≡_, refl, _∙_, ap}
 use Prim.Native.Nat.{ℕ, _<_, _^_}
@@ -119,7 +119,7 @@ module _ {M : Type 1} (𝓤 : URA M) (H : Heap 𝓤) (A : Atoms 𝓤) (W : Given
   abbrev Leaves : List Finding → Type 0
   Leaves zs = zs ≡ listAfter (y .now) n track side (x .now)
 
-  -- what `told_found` ensures of the number and of the last value
+  -- what `told` ensures of the number and of the last value
   abbrev Tells : Counted → ℕ → ℕ → Type 0
   Tells r number value = (number ≡ numberIn (countedAnswer r)) × (value ≡ valueIn (countedAnswer r))
 
@@ -184,7 +184,7 @@ module _ {M : Type 1} (𝓤 : URA M) (H : Heap 𝓤) (A : Atoms 𝓤) (W : Given
         -- [what the answer owns; the tokens; list's last; true; bytes; _10; …; _9; …; _8; …; _7; …; _6; …; …; value's token; value]
         land ! (from ! (stop !)) (init ! 11 refl (EL.lawful N.the-type N′.the-laws 𝓤 H A W tt .typed r _ is .0)) $
         assigns ! (addr ! (from ! (hop ! (look ! 13 refl) (stop !)))) (from ! (stop !)) (init ! 5 refl (tt, tt)) $
-        -- `told_found`
+        -- `told`
         move ! (27 ∷ 0 ∷ 28 ∷ []) $ use3 W (raw (Told 𝓤 H A at-mem run .pre (to-told r v))) (goes-told r v) $
         calls-at ! fm (Told 𝓤 H A at-mem run) known-told (to-told r v) (and-then ! (load ! (from ! (stop !)) (look ! 11 refl)) (and-then ! (load ! (from ! (stop !)) (look ! 5 refl)) (no-more !))) (λ w.
         use1 W (later (some (λ (number : ℕ). ((‵ (flft κ″ q″) ⊛ ‵ ftrue) ⊛ ‵ (u32 .own number (w ∷ []))) ⊛ raw (ensured 𝓤 H A told.ended (told.clauses 𝓤 H A at-mem run) (κ″, tt) (r, (z, tt)) tt number)))) (id⊢ 𝓤 _) $ await ! tt $ pick ! (λ number.
