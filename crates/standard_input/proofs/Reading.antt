@@ -108,12 +108,13 @@ module _ {front block₀ block : List ℕ} {count : ℕ} (at : AtByte front bloc
         }
 
     -- a read that brought nothing: the block is read
-    pub no-more : more-count ≡ 0 → ReadOn front after count ended
-    no-more z =
+    pub no-more : more-count ≡ 0 → count < length block → ReadOn front after count ended
+    no-more z room-left =
         record {
           within = omega (arith, in-block, as-long, at .long);
           brought = rw nothing-new (at .brought);
           stopped = λ h. record { room = part; taken = record { got = read .got; count-is = sym z ∙ read .count-is; ended-is = read .ended-is } };
+          filled = λ h. let z : ⊥ = omega (arith, as-long, at .long) in absurd z;
         }
       where
         nothing-new : take count after ≡ take count block
@@ -131,5 +132,5 @@ at-first block from {count} e =
     as-far : (n : ℕ) (l : List ℕ) → take (min n (length l)) l ≡ take n l
     as-far n l = ap (λ (m : ℕ). take m l) (sym (length-take n l)) ∙ sym (at-front (pos n) l)
 
-pub full : {front block₀ block : List ℕ} {count : ℕ} → AtByte front block₀ block count → length block ≤ count → {ended : Bool} → ReadOn front block count ended
-full at h = record { within = at .within; brought = at .brought; stopped = λ l. let z : ⊥ = omega arith in absurd z }
+pub full : {front block₀ block : List ℕ} {count : ℕ} → AtByte front block₀ block count → length block ≤ count → ReadOn front block count false
+full at h = record { within = at .within; brought = at .brought; stopped = λ l. let z : ⊥ = omega arith in absurd z; filled = λ _. refl }

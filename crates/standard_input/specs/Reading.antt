@@ -37,8 +37,9 @@ pub record SomeRead (count : ℕ) (ended : Bool) : Type 0 where
   pub taken : TakenRead room count ended
 
 -- 13.1, 13.2: reads as far as a room reaches, from the bytes `front` on, which stand in it: so many bytes are read, and where the room is
--- not full, a read brought nothing
+-- not full, a read brought nothing. Where it is full, no read was made behind it, so that no end is told of
 pub record ReadOn (front room : List ℕ) (count : ℕ) (ended : Bool) : Type 0 where
   pub within : count ≤ length room
   pub brought : Brought front (take count room)
   pub stopped : count < length room → SomeRead 0 ended
+  pub filled : length room ≤ count → ended ≡ false

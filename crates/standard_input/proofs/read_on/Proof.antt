@@ -39,7 +39,7 @@ same-length c =
 returns : tie.Need-returns Inv-loop μ-loop
 returns c =
     let read = c .before .before .before .before .read-once in
-    no-more (c .before .before .before .before .before .before .before .loop .inv) (read .last .0) (read .kept .0) (read .ensures) (c .if1 .taken)
+    no-more (c .before .before .before .before .before .before .before .loop .inv) (read .last .0) (read .kept .0) (read .ensures) (c .if1 .taken) (c .before .before .before .before .before .before .loop-test .taken)
 
 add-count : tie.Need-add-count Inv-loop μ-loop
 add-count c =
