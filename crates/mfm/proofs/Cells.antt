@@ -22,6 +22,10 @@ pub cast-is : (before : Bool) → boolByte before ≡ cond before 1 0
 cast-is true = refl
 cast-is false = refl
 
+pub cast-lt : (before : Bool) → boolByte before < 2
+cast-lt true = omega arith
+cast-lt false = omega arith
+
 pub clock-lt : (before bit : ℕ) → clock before bit < 2
 clock-lt before bit = bit-lt (eqb before 0 && eqb bit 0)
 
