@@ -47,15 +47,6 @@ pub encoded-none : (before : ℕ) → encoded before [] ≡ []
 unfolding encoded dataBits bitCells packed listed
 encoded-none before = refl
 
--- the bit before the next byte, as the code keeps it
-pub odd-is : (byte : ℕ) → cond (eqb (byte % 2) 1) 1 0 ≡ byte % 2
-odd-is byte = go (byte % 2) (omega arith)
-  where
-    go : (r : ℕ) → r < 2 → cond (eqb r 1) 1 0 ≡ r
-    go zero h = refl
-    go (suc zero) h = refl
-    go (suc (suc r)) h = absurd (omega arith)
-
 pub coded-by-none : (table : List ℕ) (before : ℕ) → codedBy table before [] ≡ []
 unfolding codedBy
 coded-by-none table before = refl

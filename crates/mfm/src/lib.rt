@@ -60,7 +60,7 @@ pub fn byte_cells(before: bool, byte: u8) -> u16
     ensures { λ r. ⌜ r ≡ byteCells (cond before 1 0) byte ⌝ }
 {
     let table = cell_table();
-    entry(&table, before, byte)
+    entry(&table, before as u8, byte)
 }
 
 // The byte whose sixteen cells start at p of a track of n cells, counted on past n: its data cells.
@@ -86,23 +86,23 @@ fn write_by_table(table: &[u16; 512], bytes: &[u8], before: bool, cells: &mut [u
     requires { ⌜ 2 * length (now bytes) ≤ length (now cells) ⌝ }
     ensures { λ _. ⌜ now (cells .exit) ≡ writtenOver (codedBy (now (table .entry)) (cond before 1 0) (now (bytes .entry))) (now (cells .entry)) ⌝ }
 {
-    let mut last = before;
+    let mut last = before as u8;
     let mut i: usize = 0;
     while i < bytes.len() {
         let byte = bytes[i];
         let word = entry(table, last, byte);
         cells[2 * i] = (word / 256) as u8;
         cells[2 * i + 1] = (word % 256) as u8;
-        last = byte % 2 == 1;
+        last = byte;
         i += 1;
     }
 }
 
-// The table's entry of a byte after a data bit.
-fn entry(table: &[u16; 512], before: bool, byte: u8) -> u16
-    ensures { λ r. ⌜ r ≡ entryOf (now (table .entry)) (cond before 1 0) byte ⌝ }
+// The table's entry of a byte after the lowest bit of the last one.
+fn entry(table: &[u16; 512], last: u8, byte: u8) -> u16
+    ensures { λ r. ⌜ r ≡ entryOf (now (table .entry)) (last % 2) byte ⌝ }
 {
-    table[(before as usize) * 256 + (byte as usize)]
+    table[((last % 2) as usize) * 256 + (byte as usize)]
 }
 
 fn cell_table() -> [u16; 512]

@@ -1,22 +1,26 @@
 -- `mfm::write_by_table` meets its contract: after i turns the first i bytes are coded, and the rest is as it was. Assumes nothing.
-use Prim.Native.Nat.{_-_, _≤_}
+use Prim.Native.Nat.{_-_, _%_, _≤_}
 use mathlib.Core.Path.{_≡_}
 use mathlib.Core.Bool.{cond}
 use native.Mathlib.Omega.{arith}
-use lib.ListN.{length, getD, length-set}
-use Rattle.mfm.proofs.Coder.{Coded, coded-none, coded-more, coded-all, odd-is}
+use lib.ListN.{length, length-set}
+use Rattle.mfm.proofs.Cells.{cast-is}
+use Rattle.mfm.proofs.Coder.{Coded, coded-none, coded-more, coded-all}
 use borrow.Author.Needs.{needs}
 use Rattle.mfm.proofs.write_by_table.Statement.{statement}
 use Rattle.mfm.proofs.write_by_table.Tie as tie
 
 abbrev Inv-loop : tie.InvT-loop
-Inv-loop table bytes before cells₀ last₀ i₀ cells last i = (i ≤ length bytes) × Coded table bytes cells₀ (cond before 1 0) cells (cond last 1 0) i
+Inv-loop table bytes before cells₀ last₀ i₀ cells last i = (i ≤ length bytes) × Coded table bytes cells₀ (cond before 1 0) cells (last % 2) i
 
 abbrev μ-loop : tie.MeasureT-loop
 μ-loop table bytes before cells₀ last₀ i₀ cells last i = length bytes - i
 
+cast-last : tie.Need-cast-last Inv-loop μ-loop
+cast-last c = search needs
+
 loop-holds : tie.Need-loop-holds Inv-loop μ-loop
-loop-holds c = (search needs, coded-none _ _ _ _)
+loop-holds c = let a = c .before .before .args in (search needs, rw (cast-is (a .before)) (coded-none _ _ _ _))
 
 shared-slice-read-byte : tie.Need-shared-slice-read-byte Inv-loop μ-loop
 shared-slice-read-byte c = search needs
@@ -55,11 +59,9 @@ loop-again : tie.Need-loop-again Inv-loop μ-loop
 loop-again c =
     let l = c .before .before .before in
     let s = l .before .before .before in
-    let a = s .args in
-    let byte = getD (a .bytes .now) (l .loop .i) 0 in (
+    let a = s .args in (
       search needs,
-      rw (odd-is byte)
-          (coded-more (a .table .now) (a .bytes .now) (a .cells .now) _ (l .loop .cells) _ (l .loop .i) _ (l .loop .inv .1) (c .before .before .loop-test .taken) (s .pre) (c .entry .ensures)),
+      coded-more (a .table .now) (a .bytes .now) (a .cells .now) _ (l .loop .cells) _ (l .loop .i) _ (l .loop .inv .1) (c .before .before .loop-test .taken) (s .pre) (c .entry .ensures),
     )
 
 same-length : tie.Need-same-length Inv-loop μ-loop
@@ -78,6 +80,7 @@ write-by-table-spec =
     (tie.spec
     Inv-loop
     μ-loop
+    cast-last
     loop-holds
     shared-slice-read-byte
     entry-requires
