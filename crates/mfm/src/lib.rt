@@ -12,7 +12,8 @@ ghost use Rattle.basis.specs.Lists.{writtenOver};
 ghost use Rattle.refusals.specs.RefusedCalls.{countedAnswer};
 ghost use Rattle.cells.specs.CellsAndBytes.{cell, word};
 ghost use Rattle.mfm.specs.Coding.{byteCells, byteOn, encoded, decoded};
-ghost use Rattle.mfm.specs.Table.{entryOf, cellTable, codedBy};
+ghost use Rattle.mfm.specs.PrivateContracts.{entryOf, codedBy};
+ghost use Rattle.mfm.specs.Table.{cellTable};
 ghost use Rattle.mfm.specs.Calls.{codingAnswer, decodingAnswer, encodedAfter, decodedAfter};
 
 // The most bytes that one call codes, and the most bytes of cells that one call decodes.
@@ -63,6 +64,13 @@ pub fn byte_cells(before: bool, byte: u8) -> u16
     entry(&table, before as u8, byte)
 }
 
+// The table by which bytes are coded: entry 256 * bit + byte has the cells of a byte after a data bit.
+pub fn cell_table() -> [u16; 512]
+    ensures { λ r. ⌜ r ≡ cellTable ⌝ }
+{
+    CELLS
+}
+
 // The byte whose sixteen cells start at p of a track of n cells, counted on past n: its data cells.
 pub fn byte_on(bytes: &[u8], n: usize, p: usize) -> u8
     ensures { λ r. ⌜ r ≡ byteOn (cell (now (bytes .entry)) n) p ⌝ }
@@ -103,12 +111,6 @@ fn entry(table: &[u16; 512], last: u8, byte: u8) -> u16
     ensures { λ r. ⌜ r ≡ entryOf (now (table .entry)) (last % 2) byte ⌝ }
 {
     table[((last % 2) as usize) * 256 + (byte as usize)]
-}
-
-fn cell_table() -> [u16; 512]
-    ensures { λ r. ⌜ r ≡ cellTable ⌝ }
-{
-    CELLS
 }
 
 // Decodes every two bytes of `cells` into the front of `bytes`.
