@@ -1,5 +1,5 @@
--- Section 1 of the specification, rule 1.20: the table by which bytes are coded. The main properties: the code's table is this one (`cell_table`), and
--- coding by it gives for every list of bytes what the clock rule gives (`by-table`, in proofs/ByTable). Assumes nothing.
+-- Section 1 of the specification, rule 1.20: the table by which bytes are coded. The main property: the code's
+-- table is this one (`cell_table`). Assumes nothing.
 use Prim.Native.Nat.{ℕ, _/_, _%_}
 use mathlib.Core.List.{List}
 use Rattle.basis.specs.Lists.{listed}
@@ -9,6 +9,7 @@ use Rattle.mfm.specs.Coding.{byteCells}
 unfoldable pub cellsOfEntry : ℕ → ℕ
 cellsOfEntry i = byteCells (i / 256) (i % 256)
 
--- 1.20: the table, 512 entries
+-- 1.20: the table, 512 entries. Coding by it gives for every list of bytes, and either bit before it, what the clock rule gives (`by-table`, in
+-- proofs/ByTable)
 unfoldable pub cellTable : List ℕ
 cellTable = listed cellsOfEntry 512
