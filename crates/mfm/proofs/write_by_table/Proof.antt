@@ -4,7 +4,7 @@ use mathlib.Core.Path.{_≡_}
 use mathlib.Core.Bool.{cond}
 use native.Mathlib.Omega.{arith}
 use lib.ListN.{length, length-set}
-use Rattle.mfm.proofs.Cells.{cast-is}
+use Rattle.mfm.proofs.Cells.{cast-bit}
 use Rattle.mfm.proofs.Coder.{Coded, coded-none, coded-more, coded-all}
 use borrow.Author.Needs.{needs}
 use Rattle.mfm.proofs.write_by_table.Statement.{statement}
@@ -20,7 +20,7 @@ cast-last : tie.Need-cast-last Inv-loop μ-loop
 cast-last c = search needs
 
 loop-holds : tie.Need-loop-holds Inv-loop μ-loop
-loop-holds c = let a = c .before .before .args in (search needs, rw (cast-is (a .before)) (coded-none _ _ _ _))
+loop-holds c = let a = c .before .before .args in (search needs, rw (cast-bit (a .before)) (coded-none _ _ _ _))
 
 shared-slice-read-byte : tie.Need-shared-slice-read-byte Inv-loop μ-loop
 shared-slice-read-byte c = search needs
