@@ -4,6 +4,7 @@
 //! of the library to plain Rust (below 1: the library is quicker). Whole files and blocks go through a process each: the program, and this
 //! one with the argument `plain` or `plain-block`, which lists by the second program. Run it with bench/run; docs/BENCHMARKS.md has a run.
 
+mod coding;
 mod revolution;
 mod search;
 
@@ -60,7 +61,7 @@ fn row<A, B>(
     println!("| {what} | {ours:.1} | {plain:.1} | {:.2} | {rate} |", ours / plain);
 }
 
-fn coding(random: &mut Random) {
+fn coding_and_checking(random: &mut Random) {
     let bytes: Vec<u8> = (0..8_192).map(|_| random.byte()).collect();
     let mut coded = vec![0; 16_384];
     let mut decoded = vec![0; 8_192];
@@ -70,6 +71,17 @@ fn coding(random: &mut Random) {
         Some((8_192, "bytes")),
         || thikbromu::encode(black_box(&bytes), false, &mut coded),
         || mfm::code(black_box(&bytes), false, 16_384),
+    );
+    let mut plain_coded = vec![0; 16_384];
+    let table = coding::table();
+    assert_eq!(coding::by_table(&table, &bytes, false, &mut plain_coded), thikbromu::encode(&bytes, false, &mut coded).ok());
+    assert_eq!(plain_coded, coded);
+    row(
+        "the same beside plain Rust by a table, into a lent buffer",
+        (21, 50),
+        None,
+        || thikbromu::encode(black_box(&bytes), false, &mut coded),
+        || coding::by_table(&table, black_box(&bytes), false, &mut plain_coded),
     );
     row(
         "decoding, 16,384 bytes of cells",
@@ -324,7 +336,7 @@ fn main() {
     println!("| what | library, us | plain Rust, us | ratio | library in a second |");
     println!("|---|---|---|---|---|");
     let mut random = Random::new(1);
-    coding(&mut random);
+    coding_and_checking(&mut random);
     separating(&mut random);
     track_blocks();
     for n in [20_000, 50_000, 100_000, 131_072] {

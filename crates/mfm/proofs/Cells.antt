@@ -17,10 +17,14 @@ pub bit-lt : (before : Bool) → cond before 1 0 < 2
 bit-lt true = omega arith
 bit-lt false = omega arith
 
--- a yes or no cast to a number
+-- a yes or no cast to a number, and its lowest bit
 pub cast-is : (before : Bool) → boolByte before ≡ cond before 1 0
 cast-is true = refl
 cast-is false = refl
+
+pub cast-bit : (before : Bool) → boolByte before % 2 ≡ cond before 1 0
+cast-bit true = refl
+cast-bit false = refl
 
 pub clock-lt : (before bit : ℕ) → clock before bit < 2
 clock-lt before bit = bit-lt (eqb before 0 && eqb bit 0)

@@ -1,2 +1,4 @@
 pub mod Coding
+pub mod Table
+pub mod PrivateContracts
 pub mod Calls

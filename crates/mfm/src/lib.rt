@@ -1,6 +1,9 @@
 // MFM coding and decoding.
+mod table;
+
 use refusals::Counted;
 use refusals::Refusal;
+use table::CELLS;
 ghost use mathlib.Core.Path.{_≡_};
 ghost use mathlib.Core.Bool.{cond};
 ghost use Prim.Native.Nat.{_<_, _≤_, _*_, _+_, _/_, _%_, _^_};
@@ -8,7 +11,9 @@ ghost use lib.ListN.{length};
 ghost use Rattle.basis.specs.Lists.{writtenOver};
 ghost use Rattle.refusals.specs.RefusedCalls.{countedAnswer};
 ghost use Rattle.cells.specs.CellsAndBytes.{cell, word};
-ghost use Rattle.mfm.specs.Coding.{clock, byteCells, byteOn, encoded, decoded};
+ghost use Rattle.mfm.specs.Coding.{byteCells, byteOn, encoded, decoded};
+ghost use Rattle.mfm.specs.PrivateContracts.{entryOf, codedBy};
+ghost use Rattle.mfm.specs.Table.{cellTable};
 ghost use Rattle.mfm.specs.Calls.{codingAnswer, decodingAnswer, encodedAfter, decodedAfter};
 
 // The most bytes that one call codes, and the most bytes of cells that one call decodes.
@@ -51,20 +56,19 @@ pub fn decode(cells: &[u8], bytes: &mut [u8]) -> Counted
     Counted::Count(needed)
 }
 
-// The sixteen cells of a byte after a data bit, as a number: the clock rule, bit by bit.
+// The sixteen cells of a byte after a data bit, as a number.
 pub fn byte_cells(before: bool, byte: u8) -> u16
     ensures { λ r. ⌜ r ≡ byteCells (cond before 1 0) byte ⌝ }
 {
-    let mut last = before as u16;
-    let mut cells: u16 = 0;
-    let mut k: u8 = 8;
-    while 0 < k {
-        k -= 1;
-        let bit = ((byte >> k) % 2) as u16;
-        cells = cells * 4 + clock(last, bit) * 2 + bit;
-        last = bit;
-    }
-    cells
+    let table = cell_table();
+    entry(&table, before as u8, byte)
+}
+
+// The table by which bytes are coded: entry 256 * bit + byte has the cells of a byte after a data bit.
+pub fn cell_table() -> [u16; 512]
+    ensures { λ r. ⌜ r ≡ cellTable ⌝ }
+{
+    CELLS
 }
 
 // The byte whose sixteen cells start at p of a track of n cells, counted on past n: its data cells.
@@ -75,28 +79,38 @@ pub fn byte_on(bytes: &[u8], n: usize, p: usize) -> u8
     nibble((cells / 256) as u8) * 16 + nibble((cells % 256) as u8)
 }
 
-// Codes all of `bytes` into the front of `cells`.
+// Codes all of `bytes` into the front of `cells`. The table is made once for the call: indexed where it is a constant, it would be copied for
+// each byte.
 fn write_cells(bytes: &[u8], before: bool, cells: &mut [u8])
     requires { ⌜ 2 * length (now bytes) ≤ length (now cells) ⌝ }
     ensures { λ _. ⌜ now (cells .exit) ≡ writtenOver (encoded (cond before 1 0) (now (bytes .entry))) (now (cells .entry)) ⌝ }
 {
-    let mut last = before;
+    let table = cell_table();
+    write_by_table(&table, bytes, before, cells);
+}
+
+// The same by a table that is lent.
+fn write_by_table(table: &[u16; 512], bytes: &[u8], before: bool, cells: &mut [u8])
+    requires { ⌜ 2 * length (now bytes) ≤ length (now cells) ⌝ }
+    ensures { λ _. ⌜ now (cells .exit) ≡ writtenOver (codedBy (now (table .entry)) (cond before 1 0) (now (bytes .entry))) (now (cells .entry)) ⌝ }
+{
+    let mut last = before as u8;
     let mut i: usize = 0;
     while i < bytes.len() {
         let byte = bytes[i];
-        let word = byte_cells(last, byte);
+        let word = entry(table, last, byte);
         cells[2 * i] = (word / 256) as u8;
         cells[2 * i + 1] = (word % 256) as u8;
-        last = byte % 2 == 1;
+        last = byte;
         i += 1;
     }
 }
 
-// The clock cell of a data bit after another.
-fn clock(before: u16, bit: u16) -> u16
-    ensures { λ r. ⌜ (r ≡ clock before bit) × (r < 2) ⌝ }
+// The table's entry of a byte after the lowest bit of the last one.
+fn entry(table: &[u16; 512], last: u8, byte: u8) -> u16
+    ensures { λ r. ⌜ r ≡ entryOf (now (table .entry)) (last % 2) byte ⌝ }
 {
-    if (before == 0) & (bit == 0) { 1 } else { 0 }
+    table[((last % 2) as usize) * 256 + (byte as usize)]
 }
 
 // Decodes every two bytes of `cells` into the front of `bytes`.

@@ -43,6 +43,26 @@ fn rooms(needed: usize) -> [usize; 5] {
     [needed.saturating_sub(1), needed, needed + 1, needed + 37, 0]
 }
 
+/// The table of rule 1.20, as the text of its source file: two halves of 32 lines, each with the cells of eight bytes and, in a comment, the
+/// first of these bytes.
+fn printed_table(group: &mut Group) {
+    let path = concat!(env!("CARGO_MANIFEST_DIR"), "/../../crates/mfm/src/table.rt");
+    let text = std::fs::read_to_string(path).expect("the table's source");
+    let lines: Vec<&str> = text.lines().filter(|line| line.starts_with("    0x")).collect();
+    group.same(lines.len(), 64, || "the number of the table's lines".to_string());
+    for (index, line) in lines.iter().enumerate() {
+        let first = (8 * index % 256) as u8;
+        let (entries, comment) = line.split_once(" // ").unwrap_or((line, ""));
+        group.same(comment, format!("{first:02X}").as_str(), || format!("the comment of line {index}"));
+        let printed: Vec<&str> = entries.trim().split(' ').collect();
+        group.same(printed.len(), 8, || format!("the entries of line {index}"));
+        for (byte, entry) in (first..=first + 7).zip(printed) {
+            let expected = format!("0x{:04X},", mfm::code_byte(byte, index >= 32));
+            group.same(entry, expected.as_str(), || format!("the entry of {byte:02X} in line {index}"));
+        }
+    }
+}
+
 pub fn coding(report: &mut Report) {
     let mut group = Group::new("coding, every length to 64 and around 8,192");
     let mut random = Random::new(1);
@@ -62,6 +82,10 @@ pub fn coding(report: &mut Report) {
             code_case(&mut group, &[byte], before, 2);
         }
     }
+    group.close(report);
+
+    let mut group = Group::new("coding, each entry of the table as it is printed in the source");
+    printed_table(&mut group);
     group.close(report);
 
     let mut group = Group::new("coding, random");

@@ -1,95 +1,28 @@
--- `mfm::write_cells` meets its contract: after i turns the first i bytes are coded, and the rest is as it was. Assumes nothing.
-use Prim.Native.Nat.{_-_, _≤_}
-use mathlib.Core.Path.{_≡_}
-use mathlib.Core.Bool.{cond}
+-- `mfm::write_cells` meets its contract: coding by the table is coding by the clock rule. Assumes nothing.
+use mathlib.Core.Path.{_∙_}
 use native.Mathlib.Omega.{arith}
-use lib.ListN.{length, getD, length-set}
-use Rattle.mfm.proofs.Coder.{Coded, coded-none, coded-more, coded-all, odd-is}
+use Rattle.mfm.proofs.ByTable.{by-table}
+use Rattle.mfm.proofs.Cells.{bit-lt}
 use borrow.Author.Needs.{needs}
 use Rattle.mfm.proofs.write_cells.Statement.{statement}
 use Rattle.mfm.proofs.write_cells.Tie as tie
 
-abbrev Inv-loop : tie.InvT-loop
-Inv-loop bytes before cells₀ last₀ i₀ cells last i = (i ≤ length bytes) × Coded bytes cells₀ (cond before 1 0) cells (cond last 1 0) i
+cell-table-requires : tie.Need-cell-table-requires
+cell-table-requires c κs = search needs
 
-abbrev μ-loop : tie.MeasureT-loop
-μ-loop bytes before cells₀ last₀ i₀ cells last i = length bytes - i
+write-by-table-requires : tie.Need-write-by-table-requires
+write-by-table-requires c κs = search needs
 
-loop-holds : tie.Need-loop-holds Inv-loop μ-loop
-loop-holds c = (search needs, coded-none _ _ _)
+same-length : tie.Need-same-length
+same-length c = search needs
 
-shared-slice-read-byte : tie.Need-shared-slice-read-byte Inv-loop μ-loop
-shared-slice-read-byte c = search needs
-
-byte-cells-requires : tie.Need-byte-cells-requires Inv-loop μ-loop
-byte-cells-requires c κs = search needs
-
-cast-cells : tie.Need-cast-cells Inv-loop μ-loop
-cast-cells c = search needs
-
-mul-cells : tie.Need-mul-cells Inv-loop μ-loop
-mul-cells c = search needs
-
-slice-write-cells : tie.Need-slice-write-cells Inv-loop μ-loop
-slice-write-cells c = omega (arith, c .before .before .before .loop .inv .1 .long)
-
-cast-cells-2 : tie.Need-cast-cells-2 Inv-loop μ-loop
-cast-cells-2 c = search needs
-
-mul-cells-2 : tie.Need-mul-cells-2 Inv-loop μ-loop
-mul-cells-2 c = search needs
-
-add-cells : tie.Need-add-cells Inv-loop μ-loop
-add-cells c = search needs
-
-slice-write-cells-2 : tie.Need-slice-write-cells-2 Inv-loop μ-loop
-slice-write-cells-2 c = simp length-set (omega (arith, c .before .before .before .loop .inv .1 .long))
-
-add-i : tie.Need-add-i Inv-loop μ-loop
-add-i c = search needs
-
-loop-less : tie.Need-loop-less Inv-loop μ-loop
-loop-less c = search needs
-
-loop-again : tie.Need-loop-again Inv-loop μ-loop
-loop-again c =
-    let l = c .before .before .before in
-    let s = l .before .before .before in
-    let a = s .args in
-    let byte = getD (a .bytes .now) (l .loop .i) 0 in (
-      search needs,
-      rw (odd-is byte)
-          (coded-more (a .bytes .now) (a .cells .now) _ (l .loop .cells) _ (l .loop .i) _ (l .loop .inv .1) (c .before .before .loop-test .taken) (s .pre) (c .byte-cells .ensures)),
-    )
-
-same-length : tie.Need-same-length Inv-loop μ-loop
-same-length c = c .before .loop .inv .1 .long
-
-returns : tie.Need-returns Inv-loop μ-loop
+returns : tie.Need-returns
 returns c =
-    let l = c .before .loop in
-    let a = c .before .before .before .before .args in
-    let e : l .i ≡ length (a .bytes .now) = omega arith in
-    coded-all (a .bytes .now) (a .cells .now) _ _ _ _ (l .inv .1) e
+    let s = c .before .before .before .before .before .before .before in
+    let a = s .before .args in
+    c .before .before .write-by-table .ensures
+    ∙ rw (c .before .before .before .before .before .cell-table .ensures, by-table _ (a .bytes .now) (bit-lt (a .before)) (λ i. omega (arith, s .shared-slice-known .given i)))
 
 pub write-cells-spec : {M : Type 1} → statement M
 write-cells-spec =
-    tie.close
-    (tie.spec
-    Inv-loop
-    μ-loop
-    loop-holds
-    shared-slice-read-byte
-    byte-cells-requires
-    cast-cells
-    mul-cells
-    slice-write-cells
-    cast-cells-2
-    mul-cells-2
-    add-cells
-    slice-write-cells-2
-    add-i
-    loop-less
-    loop-again
-    same-length
-    returns)
+    tie.close (tie.spec cell-table-requires write-by-table-requires same-length returns)

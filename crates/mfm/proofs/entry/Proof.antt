@@ -1,0 +1,26 @@
+-- `mfm::entry` meets its contract. Assumes nothing.
+use mathlib.Core.Path.{refl}
+use borrow.Author.Needs.{needs}
+use Rattle.mfm.proofs.entry.Statement.{statement}
+use Rattle.mfm.proofs.entry.Tie as tie
+
+cast-result : tie.Need-cast-result
+cast-result c = search needs
+
+mul-result : tie.Need-mul-result
+mul-result c = search needs
+
+add-result : tie.Need-add-result
+add-result c = search needs
+
+mul-result-2 : tie.Need-mul-result-2
+mul-result-2 c = search needs
+
+element-copy-out-result : tie.Need-element-copy-out-result
+element-copy-out-result c = search needs
+
+returns : tie.Need-returns
+returns c = refl
+
+pub entry-spec : {M : Type 1} → statement M
+entry-spec = tie.close (tie.spec cast-result mul-result add-result mul-result-2 element-copy-out-result returns)
