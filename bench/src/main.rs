@@ -221,6 +221,8 @@ fn searching(name: &str, bytes: &[u8], n: usize) {
 /// All syncs and all marks of a track, beside the baseline of the search. Both are asked again after each place that they find, so both go
 /// over the whole track.
 fn searching_all(name: &str, bytes: &[u8], n: usize) {
+    // The compiler is not to know the number of cells, as the library does not.
+    let n = black_box(n);
     let ours = |word, length| search::all_places(n, |from, to| boundary::find_word(black_box(bytes), n, word, length, from, to));
     let syncs = || search::all_places(n, |from, to| naive_search::find_sync(black_box(bytes), n, from, to));
     let marks = || search::all_places(n, |from, to| naive_search::find_mark(black_box(bytes), n, from, to));
