@@ -3,8 +3,12 @@
 //! A row for each measurement, as a table in Markdown: what was done, the median time of one call of each in microseconds, and the ratio
 //! of the library to plain Rust (below 1: the library is quicker). Whole files and blocks go through a process each: the program, and this
 //! one with the argument `plain` or `plain-block`, which lists by the second program. Run it with bench/run; docs/BENCHMARKS.md has a run.
+//! With the argument `baseline` nothing is timed: the baseline of the mark search is held to the library's search.
 
+mod baseline;
 mod coding;
+#[path = "../../docs/src/naive_search.rs"]
+mod naive_search;
 mod revolution;
 mod search;
 
@@ -208,10 +212,27 @@ fn searching(name: &str, bytes: &[u8], n: usize) {
     row(&what, (21, 20), Some((n, "cells")), ours, || cells::find_word(black_box(bytes), n, word, 48, 0, n));
     if n == 100_000 {
         let what = "the same beside a search that fetches 48 cells at each place";
-        row(what, (3, 1), None, ours, || search::naive(black_box(bytes), n, word, 48));
+        row(what, (3, 1), None, ours, || naive_search::find_word::<48>(black_box(bytes), n, word, 0, n));
         let what = "the same beside a search of eight places at a time";
         row(what, (21, 20), None, ours, || search::word_parallel(black_box(bytes), n, word));
     }
+}
+
+/// All syncs and all marks of a track, beside the baseline of the search. Both are asked again after each place that they find, so both go
+/// over the whole track.
+fn searching_all(name: &str, bytes: &[u8], n: usize) {
+    // The compiler is not to know the number of cells, as the library does not.
+    let n = black_box(n);
+    let ours = |word, length| search::all_places(n, |from, to| boundary::find_word(black_box(bytes), n, word, length, from, to));
+    let syncs = || search::all_places(n, |from, to| naive_search::find_sync(black_box(bytes), n, from, to));
+    let marks = || search::all_places(n, |from, to| naive_search::find_mark(black_box(bytes), n, from, to));
+    // What is measured beside the library finds the same.
+    assert_eq!(ours(naive_search::SYNC, 16), syncs());
+    assert_eq!(ours(naive_search::MARK, 48), marks());
+    let what = format!("all syncs of 16 cells, {name}, {n} cells, beside the baseline that fetches 16 cells at each place");
+    row(&what, (21, 5), Some((n, "cells")), || ours(naive_search::SYNC, 16), syncs);
+    let what = format!("all marks of 48 cells, {name}, {n} cells, beside the baseline that fetches 48 cells at each place");
+    row(&what, (21, 5), Some((n, "cells")), || ours(naive_search::MARK, 48), marks);
 }
 
 /// A track of n cells with so many sectors; IDs alone where there are more than twelve.
@@ -327,6 +348,9 @@ fn whole_files() {
 
 fn main() {
     if let Some(mode) = std::env::args().nth(1) {
+        if mode == "baseline" {
+            std::process::exit(i32::from(!baseline::agrees()));
+        }
         let mut input = Vec::new();
         std::io::stdin().read_to_end(&mut input).expect("standard input");
         let listed = if mode == "plain-block" { track_block::printed(&input, 2, 1, 0, 0) } else { listing(&input) };
@@ -343,7 +367,13 @@ fn main() {
         let any: Vec<u8> = (0..cells::bytes_needed(n)).map(|_| random.byte()).collect();
         searching("random cells", &any, n);
     }
-    searching("the standard track", &cells::pack(&standard_track(0, 0, 0xE5)), 100_000);
+    let standard = cells::pack(&standard_track(0, 0, 0xE5));
+    searching("the standard track", &standard, 100_000);
+    searching_all("the standard track", &standard, 100_000);
+    // A source of its own, so that the random cells of the other rows stay as they are.
+    let mut own_random = Random::new(7);
+    let any: Vec<u8> = (0..12_500).map(|_| own_random.byte()).collect();
+    searching_all("random cells", &any, 100_000);
     for n in [20_000, 50_000, 100_000, 131_072] {
         listing_sectors("no sectors", &track_with(0, n), n);
     }

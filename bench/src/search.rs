@@ -1,12 +1,7 @@
-//! Two other searches for a word of 48 cells on a track, as measures: one that a beginner would write, and one that looks at eight places
-//! at a time.
+//! Searches for a word on a track, as measures: one for a word of 48 cells that looks at eight places at a time, and all places of a word
+//! by any search that gives the least one.
 
 use second_program::cells;
-
-/// All cells of the word fetched anew at every place.
-pub fn naive(bytes: &[u8], n: usize, word: u64, k: usize) -> usize {
-    (0..n).find(|&p| cells::word(bytes, n, p, k) == word).unwrap_or(n)
-}
 
 /// Eight places for each byte, from 64 cells loaded at once; the last places, round the index, one by one. n is a multiple of 8 here.
 pub fn word_parallel(bytes: &[u8], n: usize, word: u64) -> usize {
@@ -21,4 +16,15 @@ pub fn word_parallel(bytes: &[u8], n: usize, word: u64) -> usize {
     }
     let from = 8 * bytes.len().saturating_sub(7);
     (from..n).find(|&p| cells::word(bytes, n, p, 48) == word).unwrap_or(n)
+}
+
+/// All places on a track of n cells that `find` gives: it is asked again from the place after each, so the whole track is gone over once.
+pub fn all_places(n: usize, find: impl Fn(usize, usize) -> usize) -> Vec<usize> {
+    let mut places = Vec::new();
+    let mut place = find(0, n);
+    while place < n {
+        places.push(place);
+        place = find(place + 1, n);
+    }
+    places
 }

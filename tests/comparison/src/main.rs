@@ -28,7 +28,7 @@ use std::thread;
 type Part = fn(&mut Report);
 
 /// The parts, by their modules. The long ones come first, so that no worker is left alone with one at the end.
-const PARTS: [(&str, Part); 39] = [
+const PARTS: [(&str, Part); 40] = [
     ("files", files::in_memory),
     ("findings", findings::any_tracks),
     ("sectors", sectors::standard),
@@ -59,6 +59,7 @@ const PARTS: [(&str, Part); 39] = [
     ("flux", flux::limits),
     ("flux", flux::histograms),
     ("sectors", sectors::shapes),
+    ("sectors", sectors::phases_and_lengths),
     ("files", files::short_rooms),
     ("blocks", blocks::states),
     ("program", program::samples),

@@ -224,6 +224,44 @@ pub fn shapes(report: &mut Report) {
     group.close(report);
 }
 
+/// A search that takes eight cells at a time meets a mark in every phase, over the index, and where the last byte of a track is not full.
+/// Each of these is tried with each of the others.
+pub fn phases_and_lengths(report: &mut Report) {
+    let mut random = Random::new(23);
+    let mut group = Group::new("sectors in every phase and over the index, on lengths of every remainder by 16");
+    let mut builder = TrackBuilder::new();
+    for number in 1..=2 {
+        let mut plan = SectorPlan::standard(0, 0, number, 0x6C);
+        (plan.size_code, plan.data) = (0, vec![0x6C; 128]);
+        builder.write_repeated(0x00, 12);
+        builder.write_sector(&plan);
+        builder.write_repeated(0x4E, 40);
+    }
+    // The first ID mark comes after twelve bytes, and its data mark after the ID's 160 cells and 34 bytes of gap.
+    let (id_mark, data_mark) = (192, 192 + 160 + 544);
+    for n in 20_000..20_016 {
+        let track_cells = filled(builder.cells().to_vec(), n);
+        let phases = 0..16;
+        // The index falls on each cell of three syncs and the mark's byte, and just after them.
+        let over_index = [id_mark, data_mark].into_iter().flat_map(|mark| (1..=64).map(move |before| n - mark - before));
+        for by in phases.chain(over_index) {
+            let track = packed(&turn(&track_cells, by));
+            let ours = answer(boundary::sector(&track.bytes, n, 0, 0, 0, &mut [0; SECTOR_NUMBERS]));
+            group.same(ours, Ok(2), || format!("n {n}, turned by {by}"));
+            whole_track(&mut group, &mut random, &track, (0, 0));
+        }
+    }
+    let standard_cells = standard_track(3, 1, 0xE5);
+    for phase in 0..16 {
+        // Cells are left out or added where the gap before the index is.
+        for n in [99_984 + phase, 100_001 + phase] {
+            let track = packed(&turn(&filled(standard_cells.clone(), n), phase));
+            whole_track(&mut group, &mut random, &track, (3, 1));
+        }
+    }
+    group.close(report);
+}
+
 pub fn any_tracks(report: &mut Report) {
     let mut random = Random::new(22);
     let mut group = Group::new("odd tracks");
