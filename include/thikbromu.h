@@ -64,7 +64,7 @@ enum thikbromu_refusal {
     THIKBROMU_REFUSED_TOO_MANY_CELLS = 9,       /* more than 131,072 cells come of the timings; how many */
     THIKBROMU_REFUSED_NO_ROOM = 10,             /* no room for the cells or the timings; how many bytes, or timings */
     THIKBROMU_REFUSED_NO_SUCH_SECTOR = 11,      /* the index is not below the number of sectors; that number */
-    THIKBROMU_REFUSED_NO_DATA_READ = 12,        /* no data of this sector is read (rule 6.12); 0 */
+    THIKBROMU_REFUSED_NO_DATA = 12,             /* this sector has no data (rule 6.12); 0 */
     THIKBROMU_REFUSED_NO_ROOM_FOR_BYTES = 13,   /* no room for the bytes; how many */
     THIKBROMU_REFUSED_TOO_MANY_BYTES = 14,      /* over 8,192 bytes to code, or 16,384 to decode; how many */
     THIKBROMU_REFUSED_NOT_A_TRACK_FILE = 15,    /* the bytes are no track file; 0 */
@@ -88,9 +88,9 @@ enum thikbromu_kind {
     THIKBROMU_KIND_NSI = 11,  /* level 2: the ID mark is FC, FD or FF; detail: the mark */
     THIKBROMU_KIND_NSD = 12,  /* level 2: the data mark is F9 or FA; detail: the mark */
     THIKBROMU_KIND_SBI = 13,  /* level 1: the ID check is bad; detail: the number */
-    THIKBROMU_KIND_SND = 14,  /* level 1: the ID check is good, but there is no data mark; detail: the number */
-    THIKBROMU_KIND_SBD = 15,  /* level 1: data is read, and its check is bad; detail: the number */
-    THIKBROMU_KIND_DOI = 16,  /* level 1: data is read, its mark before the index and its end behind it; detail: its end - N */
+    THIKBROMU_KIND_SND = 14,  /* level 1: the ID check is good, but there is no data; detail: the number */
+    THIKBROMU_KIND_SBD = 15,  /* level 1: there is data, and its check is bad; detail: the number */
+    THIKBROMU_KIND_DOI = 16,  /* level 1: there is data, its mark before the index and its end behind it; detail: its end - N */
     THIKBROMU_KIND_DBI = 17,  /* level 1: the data mark is behind the index, so q is N or more; detail: q - N */
     THIKBROMU_KIND_SWS = 18,  /* level 1: the data of another sector covers p (rule 7.37); detail: the number */
     THIKBROMU_KIND_SID = 19,  /* level 3: syncs stand in the ID or in the data (rule 7.38); detail: how many */
@@ -118,8 +118,8 @@ enum thikbromu_sector_number {
     THIKBROMU_SECTOR_ID_CHECK_GOOD = 6,   /* 1 where the ID check is good, else 0 */
     THIKBROMU_SECTOR_DATA_PLACE = 7,      /* q, the cell of the data mark, perhaps N or more; 0 where none is found */
     THIKBROMU_SECTOR_DATA_MARK = 8,       /* the byte of the data mark, F8 to FB; 0 where none is found */
-    THIKBROMU_SECTOR_DATA_LENGTH = 9,     /* L, how many data bytes; 0 where no data is read */
-    THIKBROMU_SECTOR_DATA_CHECK_GOOD = 10 /* 1 where the data check is good; 0 where it is bad or no data is read */
+    THIKBROMU_SECTOR_DATA_LENGTH = 9,     /* L, how many data bytes; 0 where there is no data */
+    THIKBROMU_SECTOR_DATA_CHECK_GOOD = 10 /* 1 where the data check is good; 0 where it is bad or there is no data */
 };
 
 /*

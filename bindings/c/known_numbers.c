@@ -281,7 +281,7 @@ static void test_standard_track(const uint8_t *cells)
     /* With the syncs of the first data mark spoilt, its ID has no data; all other sectors keep theirs. */
     memcpy(room, cells, TRACK_BYTES);
     thikbromu_clear(room + (1152 + 704) / 8, 6, 6);
-    REFUSES(thikbromu_read_out(room, TRACK_BYTES, TRACK_CELLS, 0, 0, 0, data, sizeof data, &good, &value), NO_DATA_READ, 0);
+    REFUSES(thikbromu_read_out(room, TRACK_BYTES, TRACK_CELLS, 0, 0, 0, data, sizeof data, &good, &value), NO_DATA, 0);
 }
 
 static void test_findings(const uint8_t *cells)

@@ -413,7 +413,7 @@ pub fn sector(
 /// where their check is good, else 0. A bad check does not refuse the call.
 ///
 /// Refuses [`TrackOrSide`](Refusal::TrackOrSide), [`CellCount`](Refusal::CellCount), [`TooFewBytes`](Refusal::TooFewBytes),
-/// [`TooManySectors`](Refusal::TooManySectors), [`NoSuchSector`](Refusal::NoSuchSector), [`NoDataRead`](Refusal::NoDataRead),
+/// [`TooManySectors`](Refusal::TooManySectors), [`NoSuchSector`](Refusal::NoSuchSector), [`NoData`](Refusal::NoData),
 /// [`NoRoomForBytes`](Refusal::NoRoomForBytes).
 #[inline]
 pub fn read_out(

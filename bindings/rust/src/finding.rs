@@ -37,9 +37,9 @@ pub enum Kind {
     Nsd = 12,
     /// The ID check is bad. Detail: the number.
     Sbi = 13,
-    /// The ID check is good, but there is no data mark. Detail: the number.
+    /// The ID check is good, but there is no data. Detail: the number.
     Snd = 14,
-    /// Data is read, and its check is bad. Detail: the number.
+    /// There is data, and its check is bad. Detail: the number.
     Sbd = 15,
     /// Data goes over the index. Detail: the cells behind it.
     Doi = 16,

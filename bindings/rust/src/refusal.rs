@@ -28,8 +28,8 @@ pub enum Refusal {
     NoRoom(usize),
     /// 11: how many sectors there are, none of which has the index asked for.
     NoSuchSector(usize),
-    /// 12: no data of the sector is read (rule 6.12).
-    NoDataRead,
+    /// 12: the sector has no data (rule 6.12).
+    NoData,
     /// 13: how many bytes there are, for which there is no room.
     NoRoomForBytes(usize),
     /// 14: how many bytes were handed over, more than 8,192 to code or 16,384 to decode.
@@ -57,7 +57,7 @@ impl Refusal {
             Refusal::TooManyCells(_) => 9,
             Refusal::NoRoom(_) => 10,
             Refusal::NoSuchSector(_) => 11,
-            Refusal::NoDataRead => 12,
+            Refusal::NoData => 12,
             Refusal::NoRoomForBytes(_) => 13,
             Refusal::TooManyBytes(_) => 14,
             Refusal::NotATrackFile => 15,
@@ -82,7 +82,7 @@ impl Refusal {
             | Refusal::TooManyBytes(value) => value,
             Refusal::TrackOrSide
             | Refusal::NoTimings
-            | Refusal::NoDataRead
+            | Refusal::NoData
             | Refusal::NotATrackFile
             | Refusal::NotATrackBlock
             | Refusal::NoSuchRevolution => 0,
@@ -116,7 +116,7 @@ impl TryFrom<(u32, usize)> for Refusal {
             (9, _) => Refusal::TooManyCells(value),
             (10, _) => Refusal::NoRoom(value),
             (11, _) => Refusal::NoSuchSector(value),
-            (12, 0) => Refusal::NoDataRead,
+            (12, 0) => Refusal::NoData,
             (13, _) => Refusal::NoRoomForBytes(value),
             (14, _) => Refusal::TooManyBytes(value),
             (15, 0) => Refusal::NotATrackFile,
@@ -142,7 +142,7 @@ impl fmt::Display for Refusal {
             Refusal::TooManyCells(cells) => write!(out, "{cells} cells in all, more than 131,072"),
             Refusal::NoRoom(needed) => write!(out, "room is needed for {needed} bytes of cells, or {needed} timings"),
             Refusal::NoSuchSector(sectors) => write!(out, "no sector of that index among {sectors}"),
-            Refusal::NoDataRead => write!(out, "the sector has no data read"),
+            Refusal::NoData => write!(out, "the sector has no data"),
             Refusal::NoRoomForBytes(needed) => write!(out, "room is needed for {needed} bytes"),
             Refusal::TooManyBytes(given) => write!(out, "{given} bytes, more than 8,192 to code or 16,384 to decode"),
             Refusal::NotATrackFile => write!(out, "not a track file"),

@@ -19,17 +19,17 @@ pub struct Sector {
     pub side: u8,
     /// The sector's number.
     pub number: u8,
-    /// The size code. Only 0 to 3 have a length: 128 bytes, 256, 512 and 1,024 (rule 6.11).
+    /// The size code. Its remainder by 4 says how long the data is: 128 bytes, 256, 512 or 1,024 (rule 6.11).
     pub size_code: u8,
     /// Whether the ID's check is good.
     pub id_check_good: bool,
-    /// The cell of the data mark, counted on where it lies behind the index; 0 where none is found.
+    /// The cell of the data mark, counted on where it lies behind the index; 0 where there is none.
     pub data_place: u32,
-    /// The byte of the data mark, F8 to FB; 0 where none is found.
+    /// The byte of the data mark, F8 to FB; 0 where there is none.
     pub data_mark: u8,
-    /// How many data bytes there are; 0 where no data is read.
+    /// How many data bytes there are; 0 where there is no data.
     pub data_length: usize,
-    /// Whether the data's check is good; no where no data is read.
+    /// Whether the data's check is good; no where there is no data.
     pub data_check_good: bool,
 }
 
@@ -53,14 +53,9 @@ impl Sector {
         }
     }
 
-    /// Whether a data mark was found.
-    pub const fn has_data_mark(&self) -> bool {
-        self.data_mark != 0
-    }
-
-    /// Whether data is read, so that it can be read out.
+    /// Whether the sector has data, which can be read out: a data mark was found (rule 6.12).
     pub const fn has_data(&self) -> bool {
-        self.data_length != 0
+        self.data_mark != 0
     }
 }
 

@@ -102,7 +102,7 @@ impl<'a> Track<'a> {
 
     /// Reads out the sector of an index to the front of `buffer`. A bad check does not refuse the call.
     ///
-    /// Refuses [`NoSuchSector`](Refusal::NoSuchSector), [`NoDataRead`](Refusal::NoDataRead),
+    /// Refuses [`NoSuchSector`](Refusal::NoSuchSector), [`NoData`](Refusal::NoData),
     /// [`NoRoomForBytes`](Refusal::NoRoomForBytes).
     pub fn read_out(&self, index: usize, buffer: &mut [u8]) -> Result<ReadOut, Refusal> {
         let mut good = 0;

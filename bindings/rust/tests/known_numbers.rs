@@ -241,8 +241,8 @@ fn sectors_without_good_checks() {
         if sector.has_data() {
             assert_eq!(data.unwrap().check_good, sector.data_check_good);
         } else {
-            assert!(!sector.has_data_mark());
-            assert_eq!(data, Err(Refusal::NoDataRead));
+            assert_eq!((sector.data_mark, sector.data_length), (0, 0));
+            assert_eq!(data, Err(Refusal::NoData));
         }
     }
 }

@@ -4,7 +4,7 @@ use mathlib.Core.Path.{_≡_, refl, _∙_}
 use mathlib.Core.Bool.{cond}
 use mathlib.Core.List.{List}
 use native.Mathlib.Omega.{arith}
-use borrow.Author.Tests.{lt-ltb, le-ltb}
+use borrow.Author.Tests.{eq-eqb, ne-eqb}
 use lib.Dec.{ltb}
 use Rattle.basis.specs.Search.{count, least}
 use Rattle.basis.proofs.Search.{least-low, least-high, least-same, count-few, count-end, count-next}
@@ -50,11 +50,11 @@ module _ (f : ℕ → ℕ) (from to : ℕ) where
   syncs-few = omega (arith, count-few (syncAt f) (to - 15 - from) from)
 
 module _ (f : ℕ → ℕ) (s : Sector) (id : ℕ) (e : id ≡ syncsBetween f (s .place + markLength) (s .place + idLength)) where
-  pub inside-id : s .«data_length» ≡ 0 → id ≡ syncsInside f s
+  pub inside-id : s .«data_mark» ≡ 0 → id ≡ syncsInside f s
   unfolding syncsInside
-  inside-id h = rw (le-ltb 0 (s .«data_length») (omega arith)) (omega arith)
+  inside-id h = rw (eq-eqb (s .«data_mark») 0 h) (omega arith)
 
-  pub inside-both : (more : ℕ) → 0 < s .«data_length» → more ≡ syncsBetween f (s .«data_place» + markLength) (endOfData s)
+  pub inside-both : (more : ℕ) → (s .«data_mark» ≡ 0 → ⊥) → more ≡ syncsBetween f (s .«data_place» + markLength) (endOfData s)
       → id + more ≡ syncsInside f s
   unfolding syncsInside
-  inside-both more h g = rw (lt-ltb 0 (s .«data_length») h, e, g)
+  inside-both more h g = rw (ne-eqb (s .«data_mark») 0 h, e, g)

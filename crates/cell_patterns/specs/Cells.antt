@@ -6,7 +6,7 @@ use mathlib.Core.Bool.{Bool, cond, _&&_, _||_}
 use lib.Dec.{eqb, ltb}
 use Rattle.basis.specs.Search.{least, count, most}
 use Rattle.sector_records.specs.Marks.{syncAt}
-use Rattle.sector_records.specs.Sectors.{markLength, idLength, endOfData}
+use Rattle.sector_records.specs.Sectors.{markLength, idLength, hasData, endOfData}
 use Rattle.sector_records.specs.declared.Sector.{Sector}
 use Rattle.cell_patterns.specs.declared.Gaps.{Gaps}
 
@@ -49,8 +49,8 @@ gapsOf f n =
 unfoldable pub syncsBetween : (ℕ → ℕ) → ℕ → ℕ → ℕ
 syncsBetween f a b = count (syncAt f) (b - 15 - a) a
 
--- 7.19, 7.38: how many syncs stand in a sector's ID, after its mark byte, and, where data is read, in its data, up to the data end
+-- 7.19, 7.38: how many syncs stand in a sector's ID, after its mark byte, and, where it has data, in its data, up to the data end
 unfoldable pub syncsInside : (ℕ → ℕ) → Sector → ℕ
 syncsInside f s =
     syncsBetween f (s .place + markLength) (s .place + idLength)
-    + cond (ltb 0 (s .«data_length»)) (syncsBetween f (s .«data_place» + markLength) (endOfData s)) 0
+    + cond (hasData s) (syncsBetween f (s .«data_place» + markLength) (endOfData s)) 0

@@ -58,7 +58,7 @@ pub fn syncs_inside(bytes: &[u8], n: usize, s: Sector) -> usize
 {
     let p = s.place as usize;
     let id = syncs_between(bytes, n, p + MARK_LENGTH, p + ID_LENGTH);
-    if s.data_length == 0 {
+    if s.data_mark == 0 {
         return id;
     }
     let data = s.data_place as usize + MARK_LENGTH;

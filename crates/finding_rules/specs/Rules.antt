@@ -9,21 +9,13 @@ use lib.ListN.{length, getD, take}
 use Rattle.cell_patterns.specs.Cells.{gapsOf, syncsInside}
 use Rattle.cell_patterns.specs.declared.Gaps.{Gaps}
 use Rattle.finding_rules.specs.declared.Row.{Row}
-use Rattle.sector_records.specs.Sectors.{noSector, endOfData}
+use Rattle.sector_records.specs.Sectors.{hasData, noSector, endOfData}
 use Rattle.sector_records.specs.declared.Sector.{Sector}
 
 -- some sector of a list passes the test
 unfoldable pub someSector : (Sector → Bool) → List Sector → Bool
 someSector test [] = false
 someSector test (s ∷ ss) = test s || someSector test ss
-
--- 6.16: a data mark is found: the record's is not 0
-abbrev pub hasDataMark : Sector → Bool
-hasDataMark s = not (eqb (s .«data_mark») 0)
-
--- 6.12: data is read where L is more than 0
-abbrev pub dataIsRead : Sector → Bool
-dataIsRead s = ltb 0 (s .«data_length»)
 
 -- 7.1: LGT, long track: N is above 103,000. At 0, with N
 abbrev pub lgt : (N : ℕ) → Row
@@ -74,11 +66,11 @@ ssz s = record { holds = not (eqb (s .«size_code») 2) && not (eqb (s .«size_c
 abbrev pub nsi : Sector → Row
 nsi s = record { holds = not (eqb (s .mark) 0xFE); place = s .place; detail = s .mark }
 
--- 7.12: NSD, non-standard data mark: there is one, and it is neither F8 nor FB, so F9 or FA. At p, with the mark byte
+-- 7.12: NSD, non-standard data mark: the sector has data, and its mark is neither F8 nor FB, so F9 or FA. At p, with the mark byte
 abbrev pub nsd : Sector → Row
 nsd s =
     record {
-      holds = hasDataMark s && (not (eqb (s .«data_mark») 0xF8) && not (eqb (s .«data_mark») 0xFB));
+      holds = hasData s && (not (eqb (s .«data_mark») 0xF8) && not (eqb (s .«data_mark») 0xFB));
       place = s .place;
       detail = s .«data_mark»;
     }
@@ -87,29 +79,29 @@ nsd s =
 abbrev pub sbi : Sector → Row
 sbi s = record { holds = not (s .«id_check_good»); place = s .place; detail = s .number }
 
--- 7.14: SND, sector with no data: the ID check is good, but no data mark is found. At p, with the number
+-- 7.14: SND, sector with no data: the ID check is good, but there is no data. At p, with the number
 abbrev pub snd : Sector → Row
-snd s = record { holds = s .«id_check_good» && not (hasDataMark s); place = s .place; detail = s .number }
+snd s = record { holds = s .«id_check_good» && not (hasData s); place = s .place; detail = s .number }
 
--- 7.15: SBD, sector with bad data: data is read, and the data check is bad. At p, with the number
+-- 7.15: SBD, sector with bad data: there is data, and its check is bad. At p, with the number
 abbrev pub sbd : Sector → Row
-sbd s = record { holds = dataIsRead s && not (s .«data_check_good»); place = s .place; detail = s .number }
+sbd s = record { holds = hasData s && not (s .«data_check_good»); place = s .place; detail = s .number }
 
--- 7.16: DOI, data over the index: data is read, q is below N, and the data end above N. At p, with the cells from N to the data end
+-- 7.16: DOI, data over the index: there is data, q is below N, and the data end above N. At p, with the cells from N to the data end
 abbrev pub doi : (N : ℕ) → Sector → Row
-doi N s = record { holds = dataIsRead s && (ltb (s .«data_place») N && ltb N (endOfData s)); place = s .place; detail = endOfData s - N }
+doi N s = record { holds = hasData s && (ltb (s .«data_place») N && ltb N (endOfData s)); place = s .place; detail = endOfData s - N }
 
--- 7.17: DBI, data beyond the index: there is a data mark, and q is N or more. At p, with the cells from N to q
+-- 7.17: DBI, data beyond the index: there is data, and q is N or more. At p, with the cells from N to q
 abbrev pub dbi : (N : ℕ) → Sector → Row
-dbi N s = record { holds = hasDataMark s && leb N (s .«data_place»); place = s .place; detail = s .«data_place» - N }
+dbi N s = record { holds = hasData s && leb N (s .«data_place»); place = s .place; detail = s .«data_place» - N }
 
 -- 7.37: place x is at least the other sector's q, and below its data end
 abbrev pub isInData : ℕ → Sector → Bool
 isInData x other = leb (other .«data_place») x && ltb x (endOfData other)
 
--- 7.37: the other sector has another place, its data is read, and p or p + N falls into it
+-- 7.37: the other sector has another place and has data, and p or p + N falls into it
 unfoldable pub startsInData : ℕ → Sector → Sector → Bool
-startsInData N s other = (not (eqb (other .place) (s .place)) && dataIsRead other) && (isInData (s .place) other || isInData (s .place + N) other)
+startsInData N s other = (not (eqb (other .place) (s .place)) && hasData other) && (isInData (s .place) other || isInData (s .place + N) other)
 
 -- 7.18: SWS, sector within a sector: p falls into the data of some other sector. At p, with the number
 abbrev pub sws : (N : ℕ) → List Sector → Sector → Row

@@ -162,13 +162,13 @@ pub fn data_rule(k: usize, n: u32, s: Sector) -> Row
         },
         // SBD
         2 => Row {
-            holds: (0 < s.data_length) & !s.data_check_good,
+            holds: (s.data_mark != 0) & !s.data_check_good,
             place: s.place as usize,
             detail: s.number as usize,
         },
         // DOI
         3 => Row {
-            holds: (0 < s.data_length) & ((s.data_place < n) & ((n as usize) < data_end(s))),
+            holds: (s.data_mark != 0) & ((s.data_place < n) & ((n as usize) < data_end(s))),
             place: s.place as usize,
             detail: less(data_end(s), n as usize),
         },
@@ -208,7 +208,7 @@ pub fn starts_in_data(n: u32, s: Sector, e: Sector) -> bool
     ensures { λ r. ⌜ r ≡ startsInData n s e ⌝ }
 {
     let place = s.place as usize;
-    ((e.place != s.place) & (0 < e.data_length))
+    ((e.place != s.place) & (e.data_mark != 0))
         & (is_in_data(place, e) | is_in_data(place + n as usize, e))
 }
 

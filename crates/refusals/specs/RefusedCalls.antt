@@ -6,7 +6,7 @@ use Rattle.basis.specs.Lists.{writtenOver}
 use Rattle.refusals.specs.declared.Counted.{Counted}
 use Rattle.refusals.specs.declared.Counted.the-variants.{Count, Refused}
 use Rattle.refusals.specs.declared.Refusal.{Refusal}
-use Rattle.refusals.specs.declared.Refusal.the-variants.{TrackOrSide, CellCount, TooFewBytes, TooManySectors, ListTooShort, NoTimings, TooManyTimings, TimingOutOfRange, TooManyCells, NoRoom, NoSuchSector, NoDataRead, NoRoomForBytes, TooManyBytes, NotATrackFile, NotATrackBlock, NoSuchRevolution}
+use Rattle.refusals.specs.declared.Refusal.the-variants.{TrackOrSide, CellCount, TooFewBytes, TooManySectors, ListTooShort, NoTimings, TooManyTimings, TimingOutOfRange, TooManyCells, NoRoom, NoSuchSector, NoData, NoRoomForBytes, TooManyBytes, NotATrackFile, NotATrackBlock, NoSuchRevolution}
 
 -- 8.1, 8.2, 8.3, 8.4, 8.5, 8.6, 8.7, 8.8, 8.9, 8.10, 8.11, 8.12, 8.13, 8.14, 8.15, 8.16, 8.17: `numberOf` is the number of a refusal, the K
 -- of rule 8.K, and `valueOf` what is given beside it: the number that it carries, or 0 where it carries none
@@ -22,7 +22,7 @@ numberOf (TimingOutOfRange index) = 8
 numberOf (TooManyCells cells) = 9
 numberOf (NoRoom needed) = 10
 numberOf (NoSuchSector sectors) = 11
-numberOf NoDataRead = 12
+numberOf NoData = 12
 numberOf (NoRoomForBytes needed) = 13
 numberOf (TooManyBytes given) = 14
 numberOf NotATrackFile = 15
@@ -41,7 +41,7 @@ valueOf (TimingOutOfRange index) = index
 valueOf (TooManyCells cells) = cells
 valueOf (NoRoom needed) = needed
 valueOf (NoSuchSector sectors) = sectors
-valueOf NoDataRead = 0
+valueOf NoData = 0
 valueOf (NoRoomForBytes needed) = needed
 valueOf (TooManyBytes given) = given
 valueOf NotATrackFile = 0

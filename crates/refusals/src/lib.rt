@@ -26,8 +26,8 @@ pub enum Refusal {
     NoRoom(usize),
     // 11: the sectors, none of which has the index asked for.
     NoSuchSector(usize),
-    // 12: the sector has no data read.
-    NoDataRead,
+    // 12: the sector has no data.
+    NoData,
     // 13: the bytes needed, where there is too little room.
     NoRoomForBytes(usize),
     // 14: the bytes given, above 8,192 to code or 16,384 to decode.
@@ -63,7 +63,7 @@ impl Refusal {
             Refusal::TooManyCells(_) => 9,
             Refusal::NoRoom(_) => 10,
             Refusal::NoSuchSector(_) => 11,
-            Refusal::NoDataRead => 12,
+            Refusal::NoData => 12,
             Refusal::NoRoomForBytes(_) => 13,
             Refusal::TooManyBytes(_) => 14,
             Refusal::NotATrackFile => 15,
@@ -88,7 +88,7 @@ impl Refusal {
             Refusal::TooManyCells(cells) => cells,
             Refusal::NoRoom(needed) => needed,
             Refusal::NoSuchSector(sectors) => sectors,
-            Refusal::NoDataRead => 0,
+            Refusal::NoData => 0,
             Refusal::NoRoomForBytes(needed) => needed,
             Refusal::TooManyBytes(given) => given,
             Refusal::NotATrackFile => 0,

@@ -1,22 +1,24 @@
 -- Laws over the places of sectors, with the mark's length, the ID's length and the reach as numbers: the least place of a search, the
 -- order of sectors, their places, and the end of their data. Assumes nothing.
-use Prim.Native.Nat.{ℕ, zero, suc, _+_, _-_, _*_, _<_, _≤_}
+use Prim.Native.Nat.{ℕ, zero, suc, _+_, _-_, _*_, _<_, _≤_, _%_}
 use mathlib.Core.Path.{_≡_, refl, sym, ap, _∙_}
-use mathlib.Core.Bool.{Bool, true, false, cond}
+use mathlib.Core.Bool.{Bool, true, false, not, cond, _&&_}
 use mathlib.Core.List.{List, [], _∷_}
 use native.Mathlib.Decide.{decLe}
 use native.Mathlib.Nat.{lt-of-not-le}
 use native.Mathlib.Omega.{arith}
-use borrow.Author.Tests.{leb-true, leb-false}
-use lib.ListN.{length, getD, List·getD-eq-default}
+use borrow.Author.Tests.{ne-eqb, leb-true, leb-false}
+use lib.Dec.{eqb, leb}
+use lib.ListN.{length, getD}
 use Rattle.basis.specs.Lists.{joined}
 use Rattle.basis.specs.Search.{least}
+use Rattle.basis.proofs.Bools.{and-left, and-right}
 use Rattle.basis.proofs.Joined.{From, joined-grows, index-below, element-of, element-from}
 use Rattle.basis.proofs.Search.{least-before, least-found, least-low, least-high}
 use Rattle.cells.specs.CellsAndBytes.{cell}
-use Rattle.sector_records.specs.Marks.{idMarkAt, dataMarkAt}
+use Rattle.sector_records.specs.Marks.{markAt, markByte, markOf, idMarkAt, dataMarkAt}
 use Rattle.sector_records.specs.declared.Sector.{Sector}
-use Rattle.sector_records.specs.Sectors.{checkLength, markLength, idLength, reach, leastWithin, leastData, dataFound, lengthOf, idByte, dataLength, endOfData, sectorAt, noSector, sectorsAt, sectorsOf}
+use Rattle.sector_records.specs.Sectors.{checkLength, markLength, idLength, reach, leastWithin, leastData, dataFound, lengthOf, idByte, dataLength, hasData, endOfData, sectorAt, noSector, sectorsAt, sectorsOf}
 
 -- q is the least place from p + after to p + until that passes the test
 pub record LeastWithin (test : ℕ → Bool) (after until p q : ℕ) : Type 0 where
@@ -82,6 +84,24 @@ data-least f p e = rw e (within-found (dataMarkAt f) idLength reach p (leb-true 
 pub data-none : (f : ℕ → ℕ) (p : ℕ) → dataFound f p ≡ false → (r : ℕ) → p + idLength ≤ r → r ≤ p + reach → dataMarkAt f r ≡ false
 data-none f p e r h l = within-none (dataMarkAt f) idLength reach p (leb-false (leastData f p) (p + reach) e) r h l
 
+-- the byte of a mark that is looked for from `low` on
+mark-from : (f : ℕ → ℕ) (low high q : ℕ) → markOf f low high q ≡ true → low ≤ markByte f q
+unfolding markOf
+mark-from f low high q e =
+    leb-true low (markByte f q)
+    (and-left (leb low (markByte f q)) (leb (markByte f q) high) (and-right (markAt f q) (leb low (markByte f q) && leb (markByte f q) high) e))
+
+-- 6.12: a record tells of data exactly where a data mark is found
+pub has-data : (f : ℕ → ℕ) (p : ℕ) → hasData (sectorAt f p) ≡ dataFound f p
+unfolding sectorAt
+has-data f p = go (dataFound f p) refl
+  where
+    go : (b : Bool) → dataFound f p ≡ b → not (eqb (cond b (markByte f (leastData f p)) 0) 0) ≡ b
+    go true e =
+        let l = within-found (dataMarkAt f) idLength reach p (leb-true (leastData f p) (p + reach) e) in
+        rw (ne-eqb (markByte f (leastData f p)) 0 (λ z. omega (arith, mark-from f 0xF8 0xFB (leastData f p) (l .passes))))
+    go false e = refl
+
 -- data that starts within the reach of a place on the track ends before the track's second turn does, where the reach, the mark and the
 -- most bytes together fit the track
 pub end-in-two-turns : (mark reach most n p q l : ℕ) → reach + mark + 16 * most + 32 ≤ n → p < n → q ≤ p + reach → l ≤ most
@@ -90,15 +110,14 @@ end-in-two-turns mark reach most n p q l room h g k = omega arith
 
 pub length-most : (code : ℕ) → lengthOf code ≤ 1024
 unfolding lengthOf
-length-most zero = omega arith
-length-most (suc zero) = omega arith
-length-most (suc (suc zero)) = omega arith
-length-most (suc (suc (suc zero))) = omega arith
-length-most (suc (suc (suc (suc code)))) = omega arith
-
-pub no-length : (code : ℕ) → 4 ≤ code → lengthOf code ≡ 0
-unfolding lengthOf
-no-length code h = List·getD-eq-default {A = ℕ} (128 ∷ 256 ∷ 512 ∷ 1024 ∷ []) 0 h
+length-most code = go (code % 4) (omega arith)
+  where
+    go : (r : ℕ) → r < 4 → getD (128 ∷ 256 ∷ 512 ∷ 1024 ∷ []) r 0 ≤ 1024
+    go zero h = omega arith
+    go (suc zero) h = omega arith
+    go (suc (suc zero)) h = omega arith
+    go (suc (suc (suc zero))) h = omega arith
+    go (suc (suc (suc (suc r)))) h = absurd (omega arith)
 
 -- so reading a sector goes round the track at most once
 pub data-end-below : (f : ℕ → ℕ) (n p : ℕ) → 20000 ≤ n → p < n → endOfData (sectorAt f p) < 2 * n

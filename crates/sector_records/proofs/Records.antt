@@ -2,14 +2,14 @@
 use Prim.Native.Nat.{ℕ, _+_}
 use mathlib.Core.Path.{_≡_}
 use mathlib.Core.Bool.{Bool, cond, _&&_}
-use lib.Dec.{leb, ltb}
+use lib.Dec.{leb}
 use Rattle.sector_records.specs.Marks.{markByte}
 use Rattle.sector_records.specs.Sectors.{reach, checkGood, leastData, lengthOf, idByte, dataLength, sectorAt}
 
 pub record-is : (f : ℕ → ℕ) (p mark track side number code : ℕ) (id-good : Bool) (q place data-mark long : ℕ) (good : Bool)
     → mark ≡ markByte f p → track ≡ idByte f p 0 → side ≡ idByte f p 1 → number ≡ idByte f p 2 → code ≡ idByte f p 3 → id-good ≡ checkGood f p 4
     → q ≡ leastData f p → place ≡ cond (leb q (p + reach)) q 0 → data-mark ≡ cond (leb q (p + reach)) (markByte f q) 0
-    → long ≡ cond (leb q (p + reach)) (lengthOf code) 0 → good ≡ (ltb 0 long && checkGood f q long)
+    → long ≡ cond (leb q (p + reach)) (lengthOf code) 0 → good ≡ (leb q (p + reach) && checkGood f q long)
     → record {
       place = p;
       mark = mark;

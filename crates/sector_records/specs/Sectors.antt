@@ -5,10 +5,10 @@
 --
 -- f are the cells of the track, which go on round it. The main property: `sectorsOf` has each ID mark's record, in the order of places.
 -- Assumes nothing.
-use Prim.Native.Nat.{ℕ, suc, _+_, _-_, _*_}
-use mathlib.Core.Bool.{Bool, false, cond, _&&_}
+use Prim.Native.Nat.{ℕ, suc, _+_, _-_, _*_, _%_}
+use mathlib.Core.Bool.{Bool, false, not, cond, _&&_}
 use mathlib.Core.List.{List, [], _∷_, _++_}
-use lib.Dec.{eqb, ltb, leb}
+use lib.Dec.{eqb, leb}
 use lib.ListN.{length, getD, take, replicate}
 use Rattle.basis.specs.Lists.{listed, joined}
 use Rattle.basis.specs.Search.{least}
@@ -61,24 +61,24 @@ leastWithin test after until p = least test (until + 1 - after) (p + after)
 abbrev pub leastData : (ℕ → ℕ) → ℕ → ℕ
 leastData f p = leastWithin (dataMarkAt f) idLength reach p
 
--- 6.9: there is a data mark at these places
+-- 6.9, 6.12: there is a data mark at these places, so the sector has data
 abbrev pub dataFound : (ℕ → ℕ) → ℕ → Bool
 dataFound f p = leb (leastData f p) (p + reach)
 
--- 6.11: the length L that a size code stands for. Codes above 3 have none, which is 0 here
+-- 6.11: the length L that a size code stands for. Only the code's remainder by 4 counts
 unfoldable pub lengthOf : ℕ → ℕ
-lengthOf code = getD (128 ∷ 256 ∷ 512 ∷ 1024 ∷ []) code 0
+lengthOf code = getD (128 ∷ 256 ∷ 512 ∷ 1024 ∷ []) (code % 4) 0
 
 -- 6.6: byte i of an ID, after its mark byte: 0 is the track, 1 the side, 2 the number, 3 the size code
 abbrev pub idByte : (ℕ → ℕ) → ℕ → ℕ → ℕ
 idByte f p i = byteOn f (p + markLength + 16 * i)
 
--- 6.12: L where data is read. It is 0 where no data mark is found, and where the size code has no length
+-- 6.12: the length of a sector's data; 0 where it has none
 unfoldable pub dataLength : (ℕ → ℕ) → ℕ → ℕ
 dataLength f p = cond (dataFound f p) (lengthOf (idByte f p 3)) 0
 
--- 6.8, 6.15, 6.16: the record of the sector with its ID mark at p. Without a data mark its place and byte are 0; the data check is bad
--- where L is 0
+-- 6.8, 6.15, 6.16: the record of the sector with its ID mark at p. Where it has no data, the place and the byte of the data mark are 0, and
+-- the data check is bad
 unfoldable pub sectorAt : (ℕ → ℕ) → ℕ → Sector
 sectorAt f p =
     record {
@@ -92,8 +92,12 @@ sectorAt f p =
       «data_place» = cond (dataFound f p) (leastData f p) 0;
       «data_mark» = cond (dataFound f p) (markByte f (leastData f p)) 0;
       «data_length» = dataLength f p;
-      «data_check_good» = ltb 0 (dataLength f p) && checkGood f (leastData f p) (dataLength f p);
+      «data_check_good» = dataFound f p && checkGood f (leastData f p) (dataLength f p);
     }
+
+-- 6.12, 6.16: a sector has data where its record has a data mark, whose byte is not 0
+abbrev pub hasData : Sector → Bool
+hasData s = not (eqb (s .«data_mark») 0)
 
 -- 6.14: where the data of a sector ends: after its mark, its L bytes and their check bytes
 abbrev pub endOfData : Sector → ℕ

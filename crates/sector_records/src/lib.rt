@@ -41,7 +41,7 @@ pub struct Sector {
     // Where its data mark stands, and the mark's byte; 0 where there is none.
     pub data_place: u32,
     pub data_mark: u8,
-    // How many data bytes are read, and their check. It is bad where none are.
+    // How many data bytes there are, and their check. It is bad where there are none.
     pub data_length: u32,
     pub data_check_good: bool,
 }
@@ -81,6 +81,9 @@ const SYNCS: u64 = 0x4489_4489_4489;
 const SYNC_CELLS: usize = 48;
 
 const AFTER_SYNCS: u16 = 0xCDB4;
+
+// How many size codes there are to the controller.
+const SIZE_CODES: u8 = 4;
 
 // The bytes of an ID that its check covers, without the mark.
 const ID_BYTES: usize = 4;
@@ -172,7 +175,7 @@ fn sector_at(bytes: &[u8], n: usize, p: usize) -> Sector
     let data_place = place_if(found, q);
     let data_mark = mark_if(found, bytes, n, q);
     let data_length = length_if(found, size_code);
-    let data_check_good = data_good(bytes, n, q, data_length);
+    let data_check_good = data_good(found, bytes, n, q, data_length);
     Sector {
         place: p as u32,
         mark,
@@ -233,28 +236,28 @@ fn length_if(found: bool, code: u8) -> u32
     if found { length_of(code) } else { 0 }
 }
 
-// The data length of a size code, 0 for a code that has none.
+// The data length of a size code, of which the controller sees the two low bits.
 fn length_of(code: u8) -> u32
     ensures { λ r. ⌜ (r ≡ lengthOf code) × (r ≤ 1024) ⌝ }
 {
-    match code {
+    match code % SIZE_CODES {
         0 => 128,
         1 => 256,
         2 => 512,
-        3 => 1024,
-        _ => 0,
+        _ => 1024,
     }
 }
 
-// Is data read, and its check good?
-fn data_good(bytes: &[u8], n: usize, q: usize, length: u32) -> bool
+// Is there data, and is its check good?
+fn data_good(found: bool, bytes: &[u8], n: usize, q: usize, length: u32) -> bool
     requires { ⌜ (q < 200000) × (length ≤ 1024) ⌝ }
-    ensures { λ r. ⌜ r ≡ (ltb 0 length && checkGood (cell (now (bytes .entry)) n) q length) ⌝ }
+    ensures { λ r. ⌜ r ≡ (found && checkGood (cell (now (bytes .entry)) n) q length) ⌝ }
 {
-    if length == 0 {
-        return false;
+    if found {
+        check_good(bytes, n, q, length as usize)
+    } else {
+        false
     }
-    check_good(bytes, n, q, length as usize)
 }
 
 // Is the check good of the field whose mark stands at p, with k bytes after the mark byte?

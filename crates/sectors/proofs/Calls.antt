@@ -57,17 +57,17 @@ module _ {A : Type 0} (count : ℕ) (next : Answer A) where
   index-accepted index l = rw (lt-leb count index l)
 
 module _ (s : Sector) (room : ℕ) where
-  pub refuses-12 : s .«data_length» ≡ 0 → refused 12 0 ≡ dataJudged s room
+  pub refuses-12 : s .«data_mark» ≡ 0 → refused 12 0 ≡ dataJudged s room
   unfolding dataJudged
-  refuses-12 e = rw (eq-eqb (s .«data_length») 0 e)
+  refuses-12 e = rw (eq-eqb (s .«data_mark») 0 e)
 
-  pub refuses-13 : (s .«data_length» ≡ 0 → ⊥) → room < s .«data_length» → refused 13 (s .«data_length») ≡ dataJudged s room
+  pub refuses-13 : (s .«data_mark» ≡ 0 → ⊥) → room < s .«data_length» → refused 13 (s .«data_length») ≡ dataJudged s room
   unfolding dataJudged
-  refuses-13 e l = rw (ne-eqb (s .«data_length») 0 e, lt-ltb room (s .«data_length») l)
+  refuses-13 e l = rw (ne-eqb (s .«data_mark») 0 e, lt-ltb room (s .«data_length») l)
 
-  pub data-accepted : (s .«data_length» ≡ 0 → ⊥) → s .«data_length» ≤ room → gives (record { size = s .«data_length»; good = s .«data_check_good» }) ≡ dataJudged s room
+  pub data-accepted : (s .«data_mark» ≡ 0 → ⊥) → s .«data_length» ≤ room → gives (record { size = s .«data_length»; good = s .«data_check_good» }) ≡ dataJudged s room
   unfolding dataJudged
-  data-accepted e l = rw (ne-eqb (s .«data_length») 0 e, le-ltb room (s .«data_length») l)
+  data-accepted e l = rw (ne-eqb (s .«data_mark») 0 e, le-ltb room (s .«data_length») l)
 
 -- y refuses as x does, and where x is accepted it is `next`
 pub record Follows {A B : Type 0} (x : Answer A) (y next : Answer B) : Type 0 where

@@ -2,14 +2,14 @@
 -- of section 8 that they judge. `bytes` are the packed cells of a track of N cells; T and H are the track and the side of the drive. The
 -- main property: each answer is the first refusal that holds, in the order of section 9, or what the call gives. Assumes nothing.
 use Prim.Native.Nat.{ℕ}
-use mathlib.Core.Bool.{Bool, cond, _||_}
+use mathlib.Core.Bool.{Bool, not, cond, _||_}
 use mathlib.Core.List.{List, []}
-use lib.Dec.{eqb, ltb, leb}
+use lib.Dec.{ltb, leb}
 use lib.ListN.{length, getD}
 use Rattle.cells.specs.CellsAndBytes.{cell, bytesFor}
 use Rattle.refusals.specs.RefusedCalls.{Answer, refusedWith, bufferAfter}
 use Rattle.refusals.specs.RefusedCalls.Answer.{gives, refused}
-use Rattle.sector_records.specs.Sectors.{noSector, sectorsOf, kept, dataBytes}
+use Rattle.sector_records.specs.Sectors.{hasData, noSector, sectorsOf, kept, dataBytes}
 use Rattle.sector_records.specs.declared.Sector.{Sector}
 use Rattle.sector_records.specs.declared.Sectors.{Sectors}
 use Rattle.sectors.specs.declared.ReadOut.{ReadOut}
@@ -65,11 +65,11 @@ abbrev pub readOutAnswer : ReadOut → Answer DataRead
 readOutAnswer (Data size good) = gives (record { size = size; good = good })
 readOutAnswer (Refused refusal) = refusedWith refusal
 
--- 6.18, 8.12, 8.13, 9.4: reading out this sector into `room` bytes: 12 where no data is read, 13 where they are too few for L, and else L
+-- 6.18, 8.12, 8.13, 9.4: reading out this sector into `room` bytes: 12 where it has no data, 13 where they are too few for L, and else L
 -- and the data check, be it good or bad
 unfoldable pub dataJudged : Sector → ℕ → Answer DataRead
 dataJudged s room =
-    cond (eqb (s .«data_length») 0) (refused 12 0)
+    cond (not (hasData s)) (refused 12 0)
     (cond (ltb room (s .«data_length»)) (refused 13 (s .«data_length»))
     (gives (record { size = s .«data_length»; good = s .«data_check_good» })))
 

@@ -138,10 +138,10 @@ fn read_sector(bytes: &[u8], n: usize, sector: Sector, buffer: &mut [u8]) -> Rea
     ensures answer { λ r. ⌜ readOutAnswer r ≡ dataJudged sector (length (now (buffer .entry))) ⌝ }
     ensures buffer { λ _. ⌜ now (buffer .exit) ≡ bufferAfter (dataJudged sector (length (now (buffer .entry)))) (dataBytes (cell (now (bytes .entry)) n) sector) (now (buffer .entry)) ⌝ }
 {
-    let size = sector.data_length as usize;
-    if size == 0 {
-        return ReadOut::Refused(Refusal::NoDataRead);
+    if sector.data_mark == 0 {
+        return ReadOut::Refused(Refusal::NoData);
     }
+    let size = sector.data_length as usize;
     if buffer.len() < size {
         return ReadOut::Refused(Refusal::NoRoomForBytes(size));
     }

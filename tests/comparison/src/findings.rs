@@ -7,6 +7,7 @@ use second_program::findings::{self, Finding};
 use second_program::refusal::Refusal;
 use std::fmt::Display;
 use test_inputs::random::Random;
+use test_inputs::size_code_tracks::size_code_tracks;
 use test_inputs::track_builder::{filled, nine_sectors, odd_track, standard_track, turn, SectorPlan, TrackBuilder};
 use thikbromu::boundary::{self, FindingRecord, FINDING_NUMBERS};
 use thikbromu::Track;
@@ -208,6 +209,23 @@ pub fn edges(report: &mut Report) {
     whole_track(&mut group, &mut seen, &vec![1; 100_000], (80, 0));
     for kind in 1..=21 {
         group.same(seen[kind] > 0, true, || format!("kind {kind} was reached"));
+    }
+    group.close(report);
+}
+
+/// Every size code: kinds 9 and 10 go by all of its bits, the kinds about data by the length of its remainder by 4.
+pub fn size_codes(report: &mut Report) {
+    let mut group = Group::new("findings of size codes 0 to 255");
+    let mut random = Random::new(31);
+    for code in 0..=255 {
+        let mut seen = [0; 22];
+        for track_cells in size_code_tracks(&mut random, code) {
+            whole_track(&mut group, &mut seen, &track_cells, (0, 0));
+        }
+        for kind in 14..=19 {
+            group.same(seen[kind] > 0, true, || format!("size code {code}, kind {kind} was reached"));
+        }
+        group.same((seen[9] > 0, seen[10] > 0), (code > 3, code < 2 || code > 3), || format!("size code {code}, kinds 9 and 10"));
     }
     group.close(report);
 }

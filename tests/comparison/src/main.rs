@@ -28,7 +28,7 @@ use std::thread;
 type Part = fn(&mut Report);
 
 /// The parts, by their modules. The long ones come first, so that no worker is left alone with one at the end.
-const PARTS: [(&str, Part); 40] = [
+const PARTS: [(&str, Part); 42] = [
     ("files", files::in_memory),
     ("findings", findings::any_tracks),
     ("sectors", sectors::standard),
@@ -40,6 +40,8 @@ const PARTS: [(&str, Part); 40] = [
     ("blocks", blocks::cells),
     ("blocks", blocks::portions),
     ("findings", findings::edges),
+    ("findings", findings::size_codes),
+    ("sectors", sectors::size_codes),
     ("program", program::portions),
     ("blocks", blocks::timings),
     ("blocks", blocks::short_rooms),

@@ -6,6 +6,7 @@ use second_program::cells;
 use second_program::refusal::Refusal;
 use second_program::sectors::{self, SectorRecord};
 use test_inputs::random::Random;
+use test_inputs::size_code_tracks::{self, size_code_tracks};
 use test_inputs::track_builder::{filled, odd_track, standard_track, turn, SectorPlan, TrackBuilder};
 use thikbromu::boundary::{self, SECTOR_NUMBERS};
 
@@ -257,6 +258,34 @@ pub fn phases_and_lengths(report: &mut Report) {
         for n in [99_984 + phase, 100_001 + phase] {
             let track = packed(&turn(&filled(standard_cells.clone(), n), phase));
             whole_track(&mut group, &mut random, &track, (3, 1));
+        }
+    }
+    group.close(report);
+}
+
+/// Every size code: with a data mark and without one, with the data over the index, and with another mark within the data.
+pub fn size_codes(report: &mut Report) {
+    let mut group = Group::new("sectors of size codes 0 to 255");
+    let mut random = Random::new(24);
+    for code in 0..=255 {
+        // The length by the table of rule 6.11.
+        let length = [128, 256, 512, 1024][usize::from(code) % 4];
+        for (shape, track_cells) in size_code_tracks(&mut random, code).iter().enumerate() {
+            let track = packed(track_cells);
+            if shape == 0 {
+                let (place, data_place) = (size_code_tracks::PLACE as u32, size_code_tracks::DATA_PLACE as u32);
+                let record = [place, 0xFE, 0, 0, 1, u32::from(code), 1, data_place, 0xFB, length as u32, 1];
+                let mut numbers = [u32::MAX; SECTOR_NUMBERS];
+                let ours = answer(boundary::sector(&track.bytes, track.n, 0, 0, 0, &mut numbers));
+                group.same((ours, numbers), (Ok(1), record), || format!("size code {code}"));
+                for room in [0, length - 1, length + 1] {
+                    read_case(&mut group, &track, (0, 0), 0, room);
+                }
+            }
+            whole_track(&mut group, &mut random, &track, (0, 0));
+            for index in 0..=1 {
+                read_case(&mut group, &track, (0, 0), index, length);
+            }
         }
     }
     group.close(report);

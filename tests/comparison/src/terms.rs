@@ -23,7 +23,7 @@ fn refusal(ours: thikbromu::Refusal) -> Refusal {
         // The same row for timings: `too_little_room_for_timings` has its number and its value.
         Ours::NoRoom(needed) => Refusal::too_little_room_for_cells(needed),
         Ours::NoSuchSector(sectors) => Refusal::no_such_sector(sectors),
-        Ours::NoDataRead => Refusal::no_data_read(),
+        Ours::NoData => Refusal::no_data(),
         Ours::NoRoomForBytes(needed) => Refusal::too_little_room_for_bytes(needed),
         Ours::TooManyBytes(given) => Refusal::too_many_bytes(given),
         Ours::NotATrackFile => Refusal::not_a_track_file(),
@@ -80,7 +80,7 @@ pub fn tables(report: &mut Report) {
         Refusal::too_little_room_for_cells(7),
         Refusal::too_little_room_for_timings(7),
         Refusal::no_such_sector(7),
-        Refusal::no_data_read(),
+        Refusal::no_data(),
         Refusal::too_little_room_for_bytes(7),
         Refusal::too_many_bytes(7),
         Refusal::not_a_track_file(),

@@ -72,6 +72,16 @@ fn id_fields() -> Vec<u8> {
     file_of_cells(7, 0, &track_cells)
 }
 
+/// Two sectors of size code 6, each with 512 bytes of data; the check of the second is bad.
+fn size_code_6() -> Vec<u8> {
+    let track_cells = changed(22, |plan| match plan.number {
+        3 => plan.size_code = 6,
+        7 => (plan.size_code, plan.data_check_error) = (6, 0x0001),
+        _ => {}
+    });
+    file_of_cells(22, 0, &track_cells)
+}
+
 /// A data mark that is not usual, an ID with a bad check, an ID without data, data with a bad check.
 fn checks() -> Vec<u8> {
     let track_cells = changed(30, |plan| match plan.number {
@@ -123,6 +133,7 @@ fn main() {
         ("long-track", long_track()),
         ("sector-numbers", sector_numbers()),
         ("id-fields", id_fields()),
+        ("size-code-6", size_code_6()),
         ("checks", checks()),
         ("data-over-index", file_of_cells(0, 0, &over_index)),
         ("data-behind-index", file_of_cells(0, 0, &behind_index)),

@@ -128,8 +128,7 @@ fn has_earlier_duplicate(sectors: &[SectorRecord], index: usize) -> bool {
         .any(|earlier| earlier.number == sectors[index].number)
 }
 
-/// Whether another sector's data covers this sector's place (rule 7.37). Only data that
-/// is read covers cells.
+/// Whether another sector's data covers this sector's place (rule 7.37).
 fn lies_in_other_data(track: &Track, index: usize) -> bool {
     let p = track.sectors[index].place;
     track
@@ -193,14 +192,14 @@ fn sector_detail(track: &Track, kind: u32, index: usize) -> Option<usize> {
         ),
         NSI => (sector.mark != 0xFE, usize::from(sector.mark)),
         NSD => (
-            sector.has_data_mark() && sector.data_mark != 0xF8 && sector.data_mark != 0xFB,
+            sector.has_data() && sector.data_mark != 0xF8 && sector.data_mark != 0xFB,
             usize::from(sector.data_mark),
         ),
         SBI => (!sector.id_check_good, number),
-        SND => (sector.id_check_good && !sector.has_data_mark(), number),
+        SND => (sector.id_check_good && !sector.has_data(), number),
         SBD => (sector.has_data() && !sector.data_check_good, number),
         DOI if sector.has_data() && q < n && sector.data_end() > n => (true, sector.data_end() - n),
-        DBI if sector.has_data_mark() && q >= n => (true, q - n),
+        DBI if sector.has_data() && q >= n => (true, q - n),
         SWS => (lies_in_other_data(track, index), number),
         SID => {
             let count = syncs_in_sector(track, sector);

@@ -96,8 +96,8 @@ impl Refusal {
         Refusal::new(11, sectors)
     }
 
-    /// 12: of this sector no data is read. Beside it: 0.
-    pub fn no_data_read() -> Refusal {
+    /// 12: the sector has no data. Beside it: 0.
+    pub fn no_data() -> Refusal {
         Refusal::new(12, 0)
     }
 
@@ -146,7 +146,7 @@ mod tests {
             (Refusal::too_little_room_for_cells(2), 10, 2),
             (Refusal::too_little_room_for_timings(4), 10, 4),
             (Refusal::no_such_sector(9), 11, 9),
-            (Refusal::no_data_read(), 12, 0),
+            (Refusal::no_data(), 12, 0),
             (Refusal::too_little_room_for_bytes(512), 13, 512),
             (Refusal::too_many_bytes(8_193), 14, 8_193),
             (Refusal::not_a_track_file(), 15, 0),

@@ -46,25 +46,19 @@ pub struct SectorRecord {
     pub data_place: usize,
     /// The byte of the data mark, F8 to FB; 0 where none is found.
     pub data_mark: u8,
-    /// L, the bytes of data; 0 where no data is read.
+    /// L, the bytes of data; 0 where there is no data.
     pub length: usize,
-    /// Whether the data check is good; bad where no data is read.
+    /// Whether the data check is good; bad where there is no data.
     pub data_check_good: bool,
 }
 
 impl SectorRecord {
-    /// Whether a data mark was found.
-    pub fn has_data_mark(&self) -> bool {
+    /// Whether the sector has data: a data mark was found (rule 6.12).
+    pub fn has_data(&self) -> bool {
         self.data_mark != 0
     }
 
-    /// Whether data is read: there is a data mark, and the size code has a length
-    /// (rule 6.12).
-    pub fn has_data(&self) -> bool {
-        self.length != 0
-    }
-
-    /// The data end, where data is read (rule 6.14).
+    /// The data end, where there is data (rule 6.14).
     pub fn data_end(&self) -> usize {
         self.data_place + MARK_LENGTH + BYTE_LENGTH * self.length + CHECK_LENGTH
     }
@@ -80,14 +74,13 @@ pub fn is_data_mark(byte: u8) -> bool {
     (0xF8..=0xFB).contains(&byte)
 }
 
-/// L by the size code, where it has a length (rule 6.11).
-pub fn length_of(size_code: u8) -> Option<usize> {
-    match size_code {
-        0 => Some(128),
-        1 => Some(256),
-        2 => Some(512),
-        3 => Some(1024),
-        _ => None,
+/// L of a size code: that of its remainder by 4 (rule 6.11).
+pub fn length_of(size_code: u8) -> usize {
+    match size_code % 4 {
+        0 => 128,
+        1 => 256,
+        2 => 512,
+        _ => 1024,
     }
 }
 
@@ -169,11 +162,8 @@ pub fn record_at(bytes: &[u8], n: usize, p: usize) -> SectorRecord {
     if let Some((q, data_mark)) = find_data_mark(bytes, n, p) {
         record.data_place = q;
         record.data_mark = data_mark;
-        // Rule 6.12.
-        if let Some(length) = length_of(record.size_code) {
-            record.length = length;
-            record.data_check_good = check_is_good(bytes, n, q, length);
-        }
+        record.length = length_of(record.size_code);
+        record.data_check_good = check_is_good(bytes, n, q, record.length);
     }
     record
 }
@@ -257,7 +247,7 @@ pub fn read_out(
 ) -> Result<ReadOut, Refusal> {
     let (record, _) = sector_by_index(drive_track, drive_side, bytes, n, index)?;
     if !record.has_data() {
-        return Err(Refusal::no_data_read());
+        return Err(Refusal::no_data());
     }
     if room < record.length {
         return Err(Refusal::too_little_room_for_bytes(record.length));

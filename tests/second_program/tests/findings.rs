@@ -6,7 +6,9 @@ use second_program::findings::*;
 use second_program::mfm::SYNC_A1;
 use second_program::refusal::Refusal;
 use test_inputs::random::Random;
-use test_inputs::track_builder::{odd_track, standard_track, turn, SectorPlan, TrackBuilder};
+use test_inputs::track_builder::{
+    filled, odd_track, standard_track, turn, SectorPlan, TrackBuilder,
+};
 
 const ROOM: usize = 1_000;
 
@@ -187,7 +189,7 @@ type Case = (fn(&mut SectorPlan), Vec<(u32, usize, usize)>);
 #[test]
 fn sector_kinds_7_to_15() {
     let place = standard_place(4);
-    let cases: [Case; 25] = [
+    let cases: [Case; 28] = [
         (|plan| plan.number = 244, vec![]),
         (|plan| plan.number = 245, vec![(ISN, place, 245)]),
         (|plan| plan.number = 246, vec![(ISN, place, 246)]),
@@ -202,16 +204,37 @@ fn sector_kinds_7_to_15() {
         (|plan| plan.side = 1, vec![]),
         (|plan| plan.side = 2, vec![(IIF, place, 2)]),
         (|plan| plan.side = 255, vec![(IIF, place, 255)]),
+        // Kinds 9 and 10 go by the code itself, and not by its remainder.
         (
-            |plan| plan.size_code = 4,
+            |plan| plan.size_code = 6,
+            vec![(IIF, place, 0), (SSZ, place, 6)],
+        ),
+        (
+            |plan| {
+                plan.size_code = 4;
+                plan.data.truncate(128);
+            },
             vec![(IIF, place, 0), (SSZ, place, 4)],
         ),
         (
             |plan| {
                 plan.size_code = 255;
                 plan.side = 9;
+                plan.data = vec![0; 1_024];
             },
             vec![(IIF, place, 9), (SSZ, place, 255)],
+        ),
+        // Of 512 bytes 128 are read, and no check follows them.
+        (
+            |plan| plan.size_code = 4,
+            vec![(IIF, place, 0), (SSZ, place, 4), (SBD, place, 5)],
+        ),
+        (
+            |plan| {
+                plan.size_code = 6;
+                plan.data_mark = None;
+            },
+            vec![(IIF, place, 0), (SSZ, place, 6), (SND, place, 5)],
         ),
         (
             |plan| {
@@ -262,18 +285,26 @@ fn a_bad_id_check_rules_out_a_missing_data_mark() {
 }
 
 #[test]
-fn size_codes_without_length_read_no_data() {
-    // A data mark that is found still counts for NSD, and rules SND out.
+fn size_codes_above_3_read_data() {
     let list = found(
         0,
         &track_with(4, |plan| {
             plan.size_code = 7;
             plan.data_mark = Some(0xF9);
+            plan.data = vec![0; 1_024];
             plan.data_check_error = 1;
         }),
     );
     let place = standard_place(4);
-    assert_eq!(list, [(IIF, place, 0), (SSZ, place, 7), (NSD, place, 0xF9)]);
+    assert_eq!(
+        list,
+        [
+            (IIF, place, 0),
+            (SSZ, place, 7),
+            (NSD, place, 0xF9),
+            (SBD, place, 5)
+        ]
+    );
 }
 
 #[test]
@@ -292,22 +323,38 @@ fn data_over_the_index() {
     ] {
         assert_eq!(found(0, &turn(&plain, by)), expected, "turned by {by}");
     }
-    // Without a length there is no DOI, but still DBI.
-    let without_length = track_with(0, |plan| plan.size_code = 4);
-    let turned = turn(&without_length, n - 5_000);
-    let place = n - 5_000 + 1_152;
-    assert_eq!(found(0, &turned), [(IIF, place, 0), (SSZ, place, 4)]);
-    let turned = turn(&without_length, n - 1_200);
-    let place = n - 48;
-    assert_eq!(
-        found(0, &turned),
-        [(IIF, place, 0), (SSZ, place, 4), (DBI, place, 656)]
-    );
+}
+
+#[test]
+fn data_over_the_index_by_size_codes_above_3() {
+    let n = 100_000;
+    // The data of code 4 ends at 1,152 + 704 + 2,144 = 4,000.
+    let code_4 = track_with(0, |plan| {
+        plan.size_code = 4;
+        plan.data.truncate(128);
+    });
+    // That of code 6 ends where that of code 2 does.
+    let code_6 = track_with(0, |plan| plan.size_code = 6);
+    for (track_cells, code, end) in [(code_4, 4, 4_000), (code_6, 6, 10_144)] {
+        for (by, kind_and_detail) in [
+            (n - end, None),
+            (n - end + 1, Some((DOI, 1))),
+            (n - 1_857, Some((DOI, end - 1_857))),
+            (n - 1_856, Some((DBI, 0))),
+            (n - 1_200, Some((DBI, 656))),
+        ] {
+            let place = by + 1_152;
+            let mut expected = vec![(IIF, place, 0), (SSZ, place, code)];
+            expected.extend(kind_and_detail.map(|(kind, detail)| (kind, place, detail)));
+            let turned = turn(&track_cells, by);
+            assert_eq!(found(0, &turned), expected, "code {code}, turned by {by}");
+        }
+    }
 }
 
 /// Two sectors, the ID of the second beginning at, or one cell before, the end of
-/// the first one's data.
-fn two_sectors(overlap: usize) -> Vec<u8> {
+/// the first one's data. The first has this size code, with 512 bytes.
+fn two_sectors(size_code: u8, overlap: usize) -> Vec<u8> {
     // Data whose check ends in a 0, so that the sync may overlap it.
     let mut data = [0; 512];
     loop {
@@ -320,7 +367,7 @@ fn two_sectors(overlap: usize) -> Vec<u8> {
     }
     let mut builder = TrackBuilder::new();
     builder.write_repeated(0x00, 10);
-    builder.write_id(0xFE, [0, 0, 1, 2], 0);
+    builder.write_id(0xFE, [0, 0, 1, size_code], 0);
     builder.write_data(0xFB, &data, 0);
     builder.remove_last(overlap);
     builder.write_id(0xFE, [0, 0, 2, 2], 0);
@@ -335,16 +382,19 @@ fn two_sectors(overlap: usize) -> Vec<u8> {
 fn a_sector_in_another_sectors_data() {
     let first = 160;
     let end = first + 160 + 8_288;
-    for by in [0, 30_000 - end, 30_000 - end + 1, 30_000 - 3_000, 12_345] {
-        let apart = turn(&two_sectors(0), by);
-        assert_eq!(found_but(&[SHT, NOS, DOI, DBI], &apart), []);
-        let within = turn(&two_sectors(1), by);
-        let place = (end - 1 + by) % within.len();
-        assert_eq!(
-            found_but(&[SHT, NOS, DOI, DBI], &within),
-            [(SWS, place, 2)],
-            "turned by {by}"
-        );
+    for size_code in [2, 6, 254] {
+        for by in [0, 30_000 - end, 30_000 - end + 1, 30_000 - 3_000, 12_345] {
+            let but = [SHT, NOS, IIF, SSZ, DOI, DBI];
+            let apart = turn(&two_sectors(size_code, 0), by);
+            assert_eq!(found_but(&but, &apart), []);
+            let within = turn(&two_sectors(size_code, 1), by);
+            let place = (end - 1 + by) % within.len();
+            assert_eq!(
+                found_but(&but, &within),
+                [(SWS, place, 2)],
+                "size code {size_code}, turned by {by}"
+            );
+        }
     }
 }
 
@@ -426,6 +476,35 @@ fn syncs_in_id_and_data() {
                 expected.push((SID, (160 + by) % 20_000, count));
             }
             assert_eq!(list, expected, "4489 at p+{place}, turned by {by}");
+        }
+    }
+}
+
+#[test]
+fn syncs_in_the_data_of_size_codes_above_3() {
+    for (size_code, length) in [(4, 128), (6, 512), (255, 1_024)] {
+        let end = 160 + 160 + 96 + 16 * length;
+        for (place, count) in [(end - 100, 1), (end - 16, 1), (end - 15, 0)] {
+            let mut builder = TrackBuilder::new();
+            builder.write_repeated(0x00, 10);
+            builder.write_sector(&SectorPlan {
+                size_code,
+                gap_cells: 0,
+                data: vec![0; length],
+                ..SectorPlan::standard(0, 0, 1, 0x00)
+            });
+            let mut track_cells = filled(builder.cells().to_vec(), 20_000);
+            for cell in 0..16 {
+                track_cells[place + cell] = (SYNC_A1 >> (15 - cell) & 1) as u8;
+            }
+            let mut list = found(0, &track_cells);
+            list.retain(|finding| finding.0 == SID);
+            let expected = (count > 0).then_some((SID, 160, count));
+            assert_eq!(
+                list,
+                Vec::from_iter(expected),
+                "size code {size_code}, 4489 at {place}"
+            );
         }
     }
 }

@@ -2,7 +2,7 @@
 
 use second_program::listing::listing;
 use test_inputs::file_inputs::{file_of_cells, file_of_timings, FilePlan};
-use test_inputs::track_builder::standard_track;
+use test_inputs::track_builder::{nine_sectors, standard_track};
 
 fn assert_prints(file: &[u8], expected: &str) {
     assert_eq!(String::from_utf8(listing(file)).unwrap(), expected);
@@ -69,6 +69,27 @@ fn places_and_details_of_a_sector_kind() {
     assert_prints(
         &file_of_cells(80, 1, &standard_track(0, 0, 0xE5)),
         &expected,
+    );
+}
+
+#[test]
+fn size_code_6_reads_512_bytes() {
+    // Sector 3 has a good data check, sector 7 a bad one.
+    let mut builder = nine_sectors(22, 0, 0xE5, |plan| {
+        if plan.number == 3 || plan.number == 7 {
+            plan.size_code = 6;
+            plan.data_check_error = u16::from(plan.number == 7);
+        }
+    });
+    builder.write_repeated(0x4E, 664);
+    assert_prints(
+        &file_of_cells(22, 0, builder.cells()),
+        "T22 H0 cells 100000 sectors 9 findings 5\n\
+         9 IIF level 2 place 20800 detail 0\n\
+         9 IIF level 2 place 60096 detail 0\n\
+         10 SSZ level 2 place 20800 detail 6\n\
+         10 SSZ level 2 place 60096 detail 6\n\
+         15 SBD level 1 place 60096 detail 7\n",
     );
 }
 

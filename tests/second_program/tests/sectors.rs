@@ -149,7 +149,7 @@ fn distances_160_and_784_are_found_and_785_not() {
         });
         builder.write_repeated(0x4E, 100);
         let sector = list_of(builder.cells())[0];
-        assert_eq!(sector.has_data_mark(), found, "gap of {gap_cells} cells");
+        assert_eq!(sector.has_data(), found, "gap of {gap_cells} cells");
         if found {
             assert_eq!(sector.data_place - sector.place, 160 + gap_cells);
             assert!(sector.data_check_good);
@@ -172,7 +172,7 @@ fn distance_159_is_not_found() {
         builder.write_repeated(0x4E, 100);
         let sector = list_of(builder.cells())[0];
         assert!(sector.id_check_good);
-        assert_eq!(sector.has_data_mark(), found);
+        assert_eq!(sector.has_data(), found);
     }
 }
 
@@ -206,7 +206,24 @@ fn an_id_mark_in_between_does_not_end_the_search() {
 
 #[test]
 fn size_codes() {
-    for (size_code, length) in [(0, 128), (1, 256), (2, 512), (3, 1_024), (4, 0), (255, 0)] {
+    for (size_code, length) in [
+        (0, 128),
+        (1, 256),
+        (2, 512),
+        (3, 1_024),
+        // Above 3 the remainder by 4 decides.
+        (4, 128),
+        (5, 256),
+        (6, 512),
+        (7, 1_024),
+        (8, 128),
+        (64, 128),
+        (127, 1_024),
+        (128, 128),
+        (229, 256),
+        (254, 512),
+        (255, 1_024),
+    ] {
         let mut builder = builder();
         builder.write_sector(&SectorPlan {
             size_code,
@@ -219,7 +236,35 @@ fn size_codes() {
         assert_eq!(sector.length, length);
         assert_eq!(sector.data_mark, 0xFB);
         assert_eq!(sector.data_place, sector.place + 704);
-        assert_eq!(sector.data_check_good, length > 0);
+        assert_eq!(sector.data_end(), sector.data_place + 96 + 16 * length);
+        assert!(sector.data_check_good);
+    }
+}
+
+#[test]
+fn every_size_code_reads_one_of_four_lengths() {
+    let data: Vec<u8> = (0..1_024).map(|i| (i % 251) as u8).collect();
+    for size_code in 0..=255 {
+        // The check of one of the four lengths only is good.
+        let good: Vec<usize> = [128, 256, 512, 1_024]
+            .into_iter()
+            .filter(|&length| {
+                let mut builder = builder();
+                builder.write_sector(&SectorPlan {
+                    size_code,
+                    data: data[..length].to_vec(),
+                    ..SectorPlan::standard(0, 0, 1, 0x00)
+                });
+                builder.write_repeated(0x4E, 1_200);
+                let bytes = builder.packed();
+                let n = builder.cells().len();
+                let read = read_out(0, 0, &bytes, n, 0, 1_024).unwrap();
+                let front = read.length.min(length);
+                assert_eq!(read.bytes[..front], data[..front]);
+                read.check_good
+            })
+            .collect();
+        assert_eq!(good, [128 << (size_code & 3)], "size code {size_code}");
     }
 }
 
@@ -300,22 +345,49 @@ fn refusals_in_order() {
 }
 
 #[test]
-fn no_data_is_read_without_mark_or_length() {
-    let mut builder = builder();
-    builder.write_id(0xFE, [0, 0, 1, 2], 0);
-    builder.write_repeated(0x4E, 100);
-    builder.write_repeated(0x00, 12);
-    builder.write_sector(&SectorPlan {
-        size_code: 4,
-        ..SectorPlan::standard(0, 0, 2, 0x00)
-    });
-    builder.write_repeated(0x4E, 600);
-    let bytes = builder.packed();
-    let n = builder.cells().len();
-    for index in 0..2 {
-        assert_eq!(read_out(0, 0, &bytes, n, index, 0), refused(12, 0));
+fn only_a_sector_without_data_mark_has_no_data() {
+    for size_code in [0, 2, 3, 4, 6, 255] {
+        let mut builder = builder();
+        builder.write_id(0xFE, [0, 0, 1, size_code], 0);
+        builder.write_repeated(0x4E, 1_200);
+        let sector = list_of(builder.cells())[0];
+        assert!(!sector.has_data());
+        assert_eq!((sector.data_place, sector.data_mark), (0, 0));
+        assert_eq!((sector.length, sector.data_check_good), (0, false));
+        let bytes = builder.packed();
+        let n = builder.cells().len();
+        for room in [0, 1_024] {
+            assert_eq!(read_out(0, 0, &bytes, n, 0, room), refused(12, 0));
+        }
+        assert_eq!(read_out(0, 0, &bytes, n, 1, 0), refused(11, 1));
     }
-    assert_eq!(read_out(0, 0, &bytes, n, 2, 0), refused(11, 2));
+}
+
+#[test]
+fn reading_out_by_size_codes_above_3() {
+    for (size_code, length) in [(4, 128), (6, 512), (255, 1_024)] {
+        let data: Vec<u8> = (0..length).map(|i| (i / 3) as u8).collect();
+        for error in [0, 0x0100] {
+            let mut builder = builder();
+            builder.write_sector(&SectorPlan {
+                size_code,
+                data: data.clone(),
+                data_check_error: error,
+                ..SectorPlan::standard(0, 0, 1, 0x00)
+            });
+            builder.write_repeated(0x4E, 1_200);
+            let bytes = builder.packed();
+            let n = builder.cells().len();
+            let short = read_out(0, 0, &bytes, n, 0, length - 1);
+            assert_eq!(short, refused(13, length as u64));
+            let expected = ReadOut {
+                length,
+                check_good: error == 0,
+                bytes: data.clone(),
+            };
+            assert_eq!(read_out(0, 0, &bytes, n, 0, length), Ok(expected));
+        }
+    }
 }
 
 #[test]

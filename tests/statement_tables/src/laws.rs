@@ -26,7 +26,7 @@ pub const LAWS: &[Law] = &[
         "sector_records/proofs/Places",
         &["data-least", "data-none"],
     ),
-    ("6.11", "sector_records/proofs/Places", &["no-length"]),
+    ("6.12", "sector_records/proofs/Places", &["has-data"]),
     ("6.14", "sector_records/proofs/Places", &["data-end-below"]),
     ("7.4", "finding_list/proofs/Laws", &["tnf-only"]),
     (

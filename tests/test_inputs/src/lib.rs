@@ -11,4 +11,5 @@ pub mod block_inputs;
 pub mod file_inputs;
 pub mod flux_inputs;
 pub mod random;
+pub mod size_code_tracks;
 pub mod track_builder;

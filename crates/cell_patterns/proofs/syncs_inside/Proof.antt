@@ -54,8 +54,7 @@ add-result c =
 returns-2 : tie.Need-returns-2
 returns-2 c =
     let s = c .before .before .before .before .before .before .before .before .args .s in
-    let h : 0 < s .«data_length» = omega arith in
-    inside-both _ s _ (c .before .before .before .before .before .syncs-between .ensures) _ h (rw (← c .before .data-end .ensures) (c .syncs-between2 .ensures))
+    inside-both _ s _ (c .before .before .before .before .before .syncs-between .ensures) _ (c .before .before .before .if1 .left) (rw (← c .before .data-end .ensures) (c .syncs-between2 .ensures))
 
 pub syncs-inside-spec : {M : Type 1} → statement M
 syncs-inside-spec =

@@ -1,9 +1,8 @@
 -- `sector_records::length_of` meets its contract. Assumes nothing.
-use Prim.Native.Nat.{_≤_}
-use mathlib.Core.Path.{refl, sym}
+use Prim.Native.Nat.{_%_}
+use mathlib.Core.Path.{_≡_, refl}
 use native.Mathlib.Omega.{arith}
 use Rattle.sector_records.specs.Sectors.{lengthOf}
-use Rattle.sector_records.proofs.Places.{no-length}
 use Rattle.sector_records.proofs.length_of.Statement.{statement}
 use Rattle.sector_records.proofs.length_of.Tie as tie
 
@@ -21,10 +20,7 @@ returns-3 c = rw (c .match .keys3) (refl, omega arith)
 
 returns-4 : tie.Need-returns-4
 unfolding lengthOf
-returns-4 c = rw (c .match .keys4) (refl, omega arith)
-
-returns-5 : tie.Need-returns-5
-returns-5 c = let h : 4 ≤ c .before .args .code = omega arith in (sym (no-length (c .before .args .code) h), omega arith)
+returns-4 c = let h : c .before .args .code % 4 ≡ 3 = omega arith in rw h (refl, omega arith)
 
 pub length-of-spec : {M : Type 1} → statement M
-length-of-spec = tie.close (tie.spec returns returns-2 returns-3 returns-4 returns-5)
+length-of-spec = tie.close (tie.spec returns returns-2 returns-3 returns-4)

@@ -8,16 +8,16 @@ use borrow.Author.Needs.{needs}
 use Rattle.sectors.proofs.read_sector.Statement.{statement}
 use Rattle.sectors.proofs.read_sector.Tie as tie
 
-cast-size : tie.Need-cast-size
-cast-size c = search needs
-
 returns : tie.Need-returns
 unfolding bufferAfter
 returns c = answer-and-buffer _ _ (refuses-12 _ _ (c .if1 .taken)) refl
 
+cast-size : tie.Need-cast-size
+cast-size c = search needs
+
 returns-2 : tie.Need-returns-2
 unfolding bufferAfter
-returns-2 c = answer-and-buffer _ _ (refuses-13 _ _ (c .before .if1 .left) (c .if2 .taken)) refl
+returns-2 c = answer-and-buffer _ _ (refuses-13 _ _ (c .before .before .if1 .left) (c .if2 .taken)) refl
 
 cast-write-data : tie.Need-cast-write-data
 cast-write-data c = search needs
@@ -33,14 +33,14 @@ same-length c = search needs
 
 returns-3 : tie.Need-returns-3
 unfolding bufferAfter dataBytes
-returns-3 c = answer-and-buffer _ _ (data-accepted _ _ (c .before .before .before .before .before .before .if1 .left) (c .before .before .before .before .before .if2 .left)) (c .before .before .write-data .ensures)
+returns-3 c = answer-and-buffer _ _ (data-accepted _ _ (c .before .before .before .before .before .before .before .if1 .left) (c .before .before .before .before .before .if2 .left)) (c .before .before .write-data .ensures)
 
 pub read-sector-spec : {M : Type 1} → statement M
 read-sector-spec =
     tie.close
     (tie.spec
-    cast-size
     returns
+    cast-size
     returns-2
     cast-write-data
     add-write-data

@@ -25,7 +25,7 @@ fn check(good: bool) -> &'static str {
 
 fn print_sector(sector: &Sector) {
     print!("{:6}  {:6}  {:5}  ", sector.number, sector.place, check(sector.id_check_good));
-    if sector.has_data_mark() {
+    if sector.has_data() {
         println!("{:7}  {:5}  {:5}", sector.data_place, check(sector.data_check_good), sector.data_length);
     } else {
         println!("no data mark");

@@ -178,7 +178,7 @@ const CHANGES: [Change; 10] = [
     (
         "size code",
         |plan, value| plan.size_code = value as u8,
-        &[0, 1, 2, 3, 4, 128, 255],
+        &[0, 1, 2, 3, 4, 5, 6, 7, 128, 254, 255],
     ),
     (
         "ID mark",
