@@ -104,7 +104,7 @@ fn number_kept(counted: Counted, number: u32, next: RevolutionReader) -> u32
 }
 
 // A sector's record as numbers.
-pub fn sector_numbers(sector: Sector) -> [u32; 11]
+pub fn sector_numbers(sector: Sector) -> [u32; 13]
     ensures { λ r. ⌜ r ≡ sectorNumbers sector ⌝ }
 {
     [
@@ -119,6 +119,8 @@ pub fn sector_numbers(sector: Sector) -> [u32; 11]
         sector.data_mark as u32,
         sector.data_length,
         sector.data_check_good as u32,
+        sector.data_end,
+        sector.density as u32,
     ]
 }
 
