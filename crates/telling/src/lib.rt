@@ -120,8 +120,14 @@ pub fn sector_numbers(sector: Sector) -> [u32; 13]
         sector.data_length,
         sector.data_check_good as u32,
         sector.data_end,
-        sector.density as u32,
+        wide(sector.density),
     ]
+}
+
+fn wide(byte: u8) -> u32
+    ensures { λ r. ⌜ r ≡ byte ⌝ }
+{
+    byte as u32
 }
 
 // 1 for yes and 0 for no.
