@@ -43,7 +43,7 @@ extern "C" {
 /* Lengths of what is lent. */
 #define THIKBROMU_MOST_CELL_BYTES 16384 /* the bytes of 131,072 cells */
 #define THIKBROMU_HISTOGRAM_COUNTS 256
-#define THIKBROMU_SECTOR_NUMBERS 11
+#define THIKBROMU_SECTOR_NUMBERS 13
 #define THIKBROMU_FINDING_NUMBERS 4
 #define THIKBROMU_MOST_FINDINGS 901 /* no track of 64 sectors brings more (rule 7.35) */
 #define THIKBROMU_LONGEST_SECTOR 1024
@@ -107,19 +107,21 @@ struct thikbromu_finding {
     uint32_t detail;
 };
 
-/* Where what stands among the eleven numbers of a sector's record (rules 6.16 and 9.34). */
+/* Where what stands among the thirteen numbers of a sector's record (rules 6.16 and 9.34). */
 enum thikbromu_sector_number {
-    THIKBROMU_SECTOR_PLACE = 0,           /* p, the cell of the ID mark, 0 to N-1 */
-    THIKBROMU_SECTOR_MARK = 1,            /* the byte of the ID mark, FC to FF */
-    THIKBROMU_SECTOR_TRACK = 2,           /* the ID's track, */
-    THIKBROMU_SECTOR_SIDE = 3,            /* side, */
-    THIKBROMU_SECTOR_NUMBER = 4,          /* number */
-    THIKBROMU_SECTOR_SIZE_CODE = 5,       /* and size code */
-    THIKBROMU_SECTOR_ID_CHECK_GOOD = 6,   /* 1 where the ID check is good, else 0 */
-    THIKBROMU_SECTOR_DATA_PLACE = 7,      /* q, the cell of the data mark, perhaps N or more; 0 where none is found */
-    THIKBROMU_SECTOR_DATA_MARK = 8,       /* the byte of the data mark, F8 to FB; 0 where none is found */
-    THIKBROMU_SECTOR_DATA_LENGTH = 9,     /* L, how many data bytes; 0 where there is no data */
-    THIKBROMU_SECTOR_DATA_CHECK_GOOD = 10 /* 1 where the data check is good; 0 where it is bad or there is no data */
+    THIKBROMU_SECTOR_PLACE = 0,            /* p, the cell of the ID mark, 0 to N-1 */
+    THIKBROMU_SECTOR_MARK = 1,             /* the byte of the ID mark, FC to FF */
+    THIKBROMU_SECTOR_TRACK = 2,            /* the ID's track, */
+    THIKBROMU_SECTOR_SIDE = 3,             /* side, */
+    THIKBROMU_SECTOR_NUMBER = 4,           /* number */
+    THIKBROMU_SECTOR_SIZE_CODE = 5,        /* and size code */
+    THIKBROMU_SECTOR_ID_CHECK_GOOD = 6,    /* 1 where the ID check is good, else 0 */
+    THIKBROMU_SECTOR_DATA_PLACE = 7,       /* q, the cell of the data mark, perhaps N or more; 0 where none is found */
+    THIKBROMU_SECTOR_DATA_MARK = 8,        /* the byte of the data mark, F8 to FB; 0 where none is found */
+    THIKBROMU_SECTOR_DATA_LENGTH = 9,      /* L, how many data bytes; 0 where there is no data */
+    THIKBROMU_SECTOR_DATA_CHECK_GOOD = 10, /* 1 where the data check is good; 0 where it is bad or there is no data */
+    THIKBROMU_SECTOR_END = 11,             /* the cell where the data with its check bytes ends, perhaps N or more; 0 where there is no data */
+    THIKBROMU_SECTOR_DENSITY = 12          /* 2, which is MFM */
 };
 
 /*
@@ -213,7 +215,7 @@ uint32_t thikbromu_revolution_cells(const uint8_t *block, size_t length, uint32_
  * A track: n cells in `bytes`; `track` and `side` are the drive's, T and H. Bytes after those that the cells need are not looked at.
  */
 
-/* A sector (rules 6.5 and 9.2). `index` counts from 0, in the order of their places. Its record goes to the front of `numbers`, eleven as
+/* A sector (rules 6.5 and 9.2). `index` counts from 0, in the order of their places. Its record goes to the front of `numbers`, thirteen as
  * enum thikbromu_sector_number has them, or as many as there is room for. Gives the number of sectors. Refuses 1, 2, 3, 4, 11, all numbers
  * then 0. */
 uint32_t thikbromu_sector(const uint8_t *bytes, size_t length, size_t n, uint32_t track, uint32_t side, size_t index, uint32_t *numbers,

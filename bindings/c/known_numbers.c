@@ -257,7 +257,7 @@ static void test_standard_track(const uint8_t *cells)
     for (size_t index = 0; index < 9; index++) {
         uint32_t place = 1152 + 9824 * (uint32_t)index;
         const uint32_t expected[THIKBROMU_SECTOR_NUMBERS] = {
-            place, 0xFE, 0, 0, (uint32_t)index + 1, 2, 1, place + 704, 0xFB, 512, 1};
+            place, 0xFE, 0, 0, (uint32_t)index + 1, 2, 1, place + 704, 0xFB, 512, 1, place + 704 + 8288, 2};
         GIVES(thikbromu_sector(cells, TRACK_BYTES, TRACK_CELLS, 0, 0, index, sector, THIKBROMU_SECTOR_NUMBERS, &value), 9);
         EXPECT(memcmp(sector, expected, sizeof expected) == 0);
     }

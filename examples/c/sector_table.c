@@ -24,13 +24,13 @@ static const char *check(uint32_t good)
 
 static void print_sector(const uint32_t *sector)
 {
-    printf("%6" PRIu32 "  %6" PRIu32 "  %-5s  ", sector[THIKBROMU_SECTOR_NUMBER], sector[THIKBROMU_SECTOR_PLACE],
-           check(sector[THIKBROMU_SECTOR_ID_CHECK_GOOD]));
+    printf("%6" PRIu32 "  %6" PRIu32 "  %-5s  %7" PRIu32 "  ", sector[THIKBROMU_SECTOR_NUMBER], sector[THIKBROMU_SECTOR_PLACE],
+           check(sector[THIKBROMU_SECTOR_ID_CHECK_GOOD]), sector[THIKBROMU_SECTOR_DENSITY]);
     if (sector[THIKBROMU_SECTOR_DATA_MARK] == 0) {
         printf("no data mark\n");
     } else {
-        printf("%7" PRIu32 "  %-5s  %5" PRIu32 "\n", sector[THIKBROMU_SECTOR_DATA_PLACE],
-               check(sector[THIKBROMU_SECTOR_DATA_CHECK_GOOD]), sector[THIKBROMU_SECTOR_DATA_LENGTH]);
+        printf("%7" PRIu32 "  %-5s  %5" PRIu32 "  %6" PRIu32 "\n", sector[THIKBROMU_SECTOR_DATA_PLACE],
+               check(sector[THIKBROMU_SECTOR_DATA_CHECK_GOOD]), sector[THIKBROMU_SECTOR_DATA_LENGTH], sector[THIKBROMU_SECTOR_END]);
     }
 }
 
@@ -45,7 +45,7 @@ int main(void)
     const uint8_t *bytes = file + BEFORE_CELLS;
     size_t cells = count_at(file + 6);
 
-    printf("number   ID at  check  data at  check  bytes\n");
+    printf("number   ID at  check  density  data at  check  bytes     end\n");
     for (size_t index = 0;; index++) {
         uint32_t sector[THIKBROMU_SECTOR_NUMBERS];
         size_t value;

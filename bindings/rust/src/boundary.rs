@@ -34,7 +34,7 @@
 use crate::refusal::Refusal;
 
 /// The numbers of a sector's record.
-pub const SECTOR_NUMBERS: usize = 11;
+pub const SECTOR_NUMBERS: usize = 13;
 
 /// The numbers of a finding.
 pub const FINDING_NUMBERS: usize = 4;
@@ -379,7 +379,7 @@ pub fn revolution_cells(block: &[u8], revolutions: u32, revolution: u32, cells: 
 }
 
 /// A sector (rules 6.5, 9.2 and 9.34). Its index counts from 0, in the order of their places. Its record goes to the front of `numbers`, or
-/// as much of it as there is room for: the eleven fields of [`Sector`](crate::Sector), in their order, yes as 1 and no as 0. Gives the
+/// as much of it as there is room for: the thirteen fields of [`Sector`](crate::Sector), in their order, yes as 1 and no as 0. Gives the
 /// number of sectors.
 ///
 /// Refuses [`TrackOrSide`](Refusal::TrackOrSide), [`CellCount`](Refusal::CellCount), [`TooFewBytes`](Refusal::TooFewBytes),

@@ -31,12 +31,16 @@ pub struct Sector {
     pub data_length: usize,
     /// Whether the data's check is good; no where there is no data.
     pub data_check_good: bool,
+    /// The cell where the data with its check bytes ends, counted on where that is behind the index; 0 where there is no data (rule 6.14).
+    pub end: u32,
+    /// The density: 2, which is MFM (rule 6.20).
+    pub density: u8,
 }
 
 impl Sector {
-    /// The record of its eleven numbers. The library gives bytes, checks of 0 and 1 and lengths up to 1,024, so that nothing is cut off.
+    /// The record of its thirteen numbers. The library gives bytes, checks of 0 and 1 and lengths up to 1,024, so that nothing is cut off.
     pub(crate) fn from_numbers(numbers: [u32; SECTOR_NUMBERS]) -> Sector {
-        let [place, mark, track, side, number, size_code, id_check, data_place, data_mark, data_length, data_check] =
+        let [place, mark, track, side, number, size_code, id_check, data_place, data_mark, data_length, data_check, end, density] =
             numbers;
         Sector {
             place,
@@ -50,6 +54,8 @@ impl Sector {
             data_mark: data_mark as u8,
             data_length: data_length as usize,
             data_check_good: data_check == 1,
+            end,
+            density: density as u8,
         }
     }
 

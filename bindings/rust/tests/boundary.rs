@@ -13,7 +13,7 @@ fn standard() -> &'static [u8] {
 
 #[test]
 fn a_record_of_any_room() {
-    let record = [1152, 0xFE, 0, 0, 1, 2, 1, 1856, 0xFB, 512, 1];
+    let record = [1152, 0xFE, 0, 0, 1, 2, 1, 1856, 0xFB, 512, 1, 10144, 2];
     for room in 0..=SECTOR_NUMBERS + 1 {
         let front = room.min(SECTOR_NUMBERS);
         let mut numbers = vec![7; room];

@@ -203,6 +203,8 @@ fn sectors_of_the_standard_track() {
                 data_mark: 0xFB,
                 data_length: 512,
                 data_check_good: true,
+                end: place + 704 + 8288,
+                density: 2,
             }
         );
         assert_eq!(standard().sector(index), Ok(sector));
@@ -241,7 +243,7 @@ fn sectors_without_good_checks() {
         if sector.has_data() {
             assert_eq!(data.unwrap().check_good, sector.data_check_good);
         } else {
-            assert_eq!((sector.data_mark, sector.data_length), (0, 0));
+            assert_eq!((sector.data_mark, sector.data_length, sector.end, sector.density), (0, 0, 0, 2));
             assert_eq!(data, Err(Refusal::NoData));
         }
     }

@@ -9,7 +9,7 @@ use Rattle.basis.proofs.Search.{least-high, count-few}
 use Rattle.cell_patterns.specs.Cells.{violation, zerosFrom, runFrom, longestRun, longestStart, gapsOf, syncsBetween, syncsInside}
 use Rattle.cell_patterns.proofs.Runs.{zeros-few}
 use Rattle.cell_patterns.proofs.Syncs.{syncs-few}
-use Rattle.sector_records.specs.Sectors.{markLength, idLength, hasData, endOfData}
+use Rattle.sector_records.specs.Sectors.{markLength, idLength, hasData}
 use Rattle.sector_records.specs.declared.Sector.{Sector}
 
 most-few : (g : ℕ → ℕ) (b : ℕ) → ((q : ℕ) → g q ≤ b) → (k p : ℕ) → most g k p ≤ b
@@ -31,10 +31,10 @@ unfolding gapsOf
 gaps-few f n = (omega (arith, least-high (violation f n) n 0), count-few (violation f n) n 0, start-few f n, run-few f n)
 
 -- no more than the cells of the ID and of the data
-pub inside-few : (f : ℕ → ℕ) (s : Sector) → syncsInside f s ≤ 128 + 16 * s .«data_length»
+pub inside-few : (f : ℕ → ℕ) (s : Sector) → syncsInside f s ≤ 96 + s .«data_end»
 unfolding syncsInside
 inside-few f s = omega (arith, syncs-few f (s .place + markLength) (s .place + idLength), go (hasData s))
   where
-    go : (b : Bool) → cond b (syncsBetween f (s .«data_place» + markLength) (endOfData s)) 0 ≤ 32 + 16 * s .«data_length»
-    go true = omega (arith, syncs-few f (s .«data_place» + markLength) (endOfData s))
+    go : (b : Bool) → cond b (syncsBetween f (s .«data_place» + markLength) (s .«data_end»)) 0 ≤ s .«data_end»
+    go true = omega (arith, syncs-few f (s .«data_place» + markLength) (s .«data_end»))
     go false = omega arith

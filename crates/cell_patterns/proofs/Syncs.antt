@@ -11,7 +11,7 @@ use Rattle.basis.proofs.Search.{least-low, least-high, least-same, count-few, c
 use Rattle.cells.specs.CellsAndBytes.{cell, wordAt, stands, leastPlace}
 use Rattle.cell_patterns.specs.Cells.{syncsBetween, syncsInside}
 use Rattle.sector_records.specs.Marks.{syncAt}
-use Rattle.sector_records.specs.Sectors.{markLength, idLength, endOfData}
+use Rattle.sector_records.specs.Sectors.{markLength, idLength}
 use Rattle.sector_records.specs.declared.Sector.{Sector}
 
 -- the search for the word of a sync finds the next sync
@@ -54,7 +54,7 @@ module _ (f : ℕ → ℕ) (s : Sector) (id : ℕ) (e : id ≡ syncsBetween f (s
   unfolding syncsInside
   inside-id h = rw (eq-eqb (s .«data_mark») 0 h) (omega arith)
 
-  pub inside-both : (more : ℕ) → (s .«data_mark» ≡ 0 → ⊥) → more ≡ syncsBetween f (s .«data_place» + markLength) (endOfData s)
+  pub inside-both : (more : ℕ) → (s .«data_mark» ≡ 0 → ⊥) → more ≡ syncsBetween f (s .«data_place» + markLength) (s .«data_end»)
       → id + more ≡ syncsInside f s
   unfolding syncsInside
   inside-both more h g = rw (ne-eqb (s .«data_mark») 0 h, e, g)

@@ -6,7 +6,7 @@ use mathlib.Core.Bool.{Bool, cond, _&&_, _||_}
 use lib.Dec.{eqb, ltb}
 use Rattle.basis.specs.Search.{least, count, most}
 use Rattle.sector_records.specs.Marks.{syncAt}
-use Rattle.sector_records.specs.Sectors.{markLength, idLength, hasData, endOfData}
+use Rattle.sector_records.specs.Sectors.{markLength, idLength, hasData}
 use Rattle.sector_records.specs.declared.Sector.{Sector}
 use Rattle.cell_patterns.specs.declared.Gaps.{Gaps}
 
@@ -53,4 +53,4 @@ syncsBetween f a b = count (syncAt f) (b - 15 - a) a
 unfoldable pub syncsInside : (ℕ → ℕ) → Sector → ℕ
 syncsInside f s =
     syncsBetween f (s .place + markLength) (s .place + idLength)
-    + cond (hasData s) (syncsBetween f (s .«data_place» + markLength) (endOfData s)) 0
+    + cond (hasData s) (syncsBetween f (s .«data_place» + markLength) (s .«data_end»)) 0

@@ -5,10 +5,9 @@ use sector_records::ID_LENGTH;
 use sector_records::MARK_LENGTH;
 use sector_records::SYNC;
 use sector_records::Sector;
-use sector_records::data_end;
 ghost use mathlib.Core.Path.{_≡_};
 ghost use mathlib.Core.Bool.{cond};
-ghost use Prim.Native.Nat.{_≤_};
+ghost use Prim.Native.Nat.{_<_, _≤_};
 ghost use Rattle.basis.specs.Search.{least};
 ghost use Rattle.cells.specs.CellsAndBytes.{cell};
 ghost use Rattle.cell_patterns.specs.Cells.{isOne, gapsOf, syncsBetween, syncsInside};
@@ -62,7 +61,13 @@ pub fn syncs_inside(bytes: &[u8], n: usize, s: Sector) -> usize
         return id;
     }
     let data = s.data_place as usize + MARK_LENGTH;
-    id + syncs_between(bytes, n, data, data_end(s))
+    id + syncs_between(bytes, n, data, wide(s.data_end))
+}
+
+fn wide(place: u32) -> usize
+    ensures { λ r. ⌜ (r ≡ place) × (r < 0x1_0000_0000) ⌝ }
+{
+    place as usize
 }
 
 // A next one 2, 3 or 4 cells on leaves 1 to 3 zeros between the two.

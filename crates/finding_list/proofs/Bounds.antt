@@ -20,7 +20,7 @@ use Rattle.finding_list.specs.Findings.{rowAt}
 use Rattle.finding_list.specs.PrivateContracts.{BoundedSector, BoundedTrack, Narrow, sectorsIn}
 use Rattle.mfm.specs.Coding.{byteOn, dataCell}
 use Rattle.sector_records.specs.Marks.{markByte}
-use Rattle.sector_records.specs.Sectors.{reach, leastData, dataFound, lengthOf, idByte, dataLength, sectorAt, noSector, sectorsOf, kept}
+use Rattle.sector_records.specs.Sectors.{reach, leastData, dataFound, lengthOf, idByte, dataLength, endOfData, sectorAt, noSector, sectorsOf, kept}
 use Rattle.sector_records.specs.declared.Sector.{Sector}
 use Rattle.sector_records.specs.declared.Sectors.{Sectors}
 use Rattle.sector_records.proofs.Places.{length-most, sector-of-mark}
@@ -42,7 +42,7 @@ near-record f bit p h =
       size-code = byte-few f bit _;
       data-place = place (dataFound f p) refl;
       data-mark = mark (dataFound f p);
-      data-length = size (dataFound f p);
+      data-end = end (dataFound f p) refl;
     }
   where
     place : (b : Bool) → dataFound f p ≡ b → cond b (leastData f p) 0 ≤ 200000
@@ -53,9 +53,9 @@ near-record f bit p h =
     mark true = byte-few f bit (leastData f p + 48)
     mark false = omega arith
 
-    size : (b : Bool) → cond b (lengthOf (idByte f p 3)) 0 ≤ 1024
-    size true = length-most (idByte f p 3)
-    size false = omega arith
+    end : (b : Bool) → dataFound f p ≡ b → cond b (endOfData (leastData f p) (cond b (lengthOf (idByte f p 3)) 0)) 0 ≤ 150000
+    end true e = omega (arith, leb-true (leastData f p) (p + reach) e, length-most (idByte f p 3))
+    end false e = omega arith
 
 no-record : BoundedSector noSector
 no-record =
@@ -68,7 +68,7 @@ no-record =
       size-code = omega arith;
       data-place = omega arith;
       data-mark = omega arith;
-      data-length = omega arith;
+      data-end = omega arith;
     }
 
 near-sector : (bytes : List ℕ) (n i : ℕ) → n ≤ 131072 → BoundedSector (nth (sectorsOf bytes n) i)
@@ -157,7 +157,7 @@ module _ (s : Sector) (near : BoundedSector s) where
       on-sector _ _ number,
       (
         on-sector _ _ number,
-        (on-sector _ _ (omega (arith, near .data-place, near .data-length)), (on-sector _ _ (omega (arith, near .data-place)), tt)),
+        (on-sector _ _ (omega (arith, near .data-end)), (on-sector _ _ (omega (arith, near .data-place)), tt)),
       ),
     ),
   )
@@ -166,7 +166,7 @@ module _ (s : Sector) (near : BoundedSector s) where
   unfolding sectorRows
   narrow-sector f N T ss =
       narrow-append (idRows T s) _ (narrow-id T)
-      (narrow-append (dataRows N s) _ (narrow-data N) (on-sector _ _ number, (on-sector _ _ (omega (arith, inside-few f s, near .data-length)), tt)))
+      (narrow-append (dataRows N s) _ (narrow-data N) (on-sector _ _ number, (on-sector _ _ (omega (arith, inside-few f s, near .data-end)), tt)))
 
 -- each row of the table
 pub row-narrow : (f : ℕ → ℕ) (N T : ℕ) (ss : List Sector) → N ≤ 131072 → length ss ≤ 64 → (k i : ℕ) → BoundedSector (nth ss i) → Narrow (rowAt f N T ss k i)

@@ -26,7 +26,7 @@ pub record BoundedSector (s : Sector) : Type 0 where
   pub size-code : s .«size_code» ≤ 255
   pub data-place : s .«data_place» ≤ 200000
   pub data-mark : s .«data_mark» ≤ 255
-  pub data-length : s .«data_length» ≤ 1024
+  pub data-end : s .«data_end» ≤ 150000
 
 -- the sectors that the struct keeps
 abbrev pub sectorsIn : Sectors → List Sector

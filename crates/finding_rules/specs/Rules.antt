@@ -9,7 +9,7 @@ use lib.ListN.{length, getD, take}
 use Rattle.cell_patterns.specs.Cells.{gapsOf, syncsInside}
 use Rattle.cell_patterns.specs.declared.Gaps.{Gaps}
 use Rattle.finding_rules.specs.declared.Row.{Row}
-use Rattle.sector_records.specs.Sectors.{hasData, noSector, endOfData}
+use Rattle.sector_records.specs.Sectors.{hasData, noSector}
 use Rattle.sector_records.specs.declared.Sector.{Sector}
 
 -- some sector of a list passes the test
@@ -89,7 +89,7 @@ sbd s = record { holds = hasData s && not (s .«data_check_good»); place = s .p
 
 -- 7.16: DOI, data over the index: there is data, q is below N, and the data end above N. At p, with the cells from N to the data end
 abbrev pub doi : (N : ℕ) → Sector → Row
-doi N s = record { holds = hasData s && (ltb (s .«data_place») N && ltb N (endOfData s)); place = s .place; detail = endOfData s - N }
+doi N s = record { holds = hasData s && (ltb (s .«data_place») N && ltb N (s .«data_end»)); place = s .place; detail = s .«data_end» - N }
 
 -- 7.17: DBI, data beyond the index: there is data, and q is N or more. At p, with the cells from N to q
 abbrev pub dbi : (N : ℕ) → Sector → Row
@@ -97,7 +97,7 @@ dbi N s = record { holds = hasData s && leb N (s .«data_place»); place = s .pl
 
 -- 7.37: place x is at least the other sector's q, and below its data end
 abbrev pub isInData : ℕ → Sector → Bool
-isInData x other = leb (other .«data_place») x && ltb x (endOfData other)
+isInData x other = leb (other .«data_place») x && ltb x (other .«data_end»)
 
 -- 7.37: the other sector has another place and has data, and p or p + N falls into it
 unfoldable pub startsInData : ℕ → Sector → Sector → Bool

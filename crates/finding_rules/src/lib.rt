@@ -2,7 +2,6 @@
 // counted on the cells. A kind is given by its place in its group, from 0.
 use cell_patterns::Gaps;
 use sector_records::Sector;
-use sector_records::data_end;
 ghost use mathlib.Core.Path.{_≡_};
 ghost use Prim.Native.Nat.{_-_};
 ghost use lib.ListN.{getD};
@@ -168,15 +167,15 @@ pub fn data_rule(k: usize, n: u32, s: Sector) -> Row
         },
         // DOI
         3 => Row {
-            holds: (s.data_mark != 0) & ((s.data_place < n) & ((n as usize) < data_end(s))),
+            holds: (s.data_mark != 0) & ((s.data_place < n) & (n < s.data_end)),
             place: s.place as usize,
-            detail: less(data_end(s), n as usize),
+            detail: less(s.data_end, n),
         },
         // DBI
         4 => Row {
             holds: (s.data_mark != 0) & (n <= s.data_place),
             place: s.place as usize,
-            detail: less(s.data_place as usize, n as usize),
+            detail: less(s.data_place, n),
         },
         _ => nothing(),
     }
@@ -216,7 +215,7 @@ pub fn starts_in_data(n: u32, s: Sector, e: Sector) -> bool
 fn is_in_data(x: usize, e: Sector) -> bool
     ensures { λ r. ⌜ r ≡ isInData x e ⌝ }
 {
-    ((e.data_place as usize) <= x) & (x < data_end(e))
+    ((e.data_place as usize) <= x) & (x < (e.data_end as usize))
 }
 
 fn nothing() -> Row
@@ -230,8 +229,8 @@ fn nothing() -> Row
 }
 
 // How much more a is than b, 0 where it is less.
-fn less(a: usize, b: usize) -> usize
+fn less(a: u32, b: u32) -> usize
     ensures { λ r. ⌜ r ≡ a - b ⌝ }
 {
-    if b <= a { a - b } else { 0 }
+    if b <= a { (a - b) as usize } else { 0 }
 }

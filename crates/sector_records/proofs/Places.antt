@@ -102,6 +102,16 @@ has-data f p = go (dataFound f p) refl
         rw (ne-eqb (markByte f (leastData f p)) 0 (λ z. omega (arith, mark-from f 0xF8 0xFB (leastData f p) (l .passes))))
     go false e = refl
 
+-- 6.14, 6.16: the data end of a record: 0 where there is no data, and else after the mark, the L bytes and their check bytes
+pub end-without-data : (f : ℕ → ℕ) (p : ℕ) → hasData (sectorAt f p) ≡ false → sectorAt f p .«data_end» ≡ 0
+unfolding sectorAt
+end-without-data f p h = let e : dataFound f p ≡ false = sym (has-data f p) ∙ h in rw e
+
+pub end-with-data : (f : ℕ → ℕ) (p : ℕ) → hasData (sectorAt f p) ≡ true
+    → sectorAt f p .«data_end» ≡ sectorAt f p .«data_place» + 64 + 16 * sectorAt f p .«data_length» + 32
+unfolding sectorAt dataLength
+end-with-data f p h = let e : dataFound f p ≡ true = sym (has-data f p) ∙ h in rw e
+
 -- data that starts within the reach of a place on the track ends before the track's second turn does, where the reach, the mark and the
 -- most bytes together fit the track
 pub end-in-two-turns : (mark reach most n p q l : ℕ) → reach + mark + 16 * most + 32 ≤ n → p < n → q ≤ p + reach → l ≤ most
@@ -120,11 +130,11 @@ length-most code = go (code % 4) (omega arith)
     go (suc (suc (suc (suc r)))) h = absurd (omega arith)
 
 -- so reading a sector goes round the track at most once
-pub data-end-below : (f : ℕ → ℕ) (n p : ℕ) → 20000 ≤ n → p < n → endOfData (sectorAt f p) < 2 * n
+pub data-end-below : (f : ℕ → ℕ) (n p : ℕ) → 20000 ≤ n → p < n → sectorAt f p .«data_end» < 2 * n
 unfolding sectorAt dataLength
 data-end-below f n p h l = go (dataFound f p) refl
   where
-    go : (b : Bool) → dataFound f p ≡ b → cond b (leastData f p) 0 + markLength + 16 * cond b (lengthOf (idByte f p 3)) 0 + checkLength < 2 * n
+    go : (b : Bool) → dataFound f p ≡ b → cond b (endOfData (leastData f p) (cond b (lengthOf (idByte f p 3)) 0)) 0 < 2 * n
     go true e = end-in-two-turns markLength reach 1024 n p (leastData f p) (lengthOf (idByte f p 3)) (omega arith) l (leb-true (leastData f p) (p + reach) e) (length-most (idByte f p 3))
     go false e = omega arith
 
@@ -197,8 +207,8 @@ module _ (bytes : List ℕ) (n : ℕ) where
   sectors-ordered i j h l = places-rise (cell bytes n) n i j h l
 
   pub sectors-end-below : (i : ℕ) → 20000 ≤ n → i < length (sectorsOf bytes n)
-      → endOfData (getD (sectorsOf bytes n) i noSector) < 2 * n
+      → getD (sectorsOf bytes n) i noSector .«data_end» < 2 * n
   sectors-end-below i h l = go (getD (sectorsOf bytes n) i noSector) (sector-of-mark i l)
     where
-      go : (s : Sector) → SectorOf (cell bytes n) n i s → endOfData s < 2 * n
+      go : (s : Sector) → SectorOf (cell bytes n) n i s → s .«data_end» < 2 * n
       go s m = rw (m .made) (data-end-below (cell bytes n) n (s .place) h (m .below))

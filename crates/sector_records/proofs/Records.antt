@@ -4,12 +4,12 @@ use mathlib.Core.Path.{_≡_}
 use mathlib.Core.Bool.{Bool, cond, _&&_}
 use lib.Dec.{leb}
 use Rattle.sector_records.specs.Marks.{markByte}
-use Rattle.sector_records.specs.Sectors.{reach, checkGood, leastData, lengthOf, idByte, dataLength, sectorAt}
+use Rattle.sector_records.specs.Sectors.{reach, checkGood, leastData, lengthOf, idByte, dataLength, endOfData, doubleDensity, sectorAt}
 
-pub record-is : (f : ℕ → ℕ) (p mark track side number code : ℕ) (id-good : Bool) (q place data-mark long : ℕ) (good : Bool)
+pub record-is : (f : ℕ → ℕ) (p mark track side number code : ℕ) (id-good : Bool) (q place data-mark long : ℕ) (good : Bool) (end : ℕ)
     → mark ≡ markByte f p → track ≡ idByte f p 0 → side ≡ idByte f p 1 → number ≡ idByte f p 2 → code ≡ idByte f p 3 → id-good ≡ checkGood f p 4
     → q ≡ leastData f p → place ≡ cond (leb q (p + reach)) q 0 → data-mark ≡ cond (leb q (p + reach)) (markByte f q) 0
-    → long ≡ cond (leb q (p + reach)) (lengthOf code) 0 → good ≡ (leb q (p + reach) && checkGood f q long)
+    → long ≡ cond (leb q (p + reach)) (lengthOf code) 0 → good ≡ (leb q (p + reach) && checkGood f q long) → end ≡ cond (leb q (p + reach)) (endOfData q long) 0
     → record {
       place = p;
       mark = mark;
@@ -22,7 +22,9 @@ pub record-is : (f : ℕ → ℕ) (p mark track side number code : ℕ) (id-good
       «data_mark» = data-mark;
       «data_length» = long;
       «data_check_good» = good;
+      «data_end» = end;
+      density = doubleDensity;
     } ≡ sectorAt f p
 unfolding sectorAt dataLength
-record-is f p mark track side number code id-good q place data-mark long good e₁ e₂ e₃ e₄ e₅ e₆ e₇ e₈ e₉ e₁₀ e₁₁ =
-    rw (e₁₁, e₁₀, e₉, e₈, e₇, e₆, e₅, e₄, e₃, e₂, e₁)
+record-is f p mark track side number code id-good q place data-mark long good end e₁ e₂ e₃ e₄ e₅ e₆ e₇ e₈ e₉ e₁₀ e₁₁ e₁₂ =
+    rw (e₁₂, e₁₁, e₁₀, e₉, e₈, e₇, e₆, e₅, e₄, e₃, e₂, e₁)

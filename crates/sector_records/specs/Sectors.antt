@@ -77,8 +77,16 @@ idByte f p i = byteOn f (p + markLength + 16 * i)
 unfoldable pub dataLength : (ℕ → ℕ) → ℕ → ℕ
 dataLength f p = cond (dataFound f p) (lengthOf (idByte f p 3)) 0
 
--- 6.8, 6.15, 6.16: the record of the sector with its ID mark at p. Where it has no data, the place and the byte of the data mark are 0, and
--- the data check is bad
+-- 6.14: where data ends whose mark stands at q: after the mark, its bytes and their check bytes
+abbrev pub endOfData : (q length : ℕ) → ℕ
+endOfData q length = q + markLength + 16 * length + checkLength
+
+-- 6.20: the density of MFM, which the record of every sector of these tracks has
+abbrev pub doubleDensity : ℕ
+doubleDensity = 2
+
+-- 6.8, 6.15, 6.16: the record of the sector with its ID mark at p. Where it has no data, the place and the byte of the data mark and the
+-- data end are 0, and the data check is bad
 unfoldable pub sectorAt : (ℕ → ℕ) → ℕ → Sector
 sectorAt f p =
     record {
@@ -93,15 +101,13 @@ sectorAt f p =
       «data_mark» = cond (dataFound f p) (markByte f (leastData f p)) 0;
       «data_length» = dataLength f p;
       «data_check_good» = dataFound f p && checkGood f (leastData f p) (dataLength f p);
+      «data_end» = cond (dataFound f p) (endOfData (leastData f p) (dataLength f p)) 0;
+      density = doubleDensity;
     }
 
 -- 6.12, 6.16: a sector has data where its record has a data mark, whose byte is not 0
 abbrev pub hasData : Sector → Bool
 hasData s = not (eqb (s .«data_mark») 0)
-
--- 6.14: where the data of a sector ends: after its mark, its L bytes and their check bytes
-abbrev pub endOfData : Sector → ℕ
-endOfData s = s .«data_place» + markLength + 16 * s .«data_length» + checkLength
 
 -- 6.17: a record of zeros, with both checks bad
 abbrev pub noSector : Sector
@@ -118,6 +124,8 @@ noSector =
       «data_mark» = 0;
       «data_length» = 0;
       «data_check_good» = false;
+      «data_end» = 0;
+      density = 0;
     }
 
 -- 6.5: what stands at p: a sector where it is an ID mark, also with a bad check, and else nothing

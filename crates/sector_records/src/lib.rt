@@ -28,6 +28,9 @@ pub const ID_LENGTH: usize = 160;
 // The sync A1.
 pub const SYNC: u64 = 0x4489;
 
+// The density of MFM.
+pub const DOUBLE_DENSITY: u8 = 2;
+
 // A sector's record (rule 6.16). Places are cells; that of the data mark may be past the track's end.
 pub struct Sector {
     // Where its ID mark stands, and the mark's byte.
@@ -44,6 +47,10 @@ pub struct Sector {
     // How many data bytes there are, and their check. It is bad where there are none.
     pub data_length: u32,
     pub data_check_good: bool,
+    // Where the data with its check bytes ends, perhaps past the track's end; 0 where there is none.
+    pub data_end: u32,
+    // 2 for MFM.
+    pub density: u8,
 }
 
 // The sectors of a track: how many there are, and the first 64 of them.
@@ -60,16 +67,6 @@ pub fn track_sectors(bytes: &[u8], n: usize) -> Sectors
         return no_sectors();
     }
     list(bytes, n)
-}
-
-// Where a sector's data ends, with its check bytes.
-pub fn data_end(sector: Sector) -> usize
-    ensures { λ r. ⌜ r ≡ endOfData sector ⌝ }
-{
-    sector.data_place as usize
-        + MARK_LENGTH
-        + BYTE_LENGTH * (sector.data_length as usize)
-        + CHECK_LENGTH
 }
 
 // How far past an ID mark a data mark is looked for.
@@ -153,6 +150,8 @@ pub fn no_sector() -> Sector
         data_mark: 0,
         data_length: 0,
         data_check_good: false,
+        data_end: 0,
+        density: 0,
     }
 }
 
@@ -176,6 +175,7 @@ fn sector_at(bytes: &[u8], n: usize, p: usize) -> Sector
     let data_mark = mark_if(found, bytes, n, q);
     let data_length = length_if(found, size_code);
     let data_check_good = data_good(found, bytes, n, q, data_length);
+    let data_end = end_if(found, q, data_length);
     Sector {
         place: p as u32,
         mark,
@@ -188,6 +188,8 @@ fn sector_at(bytes: &[u8], n: usize, p: usize) -> Sector
         data_mark,
         data_length,
         data_check_good,
+        data_end,
+        density: DOUBLE_DENSITY,
     }
 }
 
@@ -257,6 +259,18 @@ fn data_good(found: bool, bytes: &[u8], n: usize, q: usize, length: u32) -> bool
         check_good(bytes, n, q, length as usize)
     } else {
         false
+    }
+}
+
+// Where data of so many bytes ends whose mark stands at q, 0 where there is none.
+fn end_if(found: bool, q: usize, length: u32) -> u32
+    requires { ⌜ (q < 200000) × (length ≤ 1024) ⌝ }
+    ensures { λ r. ⌜ r ≡ cond found (endOfData q length) 0 ⌝ }
+{
+    if found {
+        (q + MARK_LENGTH + BYTE_LENGTH * (length as usize) + CHECK_LENGTH) as u32
+    } else {
+        0
     }
 }
 

@@ -41,8 +41,8 @@ abbrev pub placeGiven : Answer Content → List ℕ → List ℕ
 placeGiven (gives content) place = writtenOver (take (length place) (content .track ∷ content .side ∷ [])) place
 placeGiven (refused number value) place = place
 
--- 9.34: a sector's record as eleven numbers, in the order of rule 6.16, with 1 for a good check and 0 for a bad one
+-- 9.34: a sector's record as thirteen numbers, in the order of rule 6.16, with 1 for a good check and 0 for a bad one
 unfoldable pub sectorNumbers : Sector → List ℕ
 sectorNumbers s =
     s .place ∷ s .mark ∷ s .track ∷ s .side ∷ s .number ∷ s .«size_code» ∷ cond (s .«id_check_good») 1 0 ∷ s .«data_place» ∷ s .«data_mark»
-    ∷ s .«data_length» ∷ cond (s .«data_check_good») 1 0 ∷ []
+    ∷ s .«data_length» ∷ cond (s .«data_check_good») 1 0 ∷ s .«data_end» ∷ s .density ∷ []

@@ -104,7 +104,7 @@ fn number_kept(counted: Counted, number: u32, next: RevolutionReader) -> u32
 }
 
 // A sector's record as numbers.
-pub fn sector_numbers(sector: Sector) -> [u32; 11]
+pub fn sector_numbers(sector: Sector) -> [u32; 13]
     ensures { λ r. ⌜ r ≡ sectorNumbers sector ⌝ }
 {
     [
@@ -119,7 +119,15 @@ pub fn sector_numbers(sector: Sector) -> [u32; 11]
         sector.data_mark as u32,
         sector.data_length,
         sector.data_check_good as u32,
+        sector.data_end,
+        wide(sector.density),
     ]
+}
+
+fn wide(byte: u8) -> u32
+    ensures { λ r. ⌜ r ≡ byte ⌝ }
+{
+    byte as u32
 }
 
 // 1 for yes and 0 for no.

@@ -12,7 +12,7 @@ use Rattle.telling.specs.Numbers.{sectorNumbers}
 abbrev pub countsLent : List ℕ → List ℕ → List ℕ
 countsLent timings counts = writtenOver (take (length counts) (countsAfter (counting timings) timings)) counts
 
--- 8.32, 9.34: a list lent for a record after the call of a sector by index: the eleven numbers at its front, or as many as it has room for
+-- 8.32, 9.34: a list lent for a record after the call of a sector by index: the thirteen numbers at its front, or as many as it has room for
 abbrev pub recordLent : List ℕ → (N T H index : ℕ) → List ℕ → List ℕ
 recordLent bytes N T H index list =
     writtenOver (take (length list) (sectorNumbers (recordBeside (indexAnswer bytes N T H index) (sectorOf bytes N index)))) list

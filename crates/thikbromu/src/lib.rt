@@ -167,9 +167,9 @@ pub extern "C" fn thikbromu_histogram(timings: &[u32], counts: &mut [u32], value
     told(answer, value)
 }
 
-// Sector `index` of a track, from 0: its record as eleven numbers at the front of `numbers` (rule 6.16: place, mark, the ID's track, side,
-// number and size code, whether the ID check is good, data place, data mark, data length, whether the data check is good; good is 1 and bad
-// 0), all zeros beside a refusal; `value` is the number of sectors. `track` and `side` are the drive's.
+// Sector `index` of a track, from 0: its record as thirteen numbers at the front of `numbers` (rule 6.16: place, mark, the ID's track, side,
+// number and size code, whether the ID check is good, data place, data mark, data length, whether the data check is good, data end, density;
+// good is 1 and bad 0), all zeros beside a refusal; `value` is the number of sectors. `track` and `side` are the drive's.
 #[no_mangle]
 pub extern "C" fn thikbromu_sector(
     bytes: &[u8],

@@ -10,6 +10,9 @@ use test_inputs::size_code_tracks::{self, size_code_tracks};
 use test_inputs::track_builder::{filled, odd_track, standard_track, turn, SectorPlan, TrackBuilder};
 use thikbromu::boundary::{self, SECTOR_NUMBERS};
 
+/// How many numbers a record has (rule 9.34). The crate's own number is compared with it.
+const RECORD_NUMBERS: usize = 13;
+
 /// A packed track: its bytes and its number of cells.
 struct Track {
     bytes: Vec<u8>,
@@ -21,7 +24,7 @@ fn packed(track_cells: &[u8]) -> Track {
 }
 
 /// A record as the library's numbers.
-fn numbers(record: &SectorRecord) -> [u32; SECTOR_NUMBERS] {
+fn numbers(record: &SectorRecord) -> [u32; RECORD_NUMBERS] {
     [
         record.place as u32,
         u32::from(record.mark),
@@ -34,6 +37,8 @@ fn numbers(record: &SectorRecord) -> [u32; SECTOR_NUMBERS] {
         u32::from(record.data_mark),
         record.length as u32,
         u32::from(record.data_check_good),
+        record.data_end as u32,
+        u32::from(record.density),
     ]
 }
 
@@ -48,12 +53,12 @@ fn index_answer(
 ) {
     let given = || format!("n {}, T {}, H {}, index {index}", track.n, drive.0, drive.1);
     let input = track.bytes.clone();
-    let mut lent = Lent::new(SECTOR_NUMBERS);
+    let mut lent = Lent::new(RECORD_NUMBERS);
     let ours = answer(boundary::sector(&input, track.n, drive.0, drive.1, index, lent.part()));
-    let left = second.map_or([0; SECTOR_NUMBERS], |(record, _)| numbers(&record));
+    let left = second.map_or([0; RECORD_NUMBERS], |(record, _)| numbers(&record));
     group.same(
         (ours, lent.into_all(), &input),
-        (second.map(|(_, count)| count), Lent::expected(SECTOR_NUMBERS, &left), &track.bytes),
+        (second.map(|(_, count)| count), Lent::expected(RECORD_NUMBERS, &left), &track.bytes),
         given,
     );
     let ours = answer(thikbromu::Track::new(&input, track.n, drive.0, drive.1).sector(index));
@@ -118,18 +123,20 @@ pub fn standard(report: &mut Report) {
     let mut random = Random::new(20);
     let standard_cells = standard_track(3, 1, 0xE5);
     let track = packed(&standard_cells);
+    group.same(SECTOR_NUMBERS, RECORD_NUMBERS, || String::from("the numbers of a record"));
     for i in 0..9 {
         let place = 1152 + 9824 * i as u32;
-        let record = [place, 0xFE, 3, 1, i as u32 + 1, 2, 1, place + 704, 0xFB, 512, 1];
-        let mut numbers = [u32::MAX; SECTOR_NUMBERS];
+        let data_place = place + 704;
+        let record = [place, 0xFE, 3, 1, i as u32 + 1, 2, 1, data_place, 0xFB, 512, 1, data_place + 8288, 2];
+        let mut numbers = [u32::MAX; RECORD_NUMBERS];
         let ours = answer(boundary::sector(&track.bytes, 100_000, 3, 1, i, &mut numbers));
         group.same((ours, numbers), (Ok(9), record), || format!("sector {i}"));
         let (mut data, mut good) = ([0; 512], u32::MAX);
         let ours = answer(boundary::read_out(&track.bytes, 100_000, 3, 1, i, &mut data, &mut good));
         group.same((ours, data, good), (Ok(512), [0xE5; 512], 1), || format!("data of sector {i}"));
         // As much of a record as there is room for.
-        for room in 0..SECTOR_NUMBERS + 2 {
-            let front = &record[..room.min(SECTOR_NUMBERS)];
+        for room in 0..RECORD_NUMBERS + 2 {
+            let front = &record[..room.min(RECORD_NUMBERS)];
             group.same_written(
                 &track.bytes,
                 room,
@@ -138,6 +145,15 @@ pub fn standard(report: &mut Report) {
                 || format!("sector {i}, room for {room} numbers"),
             );
         }
+    }
+    // As many zeros of the record beside a refusal.
+    for room in 0..RECORD_NUMBERS + 2 {
+        let mut lent = Lent::new(room);
+        let ours = answer(boundary::sector(&track.bytes, 100_000, 3, 1, 9, lent.part()));
+        let zeros = vec![0; room.min(RECORD_NUMBERS)];
+        group.same((ours, lent.into_all()), (Err(Refusal::no_such_sector(9)), Lent::expected(room, &zeros)), || {
+            format!("no sector 9, room for {room} numbers")
+        });
     }
     whole_track(&mut group, &mut random, &track, (3, 1));
     group.close(report);
@@ -268,14 +284,15 @@ pub fn size_codes(report: &mut Report) {
     let mut group = Group::new("sectors of size codes 0 to 255");
     let mut random = Random::new(24);
     for code in 0..=255 {
-        // The length by the table of rule 6.11.
+        // The length by the table of rule 6.11; the end by rule 6.14.
         let length = [128, 256, 512, 1024][usize::from(code) % 4];
         for (shape, track_cells) in size_code_tracks(&mut random, code).iter().enumerate() {
             let track = packed(track_cells);
             if shape == 0 {
                 let (place, data_place) = (size_code_tracks::PLACE as u32, size_code_tracks::DATA_PLACE as u32);
-                let record = [place, 0xFE, 0, 0, 1, u32::from(code), 1, data_place, 0xFB, length as u32, 1];
-                let mut numbers = [u32::MAX; SECTOR_NUMBERS];
+                let end = data_place + [2144, 4192, 8288, 16480][usize::from(code) % 4];
+                let record = [place, 0xFE, 0, 0, 1, u32::from(code), 1, data_place, 0xFB, length as u32, 1, end, 2];
+                let mut numbers = [u32::MAX; RECORD_NUMBERS];
                 let ours = answer(boundary::sector(&track.bytes, track.n, 0, 0, 0, &mut numbers));
                 group.same((ours, numbers), (Ok(1), record), || format!("size code {code}"));
                 for room in [0, length - 1, length + 1] {

@@ -51,6 +51,8 @@ pub fn record(ours: thikbromu::Sector) -> SectorRecord {
         data_mark: ours.data_mark,
         length: ours.data_length,
         data_check_good: ours.data_check_good,
+        data_end: ours.end as usize,
+        density: ours.density,
     }
 }
 

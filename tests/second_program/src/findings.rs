@@ -136,7 +136,7 @@ fn lies_in_other_data(track: &Track, index: usize) -> bool {
         .iter()
         .enumerate()
         .any(|(other_index, other)| {
-            let covered = other.data_place..other.data_end();
+            let covered = other.data_place..other.data_end;
             other_index != index
                 && other.has_data()
                 && (covered.contains(&p) || covered.contains(&(p + track.n)))
@@ -163,7 +163,7 @@ fn syncs_in_sector(track: &Track, sector: &SectorRecord) -> usize {
     let mut count = syncs_between(track, p + MARK_LENGTH, p + ID_LENGTH);
     if sector.has_data() {
         let after_mark = sector.data_place + MARK_LENGTH;
-        count += syncs_between(track, after_mark, sector.data_end());
+        count += syncs_between(track, after_mark, sector.data_end);
     }
     count
 }
@@ -198,7 +198,7 @@ fn sector_detail(track: &Track, kind: u32, index: usize) -> Option<usize> {
         SBI => (!sector.id_check_good, number),
         SND => (sector.id_check_good && !sector.has_data(), number),
         SBD => (sector.has_data() && !sector.data_check_good, number),
-        DOI if sector.has_data() && q < n && sector.data_end() > n => (true, sector.data_end() - n),
+        DOI if sector.has_data() && q < n && sector.data_end > n => (true, sector.data_end - n),
         DBI if sector.has_data() && q >= n => (true, q - n),
         SWS => (lies_in_other_data(track, index), number),
         SID => {

@@ -24,6 +24,8 @@ const FARTHEST_DATA_MARK: usize = 784;
 const CHECK_LENGTH: usize = 32;
 /// The cells of one byte.
 const BYTE_LENGTH: usize = 16;
+/// The density of MFM, which is double density (rule 6.16).
+pub const DOUBLE_DENSITY: u8 = 2;
 
 /// A sector's record (rule 6.16). The default has zeros and bad checks (rule 6.17).
 #[derive(Clone, Copy, Debug, Default, PartialEq, Eq)]
@@ -50,6 +52,10 @@ pub struct SectorRecord {
     pub length: usize,
     /// Whether the data check is good; bad where there is no data.
     pub data_check_good: bool,
+    /// The data end, perhaps above N; 0 where there is no data.
+    pub data_end: usize,
+    /// The density: 2 in the record of every sector, 0 only in the record of zeros.
+    pub density: u8,
 }
 
 impl SectorRecord {
@@ -57,11 +63,11 @@ impl SectorRecord {
     pub fn has_data(&self) -> bool {
         self.data_mark != 0
     }
+}
 
-    /// The data end, where there is data (rule 6.14).
-    pub fn data_end(&self) -> usize {
-        self.data_place + MARK_LENGTH + BYTE_LENGTH * self.length + CHECK_LENGTH
-    }
+/// The end of data that has so many bytes and whose mark stands at q (rule 6.14).
+pub fn data_end_of(q: usize, length: usize) -> usize {
+    q + MARK_LENGTH + BYTE_LENGTH * length + CHECK_LENGTH
 }
 
 /// Whether a mark byte makes an ID mark (rule 6.3).
@@ -157,6 +163,7 @@ pub fn record_at(bytes: &[u8], n: usize, p: usize) -> SectorRecord {
         number: id[2],
         size_code: id[3],
         id_check_good: check_is_good(bytes, n, p, 4),
+        density: DOUBLE_DENSITY,
         ..SectorRecord::default()
     };
     if let Some((q, data_mark)) = find_data_mark(bytes, n, p) {
@@ -164,6 +171,7 @@ pub fn record_at(bytes: &[u8], n: usize, p: usize) -> SectorRecord {
         record.data_mark = data_mark;
         record.length = length_of(record.size_code);
         record.data_check_good = check_is_good(bytes, n, q, record.length);
+        record.data_end = data_end_of(q, record.length);
     }
     record
 }

@@ -46,9 +46,10 @@ fn the_standard_track() {
             data_mark: 0xFB,
             length: 512,
             data_check_good: true,
+            data_end: p + 704 + 8_288,
+            density: 2,
         };
         assert_eq!(*sector, expected);
-        assert_eq!(sector.data_end(), sector.data_place + 8_288);
     }
 }
 
@@ -77,6 +78,8 @@ fn a_turned_track_has_the_same_sectors() {
             .map(|sector| SectorRecord {
                 place: (sector.place + by) % n,
                 data_place: (sector.place + by) % n + 704,
+                // Counted on past N, as the data mark's place is.
+                data_end: (sector.place + by) % n + 704 + 8_288,
                 ..*sector
             })
             .collect();
@@ -118,13 +121,16 @@ fn only_f8_to_fb_make_a_data_mark() {
             assert_eq!(sector.data_place, 1_152 + 704);
             assert_eq!(sector.length, 512);
             assert!(sector.data_check_good);
+            assert_eq!(sector.data_end, 1_152 + 704 + 8_288);
         } else {
             assert_eq!(sector.data_mark, 0);
             assert_eq!(sector.data_place, 0);
             assert_eq!(sector.length, 0);
             assert!(!sector.data_check_good);
+            assert_eq!(sector.data_end, 0);
         }
         assert!(sector.id_check_good);
+        assert_eq!(sector.density, 2);
     }
 }
 
@@ -236,7 +242,7 @@ fn size_codes() {
         assert_eq!(sector.length, length);
         assert_eq!(sector.data_mark, 0xFB);
         assert_eq!(sector.data_place, sector.place + 704);
-        assert_eq!(sector.data_end(), sector.data_place + 96 + 16 * length);
+        assert_eq!(sector.data_end, sector.data_place + 96 + 16 * length);
         assert!(sector.data_check_good);
     }
 }
@@ -354,6 +360,7 @@ fn only_a_sector_without_data_mark_has_no_data() {
         assert!(!sector.has_data());
         assert_eq!((sector.data_place, sector.data_mark), (0, 0));
         assert_eq!((sector.length, sector.data_check_good), (0, false));
+        assert_eq!((sector.data_end, sector.density), (0, 2));
         let bytes = builder.packed();
         let n = builder.cells().len();
         for room in [0, 1_024] {
@@ -361,6 +368,32 @@ fn only_a_sector_without_data_mark_has_no_data() {
         }
         assert_eq!(read_out(0, 0, &bytes, n, 1, 0), refused(11, 1));
     }
+}
+
+#[test]
+fn the_data_end_may_lie_at_the_index_and_past_it() {
+    let standard = standard_track(0, 0, 0x00);
+    let n = standard.len();
+    // The last sector's data end stands at 1,152 + 8 * 9,824 + 704 + 8,288 = 88,736.
+    for (by, end) in [
+        (n - 88_737, n - 1),
+        (n - 88_736, n),
+        (n - 88_735, n + 1),
+        // Its ID mark at the last cell.
+        (n - 79_745, n + 8_991),
+    ] {
+        let sectors = list_of(&turn(&standard, by));
+        assert_eq!(sectors[8].data_end, end, "turned by {by}");
+    }
+}
+
+#[test]
+fn the_record_of_zeros() {
+    let zeros = SectorRecord::default();
+    assert!(!zeros.has_data());
+    assert!(!zeros.id_check_good && !zeros.data_check_good);
+    assert_eq!((zeros.place, zeros.data_place, zeros.data_end), (0, 0, 0));
+    assert_eq!((zeros.length, zeros.density), (0, 0));
 }
 
 #[test]

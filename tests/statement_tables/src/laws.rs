@@ -27,7 +27,11 @@ pub const LAWS: &[Law] = &[
         &["data-least", "data-none"],
     ),
     ("6.12", "sector_records/proofs/Places", &["has-data"]),
-    ("6.14", "sector_records/proofs/Places", &["data-end-below"]),
+    (
+        "6.14",
+        "sector_records/proofs/Places",
+        &["end-without-data", "end-with-data", "data-end-below"],
+    ),
     ("7.4", "finding_list/proofs/Laws", &["tnf-only"]),
     (
         "7.31",

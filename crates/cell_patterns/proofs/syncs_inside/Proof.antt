@@ -31,8 +31,8 @@ cast-data c = search needs
 add-data : tie.Need-add-data
 add-data c = search needs
 
-data-end-requires : tie.Need-data-end-requires
-data-end-requires c κs = search needs
+wide-requires : tie.Need-wide-requires
+wide-requires c κs = search needs
 
 syncs-between-requires-2 : tie.Need-syncs-between-requires-2
 syncs-between-requires-2 c κs = search needs
@@ -46,15 +46,16 @@ add-result c =
       arith,
       c .before .before .before .before .before .syncs-between .ensures,
       c .syncs-between2 .ensures,
-      c .before .data-end .ensures,
+      c .before .wide .ensures .0,
+      c .before .wide .ensures .1,
       syncs-few f (s .place + markLength) (s .place + idLength),
-      syncs-few f (s .«data_place» + markLength) (c .before .data-end .result),
+      syncs-few f (s .«data_place» + markLength) (c .before .wide .result),
     )
 
 returns-2 : tie.Need-returns-2
 returns-2 c =
     let s = c .before .before .before .before .before .before .before .before .args .s in
-    inside-both _ s _ (c .before .before .before .before .before .syncs-between .ensures) _ (c .before .before .before .if1 .left) (rw (← c .before .data-end .ensures) (c .syncs-between2 .ensures))
+    inside-both _ s _ (c .before .before .before .before .before .syncs-between .ensures) _ (c .before .before .before .if1 .left) (rw (← c .before .wide .ensures .0) (c .syncs-between2 .ensures))
 
 pub syncs-inside-spec : {M : Type 1} → statement M
 syncs-inside-spec =
@@ -67,7 +68,7 @@ syncs-inside-spec =
     returns
     cast-data
     add-data
-    data-end-requires
+    wide-requires
     syncs-between-requires-2
     add-result
     returns-2)

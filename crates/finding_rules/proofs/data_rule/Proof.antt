@@ -26,23 +26,14 @@ cast-t15 c = search needs
 cast-t16 : tie.Need-cast-t16
 cast-t16 c = search needs
 
-data-end-requires : tie.Need-data-end-requires
-data-end-requires c κs = search needs
-
-cast-t24 : tie.Need-cast-t24
-cast-t24 c = search needs
-
-data-end-requires-2 : tie.Need-data-end-requires-2
-data-end-requires-2 c κs = search needs
+cast-t22 : tie.Need-cast-t22
+cast-t22 c = search needs
 
 less-requires : tie.Need-less-requires
 less-requires c κs = search needs
 
-cast-t31 : tie.Need-cast-t31
-cast-t31 c = search needs
-
-cast-less : tie.Need-cast-less
-cast-less c = search needs
+cast-t27 : tie.Need-cast-t27
+cast-t27 c = search needs
 
 less-requires-2 : tie.Need-less-requires-2
 less-requires-2 c κs = search needs
@@ -64,11 +55,11 @@ returns-3 c = rw (c .before .before .before .before .match .keys3)
 
 returns-4 : tie.Need-returns-4
 unfolding dataRows
-returns-4 c = rw (c .before .before .before .before .before .before .match .keys4, c .less .ensures, c .before .data-end2 .ensures, c .before .before .before .data-end .ensures)
+returns-4 c = rw (c .before .before .before .before .before .match .keys4, c .less .ensures)
 
 returns-5 : tie.Need-returns-5
 unfolding dataRows
-returns-5 c = rw (c .before .before .before .before .before .match .keys5, c .less2 .ensures)
+returns-5 c = rw (c .before .before .before .before .match .keys5, c .less2 .ensures)
 
 returns-6 : tie.Need-returns-6
 unfolding dataRows
@@ -84,12 +75,9 @@ data-rule-spec =
     cast-t11
     cast-t15
     cast-t16
-    data-end-requires
-    cast-t24
-    data-end-requires-2
+    cast-t22
     less-requires
-    cast-t31
-    cast-less
+    cast-t27
     less-requires-2
     nothing-requires
     returns

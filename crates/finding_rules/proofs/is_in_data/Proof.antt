@@ -6,11 +6,11 @@ use Rattle.finding_rules.proofs.is_in_data.Tie as tie
 cast-result : tie.Need-cast-result
 cast-result c = search needs
 
-data-end-requires : tie.Need-data-end-requires
-data-end-requires c κs = search needs
+cast-result-2 : tie.Need-cast-result-2
+cast-result-2 c = search needs
 
 returns : tie.Need-returns
-returns c = rw (c .data-end .ensures)
+returns c = search needs
 
 pub is-in-data-spec : {M : Type 1} → statement M
-is-in-data-spec = tie.close (tie.spec cast-result data-end-requires returns)
+is-in-data-spec = tie.close (tie.spec cast-result cast-result-2 returns)

@@ -43,14 +43,17 @@ length-if-requires c κs = search needs
 data-good-requires : tie.Need-data-good-requires
 data-good-requires c κs = search needs
 
-cast-t17 : tie.Need-cast-t17
-cast-t17 c = search needs
+end-if-requires : tie.Need-end-if-requires
+end-if-requires c κs = search needs
+
+cast-t18 : tie.Need-cast-t18
+cast-t18 c = search needs
 
 returns : tie.Need-returns
 returns c =
-    record-is _ _ _ _ _ _ _ _ _ _ _ _ _
-    (c .before .before .before .before .before .before .before .before .before .before .byte-on .ensures) (c .before .before .before .before .before .before .before .before .before .id-byte .ensures) (c .before .before .before .before .before .before .before .before .id-byte2 .ensures) (c .before .before .before .before .before .before .before .id-byte3 .ensures) (c .before .before .before .before .before .before .id-byte4 .ensures) (c .before .before .before .before .before .check-good .ensures)
-    (c .before .before .before .before .find-data .ensures .0) (c .before .before .before .place-if .ensures) (c .before .before .mark-if .ensures) (c .before .length-if .ensures .0) (c .data-good .ensures)
+    record-is _ _ _ _ _ _ _ _ _ _ _ _ _ _
+    (c .before .before .before .before .before .before .before .before .before .before .before .byte-on .ensures) (c .before .before .before .before .before .before .before .before .before .before .id-byte .ensures) (c .before .before .before .before .before .before .before .before .before .id-byte2 .ensures) (c .before .before .before .before .before .before .before .before .id-byte3 .ensures) (c .before .before .before .before .before .before .before .id-byte4 .ensures) (c .before .before .before .before .before .before .check-good .ensures)
+    (c .before .before .before .before .before .find-data .ensures .0) (c .before .before .before .before .place-if .ensures) (c .before .before .before .mark-if .ensures) (c .before .before .length-if .ensures .0) (c .before .data-good .ensures) (c .end-if .ensures)
 
 pub sector-at-spec : {M : Type 1} → statement M
 sector-at-spec =
@@ -69,5 +72,6 @@ sector-at-spec =
     mark-if-requires
     length-if-requires
     data-good-requires
-    cast-t17
+    end-if-requires
+    cast-t18
     returns)

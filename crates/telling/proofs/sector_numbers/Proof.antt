@@ -29,12 +29,15 @@ cast-t8 c = search needs
 cast-t9 : tie.Need-cast-t9
 cast-t9 c = search needs
 
+wide-requires : tie.Need-wide-requires
+wide-requires c κs = search needs
+
 returns : tie.Need-returns
 unfolding sectorNumbers
 returns c =
-    let s = c .before .before .before .before .before .before .before .before .args .sector in
-    rw (cast-is (s .«id_check_good»), cast-is (s .«data_check_good»))
+    let s = c .before .before .before .before .before .before .before .before .before .args .sector in
+    rw (cast-is (s .«id_check_good»), cast-is (s .«data_check_good»), c .wide .ensures)
 
 pub sector-numbers-spec : {M : Type 1} → statement M
 sector-numbers-spec =
-    tie.close (tie.spec cast-t2 cast-t3 cast-t4 cast-t5 cast-t6 cast-t7 cast-t8 cast-t9 returns)
+    tie.close (tie.spec cast-t2 cast-t3 cast-t4 cast-t5 cast-t6 cast-t7 cast-t8 cast-t9 wide-requires returns)

@@ -24,9 +24,9 @@ fn check(good: bool) -> &'static str {
 }
 
 fn print_sector(sector: &Sector) {
-    print!("{:6}  {:6}  {:5}  ", sector.number, sector.place, check(sector.id_check_good));
+    print!("{:6}  {:6}  {:5}  {:7}  ", sector.number, sector.place, check(sector.id_check_good), sector.density);
     if sector.has_data() {
-        println!("{:7}  {:5}  {:5}", sector.data_place, check(sector.data_check_good), sector.data_length);
+        println!("{:7}  {:5}  {:5}  {:6}", sector.data_place, check(sector.data_check_good), sector.data_length, sector.end);
     } else {
         println!("no data mark");
     }
@@ -37,7 +37,7 @@ fn main() -> Result<(), Box<dyn Error>> {
     io::stdin().read_to_end(&mut file)?;
     let track = track_of(&file).ok_or("not a track file of cells")?;
 
-    println!("number   ID at  check  data at  check  bytes");
+    println!("number   ID at  check  density  data at  check  bytes     end");
     // The library judges the track, the side, the count and the bytes that are there; what it refuses ends this program.
     for sector in track.sectors()? {
         print_sector(&sector);
