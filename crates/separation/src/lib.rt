@@ -1,4 +1,4 @@
-// The separator on a whole list of timings: the cells, packed in a lent buffer.
+// The separator on a whole list of timings: the cells, packed in a lent buffer, and the number of border pulses.
 use flux_timings::MOST_TIMINGS;
 use flux_timings::first_out;
 use refusals::Counted;
@@ -16,16 +16,17 @@ ghost use Rattle.refusals.specs.RefusedCalls.Answer.{gives};
 ghost use Rattle.cells.specs.CellsAndBytes.{bytesFor, packed, withOne};
 ghost use Rattle.flux_timings.specs.Timings.{firstOut};
 ghost use Rattle.separator.specs.Rule.{takenAnswer};
-ghost use Rattle.separation.specs.Separation.{cellsOf, separation, separatedCells};
+ghost use Rattle.separation.specs.Separation.{cellsOf, borderPulsesOf, separation, separatedCells, borderPulsesAfter};
 ghost use Rattle.separation.specs.Demand3.{Demand3};
 
 // The most cells that one call gives.
 pub const MOST_CELLS: usize = 131_072;
 
-// The whole list of timings, to cells at the front of a buffer; they are counted.
-pub fn separate(timings: &[u32], cells: &mut [u8]) -> Counted
+// The whole list of timings, to cells at the front of a buffer; they are counted, and the border pulses too.
+pub fn separate(timings: &[u32], cells: &mut [u8], border_pulses: &mut usize) -> Counted
     ensures answer { λ r. ⌜ countedAnswer r ≡ separation (now (timings .entry)) (length (now (cells .entry))) ⌝ }
     ensures buffer { λ _. ⌜ now (cells .exit) ≡ separatedCells (now (timings .entry)) (now (cells .entry)) ⌝ }
+    ensures border_pulses { λ _. ⌜ now («border_pulses» .exit) ≡ borderPulsesAfter (separation (now (timings .entry)) (length (now (cells .entry)))) (borderPulsesOf (now (timings .entry))) (now («border_pulses» .entry)) ⌝ }
     ensures demand3 { λ r. ⌜ Demand3 (now (timings .entry)) (countedAnswer r) (now (cells .entry)) (now (cells .exit)) ⌝ }
 {
     let given = timings.len();
@@ -47,7 +48,7 @@ pub fn separate(timings: &[u32], cells: &mut [u8]) -> Counted
     if cells.len() < needed {
         return Counted::Refused(Refusal::NoRoom(needed));
     }
-    write_cells(timings, needed, cells);
+    *border_pulses = write_cells(timings, needed, cells);
     Counted::Count(count)
 }
 
@@ -61,7 +62,8 @@ fn count_cells(timings: &[u32]) -> usize
     let mut i: usize = 0;
     while i < timings.len() {
         let stepped = state.step(timings[i]);
-        let taken = stepped.taken;
+        let given = stepped.given;
+        let taken = given.taken;
         count += cells_given(taken);
         state = stepped.next;
         i += 1;
@@ -69,24 +71,29 @@ fn count_cells(timings: &[u32]) -> usize
     count
 }
 
-// Writes the cells of timings that are in range to the front of a buffer that has room for them.
-fn write_cells(timings: &[u32], needed: usize, cells: &mut [u8])
-    requires { ⌜ (firstOut (now timings) ≡ length (now timings)) × (length (cellsOf (now timings)) ≤ 131072) × (needed ≡ bytesFor (length (cellsOf (now timings)))) × (needed ≤ length (now cells)) ⌝ }
-    ensures { λ _. ⌜ now (cells .exit) ≡ writtenOver (packed (cellsOf (now (timings .entry)))) (now (cells .entry)) ⌝ }
+// Writes the cells of timings that are in range to the front of a buffer that has room for them. The answer is the number of border pulses.
+fn write_cells(timings: &[u32], needed: usize, cells: &mut [u8]) -> usize
+    requires { ⌜ (firstOut (now timings) ≡ length (now timings)) × (length (cellsOf (now timings)) ≤ 131072) × (needed ≡ bytesFor (length (cellsOf (now timings)))) × (needed ≤ length (now cells)) × (length (now timings) ≤ 65536) ⌝ }
+    ensures buffer { λ _. ⌜ now (cells .exit) ≡ writtenOver (packed (cellsOf (now (timings .entry)))) (now (cells .entry)) ⌝ }
+    ensures border_pulses { λ r. ⌜ r ≡ borderPulsesOf (now (timings .entry)) ⌝ }
 {
     cells::clear(cells, needed);
+    let mut border_pulses: usize = 0;
     let mut at: usize = 0;
     let mut separator = Separator::new();
     let mut i: usize = 0;
     while i < timings.len() {
         let stepped = separator.step(timings[i]);
-        let taken = stepped.taken;
+        let given = stepped.given;
+        let taken = given.taken;
         let count = cells_given(taken);
         put_cells(cells, at, count);
         at += count;
+        border_pulses += separator::border_pulses_at(given.offset) as usize;
         separator = stepped.next;
         i += 1;
     }
+    border_pulses
 }
 
 // Puts the cells of a timing at cell `at`, where zeros stand: all that changes is a one at the last of them.

@@ -35,12 +35,12 @@ cells-given-requires c κs = search needs
 -- what a turn's step gives
 module _ (c : tie.After-cells-given Inv-loop μ-loop) where
   abbrev L : tie.At-loop Inv-loop μ-loop
-  L = c .before .before .before .before
+  L = c .before .before .before .before .before
 
-  turned : Turn (L .before .before .before .args .timings .now) (L .loop .i) (L .loop .state .residual) (c .cells-given .result) (c .before .step .result .next .residual)
+  turned : Turn (L .before .before .before .args .timings .now) (L .loop .i) (L .loop .state .residual) (c .cells-given .result) (c .before .before .step .result .next .residual)
   turned =
-      turn _ _ _ (L .before .before .before .pre .1) (c .before .before .before .loop-test .taken) (L .loop .inv .kept)
-      (c .before .step .ensures .0) (c .before .step .ensures .1) (c .cells-given .ensures)
+      turn _ _ _ (L .before .before .before .pre .1) (c .before .before .before .before .loop-test .taken) (L .loop .inv .kept)
+      (c .before .before .step .ensures .0) (c .before .before .step .ensures .1 .1) (c .cells-given .ensures)
 
 add-count : tie.Need-add-count Inv-loop μ-loop
 add-count c =

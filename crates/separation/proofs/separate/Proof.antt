@@ -16,12 +16,12 @@ use Rattle.separation.proofs.separate.Statement.{statement}
 use Rattle.separation.proofs.separate.Tie as tie
 
 returns : tie.Need-returns
-returns c = let a = c .before .before .before .args in promised-refused (a .timings .now) (a .cells .now) (no-timings _ _ (c .if1 .taken))
+returns c = let a = c .before .before .before .args in promised-refused (a .timings .now) (a .cells .now) _ (no-timings _ _ (c .if1 .taken))
 
 returns-2 : tie.Need-returns-2
 returns-2 c =
     let a = c .before .before .before .before .args in
-    promised-refused (a .timings .now) (a .cells .now) (too-many-timings _ _ (c .before .if1 .left) (c .if2 .taken))
+    promised-refused (a .timings .now) (a .cells .now) _ (too-many-timings _ _ (c .before .if1 .left) (c .if2 .taken))
 
 first-out-requires : tie.Need-first-out-requires
 first-out-requires c κs = search needs
@@ -36,7 +36,7 @@ CS f = f .before .before .before .before .before .args .cells .now
 returns-3 : tie.Need-returns-3
 returns-3 c =
     let f = c .before in
-    promised-refused (TS f) (CS f)
+    promised-refused (TS f) (CS f) _
     (timing-out-of-range _ _ (f .before .before .if1 .left) (f .before .if2 .left) (f .first-out .ensures) (c .if3 .taken))
 
 all-in : (c : tie.Else3) → firstOut (TS (c .before)) ≡ length (TS (c .before))
@@ -55,7 +55,7 @@ judged d =
 returns-4 : tie.Need-returns-4
 returns-4 c =
     let f = c .before .before .before in
-    promised-refused (TS f) (CS f) (too-many-cells _ _ (c .if4 .taken) ∙ judged (c .before))
+    promised-refused (TS f) (CS f) _ (too-many-cells _ _ (c .if4 .taken) ∙ judged (c .before))
 
 add-needed : tie.Need-add-needed
 add-needed c = search needs
@@ -64,13 +64,13 @@ returns-5 : tie.Need-returns-5
 returns-5 c =
     let d = c .before .before in
     let f = d .before .before in
-    promised-refused (TS f) (CS f) (no-room-for-cells _ _ (c .before .if4 .left) (c .if5 .taken) ∙ judged d)
+    promised-refused (TS f) (CS f) _ (no-room-for-cells _ _ (c .before .if4 .left) (c .if5 .taken) ∙ judged d)
 
 write-cells-requires : tie.Need-write-cells-requires
 write-cells-requires c κs =
     let d = c .before .before .before in
     let e = d .count-cells .ensures in
-    (all-in (d .before), omega (arith, e, c .before .before .if4 .left), ap bytesFor e, c .before .if5 .left)
+    (all-in (d .before), omega (arith, e, c .before .before .if4 .left), ap bytesFor e, c .before .if5 .left, d .before .before .before .if2 .left)
 
 same-length : tie.Need-same-length
 same-length c = search needs
@@ -80,7 +80,7 @@ returns-6 c =
     let w = c .before .before in
     let d = w .before .before .before .before in
     let f = d .before .before in
-    promised-cells (TS f) (CS f)
+    promised-cells (TS f) (CS f) _
     (cells-accepted _ _ (w .before .before .before .if4 .left) (w .before .before .if5 .left) ∙ judged d)
     (w .write-cells .ensures)
 
