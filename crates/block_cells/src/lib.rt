@@ -23,9 +23,7 @@ pub fn separate_revolution(
     let mut timings = room_for_timings();
     let counted = revolution_timings(block, revolutions, revolution, &mut timings);
     match counted {
-        Counted::Count(count) => {
-            separation::separate(&timings[..count], cells, border_pulses)
-        }
+        Counted::Count(count) => { separation::separate(&timings[..count], cells, border_pulses) }
         Counted::Refused(refusal) => Counted::Refused(refusal),
     }
 }

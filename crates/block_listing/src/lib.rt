@@ -21,8 +21,13 @@ pub fn list_block(
 {
     let mut cells = room_for_cells();
     let mut pulses: usize = 0;
-    let separated =
-        block_cells::separate_revolution(block, revolutions, revolution, &mut cells, &mut pulses);
+    let separated = block_cells::separate_revolution(
+        block,
+        revolutions,
+        revolution,
+        &mut cells,
+        &mut pulses,
+    );
     match separated {
         Counted::Count(count) => {
             listing::list_flux_track(&cells, count, track, side, pulses as u32, out)

@@ -49,8 +49,14 @@ module _ (i at p : ℕ) (r : ℤ) (t : ℕ) (kept : Kept halfWindow r) (ranged :
       ≡ tookWith (i + 1) (at + cellsAt halfWindow r t) (p + borderPulsesAt (offsetAt halfWindow r t)) (residualAfter halfWindow r t)
   unfolding takenAfter takenStep
   one-taken =
-      rw (step-answers r t kept ranged, step-offsets r t kept ranged, step-leaves r t kept ranged, ← count-more i 1 (omega arith),
-      ← count-more at (cellsAt halfWindow r t) (omega arith), ← count-more p (borderPulsesAt (offsetAt halfWindow r t)) (omega arith))
+      rw (
+        step-answers r t kept ranged,
+        step-offsets r t kept ranged,
+        step-leaves r t kept ranged,
+        ← count-more i 1 (omega arith),
+        ← count-more at (cellsAt halfWindow r t) (omega arith),
+        ← count-more p (borderPulsesAt (offsetAt halfWindow r t)) (omega arith),
+      )
 
   pub one-cells : (buffer : List ℕ) → takenCells (tookWith i at p r) t buffer ≡ timingCells at (cellsAt halfWindow r t) buffer
   unfolding takenCells stepCells

@@ -31,8 +31,7 @@ S d = d .before .before .before .before
 
 loop-holds : tie.Need-loop-holds Inv-loop μ-loop
 loop-holds c =
-    let d = c .before .before .before in
-    (
+    let d = c .before .before .before in (
       filled-start _ (S d .args .needed) (c .new .ensures) (front-cleared (S d .args .needed) (S d .args .cells .now) (S d .pre .3) (d .clear .ensures)),
       none-passed _ (c .new .ensures),
     )
@@ -94,8 +93,7 @@ loop-again c =
     let b = c .before in
     let p = b .before .before .before .before in
     let d = p .before .before in
-    let e = toZ-ofZ (record { sfits = b .before .struct-told .given .1 .0 .1 }) ∙ d .before .before .step .ensures .1 .0 in
-    (
+    let e = toZ-ofZ (record { sfits = b .before .struct-told .given .1 .0 .1 }) ∙ d .before .before .step .ensures .1 .0 in (
       filled-next (L d .loop .inv .0) (A d .pre .2) (turned d) _ (p .put-cells .ensures) (p .put-cells .kept .0),
       one-passed (L d .loop .inv .1) (L d .loop .inv .0 .walked .kept) (turned d) e (b .border-pulses-at .ensures),
     )
@@ -106,8 +104,7 @@ same-length c = c .before .loop .inv .0 .long ∙ c .before .before .before .bef
 returns : tie.Need-returns Inv-loop μ-loop
 returns c =
     let d = c .before .before .before .before .before in
-    let l = c .before .loop in
-    (
+    let l = c .before .loop in (
       filled-end (l .inv .0) (S d .args .cells .now) (omega arith) (S d .pre .2) (rest-kept (S d .args .needed) _ (S d .pre .3) (d .clear .ensures)),
       all-passed (l .inv .1) (omega arith),
     )

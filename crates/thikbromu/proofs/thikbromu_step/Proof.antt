@@ -27,8 +27,7 @@ returns c =
     let lent = toZ-ofZ (record { sfits = c .before .before .before .before .before .before .before .step-lent-arg .given }) in
     let left = toZ-ofZ (record { sfits = c .before .before .before .before .struct-told .given .0 .1 }) in
     let e = s .0 ∙ ap (λ (z : ℤ). stepAnswer z (a .timing)) lent in
-    let o = s .1 .0 ∙ ap (λ (z : ℤ). stepOffset z (a .timing)) lent in
-    (
+    let o = s .1 .0 ∙ ap (λ (z : ℤ). stepOffset z (a .timing)) lent in (
       t .0 ∙ ap numberIn e,
       (
         t .1 ∙ ap valueIn e,
