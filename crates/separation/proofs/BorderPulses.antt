@@ -17,14 +17,9 @@ use Rattle.separation.proofs.Walk.{Turn}
 abbrev pub borderPulsesFrom : ℤ → List ℕ → ℕ
 borderPulsesFrom r ts = borderPulsesIn (windowsFrom halfWindow r ts)
 
--- a pulse is one at most, and there are no more of them than timings
+-- a pulse is one at most
 pub one-at-most : (e : ℤ) {k : ℕ} → k ≡ borderPulsesAt e → k ≤ 1
 one-at-most e is = omega (arith, border-few e)
-
-pub border-pulses-few : (ts : List ℕ) (r : ℤ) → borderPulsesFrom r ts ≤ length ts
-unfolding windowsFrom borderPulsesIn
-border-pulses-few [] r = omega arith
-border-pulses-few (t ∷ ts) r = omega (arith, border-few (offsetAt halfWindow r t), border-pulses-few ts (residualAfter halfWindow r t))
 
 -- i timings of ts passed, with so many border pulses, and the residual r that is left
 pub record Passed (ts : List ℕ) (pulses : ℕ) (r : ℤ) (i : ℕ) : Type 0 where
@@ -51,3 +46,9 @@ none-left ts r i h = rw (drop-of-length-le ts h)
 
 pub all-passed : {ts : List ℕ} {pulses : ℕ} {r : ℤ} {i : ℕ} → Passed ts pulses r i → length ts ≤ i → pulses ≡ borderPulsesOf ts
 all-passed {ts} {pulses} {r} {i} p h = omega (arith, p .rest, none-left ts r i h)
+
+-- there are no more of them than timings
+pub border-pulses-few : (ts : List ℕ) (r : ℤ) → borderPulsesFrom r ts ≤ length ts
+unfolding windowsFrom borderPulsesIn
+border-pulses-few [] r = omega arith
+border-pulses-few (t ∷ ts) r = omega (arith, border-few (offsetAt halfWindow r t), border-pulses-few ts (residualAfter halfWindow r t))

@@ -56,8 +56,8 @@ promised-refused ts before pulses e =
     (p .0, (p .1 .0, (ap (λ (x : Answer ℕ). borderPulsesAfter x (borderPulsesOf ts) pulses) e, p .1 .1)))
 
 pub promised-cells : (ts before : List ℕ) (pulses : ℕ) {after : List ℕ} {n pulses′ : ℕ} → gives n ≡ separation ts (length before)
-    → (after ≡ writtenOver (packed (cellsOf ts)) before) × (pulses′ ≡ borderPulsesOf ts) → Promised ts before after pulses pulses′ (gives n)
+    → after ≡ writtenOver (packed (cellsOf ts)) before → pulses′ ≡ borderPulsesOf ts → Promised ts before after pulses pulses′ (gives n)
 unfolding bufferAfter borderPulsesAfter
-promised-cells ts before pulses e f =
-    let p = promised ts before e (f .0) in
-    (p .0, (p .1 .0, (f .1 ∙ ap (λ (x : Answer ℕ). borderPulsesAfter x (borderPulsesOf ts) pulses) e, p .1 .1)))
+promised-cells ts before pulses e f counted =
+    let p = promised ts before e f in
+    (p .0, (p .1 .0, (counted ∙ ap (λ (x : Answer ℕ). borderPulsesAfter x (borderPulsesOf ts) pulses) e, p .1 .1)))

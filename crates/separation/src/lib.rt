@@ -40,7 +40,8 @@ pub fn separate(timings: &[u32], cells: &mut [u8], border_pulses: &mut usize) ->
     if first < given {
         return Counted::Refused(Refusal::TimingOutOfRange(first));
     }
-    let count = count_cells(timings);
+    let counts = count_cells(timings);
+    let count = counts.cells;
     if MOST_CELLS < count {
         return Counted::Refused(Refusal::TooManyCells(count));
     }
@@ -48,16 +49,25 @@ pub fn separate(timings: &[u32], cells: &mut [u8], border_pulses: &mut usize) ->
     if cells.len() < needed {
         return Counted::Refused(Refusal::NoRoom(needed));
     }
-    *border_pulses = write_cells(timings, needed, cells);
+    write_cells(timings, needed, cells);
+    *border_pulses = counts.border_pulses;
     Counted::Count(count)
 }
 
-// The number of cells in all of timings that are in range.
-fn count_cells(timings: &[u32]) -> usize
+// What timings have in all: cells, and border pulses.
+struct Counts {
+    cells: usize,
+    border_pulses: usize,
+}
+
+// The cells and the border pulses of timings that are in range, counted.
+fn count_cells(timings: &[u32]) -> Counts
     requires { ⌜ (length (now timings) ≤ 65536) × (firstOut (now timings) ≡ length (now timings)) ⌝ }
-    ensures { λ r. ⌜ r ≡ length (cellsOf (now (timings .entry))) ⌝ }
+    ensures cells { λ r. ⌜ r .cells ≡ length (cellsOf (now (timings .entry))) ⌝ }
+    ensures border_pulses { λ r. ⌜ r .«border_pulses» ≡ borderPulsesOf (now (timings .entry)) ⌝ }
 {
     let mut count: usize = 0;
+    let mut border_pulses: usize = 0;
     let mut state = Separator::new();
     let mut i: usize = 0;
     while i < timings.len() {
@@ -65,20 +75,22 @@ fn count_cells(timings: &[u32]) -> usize
         let given = stepped.given;
         let taken = given.taken;
         count += cells_given(taken);
+        border_pulses += separator::border_pulses_at(given.offset) as usize;
         state = stepped.next;
         i += 1;
     }
-    count
+    Counts {
+        cells: count,
+        border_pulses: border_pulses,
+    }
 }
 
-// Writes the cells of timings that are in range to the front of a buffer that has room for them. The answer is the number of border pulses.
-fn write_cells(timings: &[u32], needed: usize, cells: &mut [u8]) -> usize
-    requires { ⌜ (firstOut (now timings) ≡ length (now timings)) × (length (cellsOf (now timings)) ≤ 131072) × (needed ≡ bytesFor (length (cellsOf (now timings)))) × (needed ≤ length (now cells)) × (length (now timings) ≤ 65536) ⌝ }
-    ensures buffer { λ _. ⌜ now (cells .exit) ≡ writtenOver (packed (cellsOf (now (timings .entry)))) (now (cells .entry)) ⌝ }
-    ensures border_pulses { λ r. ⌜ r ≡ borderPulsesOf (now (timings .entry)) ⌝ }
+// Writes the cells of timings that are in range to the front of a buffer that has room for them.
+fn write_cells(timings: &[u32], needed: usize, cells: &mut [u8])
+    requires { ⌜ (firstOut (now timings) ≡ length (now timings)) × (length (cellsOf (now timings)) ≤ 131072) × (needed ≡ bytesFor (length (cellsOf (now timings)))) × (needed ≤ length (now cells)) ⌝ }
+    ensures { λ _. ⌜ now (cells .exit) ≡ writtenOver (packed (cellsOf (now (timings .entry)))) (now (cells .entry)) ⌝ }
 {
     cells::clear(cells, needed);
-    let mut border_pulses: usize = 0;
     let mut at: usize = 0;
     let mut separator = Separator::new();
     let mut i: usize = 0;
@@ -89,11 +101,9 @@ fn write_cells(timings: &[u32], needed: usize, cells: &mut [u8]) -> usize
         let count = cells_given(taken);
         put_cells(cells, at, count);
         at += count;
-        border_pulses += separator::border_pulses_at(given.offset) as usize;
         separator = stepped.next;
         i += 1;
     }
-    border_pulses
 }
 
 // Puts the cells of a timing at cell `at`, where zeros stand: all that changes is a one at the last of them.

@@ -46,10 +46,10 @@ count-cells-requires : tie.Need-count-cells-requires
 count-cells-requires c κs = (c .before .before .if2 .left, all-in c)
 
 -- what is left to judge once the cells are counted
-judged : (d : tie.After-count-cells) → cellsJudged (d .count-cells .result) (length (CS (d .before .before))) ≡ separation (TS (d .before .before)) (length (CS (d .before .before)))
+judged : (d : tie.After-count-cells) → cellsJudged (d .count-cells .result .cells) (length (CS (d .before .before))) ≡ separation (TS (d .before .before)) (length (CS (d .before .before)))
 judged d =
     let f = d .before .before in
-    ap (λ (n : ℕ). cellsJudged n (length (CS f))) (d .count-cells .ensures)
+    ap (λ (n : ℕ). cellsJudged n (length (CS f))) (d .count-cells .ensures .0)
     ∙ timings-accepted _ _ (f .before .before .if1 .left) (f .before .if2 .left) (all-in (d .before))
 
 returns-4 : tie.Need-returns-4
@@ -69,8 +69,8 @@ returns-5 c =
 write-cells-requires : tie.Need-write-cells-requires
 write-cells-requires c κs =
     let d = c .before .before .before in
-    let e = d .count-cells .ensures in
-    (all-in (d .before), omega (arith, e, c .before .before .if4 .left), ap bytesFor e, c .before .if5 .left, d .before .before .before .if2 .left)
+    let e = d .count-cells .ensures .0 in
+    (all-in (d .before), omega (arith, e, c .before .before .if4 .left), ap bytesFor e, c .before .if5 .left)
 
 same-length : tie.Need-same-length
 same-length c = search needs
@@ -82,7 +82,7 @@ returns-6 c =
     let f = d .before .before in
     promised-cells (TS f) (CS f) _
     (cells-accepted _ _ (w .before .before .before .if4 .left) (w .before .before .if5 .left) ∙ judged d)
-    (w .write-cells .ensures)
+    (w .write-cells .ensures) (d .count-cells .ensures .1)
 
 pub separate-spec : {M : Type 1} → statement M
 separate-spec =

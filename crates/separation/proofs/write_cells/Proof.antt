@@ -1,23 +1,19 @@
--- `separation::write_cells` meets its contract: after i turns the front of the buffer is the cells of i timings, packed,
--- and their border pulses are counted. Assumes nothing.
+-- `separation::write_cells` meets its contract: after i turns the front of the buffer is the cells of i timings, packed. Assumes nothing.
 use Prim.Native.Nat.{_+_, _-_, _≤_}
 use mathlib.Core.Path.{_∙_}
 use native.Mathlib.Omega.{arith}
 use borrow.Author.Needs.{needs}
 use lib.ListN.{length}
-use mir.Facts.{toZ-ofZ}
 use Rattle.separation.proofs.Walk.{Turn, turn}
 use Rattle.separation.proofs.Writing.{Filled, rest-kept, front-cleared, filled-start, filled-within, filled-next, filled-end}
-use Rattle.separation.proofs.BorderPulses.{Passed, one-at-most, none-passed, one-passed, all-passed}
 use Rattle.separation.proofs.write_cells.Statement.{statement}
 use Rattle.separation.proofs.write_cells.Tie as tie
 
 abbrev Inv-loop : tie.InvT-loop
-Inv-loop timings needed cells₀ pulses₀ at₀ separator₀ i₀ cells pulses at separator i =
-    Filled timings needed cells₀ cells at (separator .residual) i × Passed timings pulses (separator .residual) i
+Inv-loop timings needed cells₀ at₀ separator₀ i₀ cells at separator i = Filled timings needed cells₀ cells at (separator .residual) i
 
 abbrev μ-loop : tie.MeasureT-loop
-μ-loop timings needed cells₀ pulses₀ at₀ separator₀ i₀ cells pulses at separator i = length timings - i
+μ-loop timings needed cells₀ at₀ separator₀ i₀ cells at separator i = length timings - i
 
 clear-requires : tie.Need-clear-requires Inv-loop μ-loop
 clear-requires c κs = search needs
@@ -31,10 +27,8 @@ S d = d .before .before .before .before
 
 loop-holds : tie.Need-loop-holds Inv-loop μ-loop
 loop-holds c =
-    let d = c .before .before .before in (
-      filled-start _ (S d .args .needed) (c .new .ensures) (front-cleared (S d .args .needed) (S d .args .cells .now) (S d .pre .3) (d .clear .ensures)),
-      none-passed _ (c .new .ensures),
-    )
+    let d = c .before .before .before in
+    filled-start _ (S d .args .needed) (c .new .ensures) (front-cleared (S d .args .needed) (S d .args .cells .now) (S d .pre .3) (d .clear .ensures))
 
 mul-step : tie.Need-mul-step Inv-loop μ-loop
 mul-step c = search needs
@@ -58,29 +52,18 @@ module _ (c : tie.After-cells-given Inv-loop μ-loop) where
 
   turned : Turn (A .args .timings .now) (L .loop .i) (L .loop .separator .residual) (c .cells-given .result) (c .before .before .step .result .next .residual)
   turned =
-      turn _ _ _ (A .pre .0) (c .before .before .before .before .loop-test .taken) (L .loop .inv .0 .walked .kept)
+      turn _ _ _ (A .pre .0) (c .before .before .before .before .loop-test .taken) (L .loop .inv .walked .kept)
       (c .before .before .step .ensures .0) (c .before .before .step .ensures .1 .1) (c .cells-given .ensures)
 
   within : L .loop .at + c .cells-given .result ≤ 131072
   within =
-      omega (arith, A .pre .1, filled-within (L .loop .inv .0) (A .pre .2) turned)
+      omega (arith, A .pre .1, filled-within (L .loop .inv) (A .pre .2) turned)
 
 put-cells-requires : tie.Need-put-cells-requires Inv-loop μ-loop
 put-cells-requires c κs = within (c .before)
 
 add-at : tie.Need-add-at Inv-loop μ-loop
 add-at c = omega (arith, within (c .before .before .before .before))
-
-border-pulses-at-requires : tie.Need-border-pulses-at-requires Inv-loop μ-loop
-border-pulses-at-requires c κs = search needs
-
-cast-border-pulses : tie.Need-cast-border-pulses Inv-loop μ-loop
-cast-border-pulses c = search needs
-
-add-border-pulses : tie.Need-add-border-pulses Inv-loop μ-loop
-add-border-pulses c =
-    let d = c .before .before .before .before .before .before in
-    omega (arith, A d .pre .4, L d .loop .inv .1 .few, one-at-most _ (c .border-pulses-at .ensures), turned d .here)
 
 add-i : tie.Need-add-i Inv-loop μ-loop
 add-i c = search needs
@@ -90,24 +73,18 @@ loop-less c = search needs
 
 loop-again : tie.Need-loop-again Inv-loop μ-loop
 loop-again c =
-    let b = c .before in
-    let p = b .before .before .before .before in
+    let p = c .before .before .before in
     let d = p .before .before in
-    let e = toZ-ofZ (record { sfits = b .before .struct-told .given .1 .0 .1 }) ∙ d .before .before .step .ensures .1 .0 in (
-      filled-next (L d .loop .inv .0) (A d .pre .2) (turned d) _ (p .put-cells .ensures) (p .put-cells .kept .0),
-      one-passed (L d .loop .inv .1) (L d .loop .inv .0 .walked .kept) (turned d) e (b .border-pulses-at .ensures),
-    )
+    filled-next (L d .loop .inv) (A d .pre .2) (turned d) _
+    (p .put-cells .ensures) (p .put-cells .kept .0)
 
 same-length : tie.Need-same-length Inv-loop μ-loop
-same-length c = c .before .loop .inv .0 .long ∙ c .before .before .before .before .before .clear .kept .0
+same-length c = c .before .loop .inv .long ∙ c .before .before .before .before .before .clear .kept .0
 
 returns : tie.Need-returns Inv-loop μ-loop
 returns c =
     let d = c .before .before .before .before .before in
-    let l = c .before .loop in (
-      filled-end (l .inv .0) (S d .args .cells .now) (omega arith) (S d .pre .2) (rest-kept (S d .args .needed) _ (S d .pre .3) (d .clear .ensures)),
-      all-passed (l .inv .1) (omega arith),
-    )
+    filled-end (c .before .loop .inv) (S d .args .cells .now) (omega arith) (S d .pre .2) (rest-kept (S d .args .needed) _ (S d .pre .3) (d .clear .ensures))
 
 pub write-cells-spec : {M : Type 1} → statement M
 write-cells-spec =
@@ -124,9 +101,6 @@ write-cells-spec =
     cells-given-requires
     put-cells-requires
     add-at
-    border-pulses-at-requires
-    cast-border-pulses
-    add-border-pulses
     add-i
     loop-less
     loop-again
