@@ -21,8 +21,8 @@ abbrev pub blockCells : List ℕ → ℕ → ℕ → List ℕ → List ℕ
 blockCells block revolutions k buffer =
     bufferAfter (blockSeparation block revolutions k (length buffer)) (packed (cellsOf (revolutionTimings block k))) buffer
 
--- 3.17, 9.16, 12.20: the lent number of border pulses afterwards: that of the revolution's timings, or, beside a refusal, the one that was
--- there. The buffer has `room` bytes
+-- 3.17, 9.16, 9.38, 12.20: the lent number of border pulses afterwards: that of the revolution's timings, or, beside a refusal, the one that
+-- was there. The buffer has `room` bytes
 abbrev pub blockBorderPulses : (block : List ℕ) (revolutions k room before : ℕ) → ℕ
 blockBorderPulses block revolutions k room before =
     borderPulsesAfter (blockSeparation block revolutions k room) (borderPulsesOf (revolutionTimings block k)) before

@@ -1,5 +1,5 @@
--- Section 11 of the specification, rules 11.8 and 11.13: the listing of a whole track file. The main property is `WholeListing`: the listing does not
--- depend on how the file was cut into portions. Assumes nothing.
+-- Section 11 of the specification, rules 11.8 and 11.13: the listing of a whole track file. The main property is `WholeListing`: the listing
+-- does not depend on how the file was cut into portions. Assumes nothing.
 use Prim.Native.Nat.{ℕ}
 use mathlib.Core.Path.{_≡_}
 use mathlib.Core.List.{List}

@@ -1,5 +1,6 @@
 // Lines of text as bytes, made of numbers alone: the header of a listing, the line of a finding, that of the border pulses, the line of a
-// refusal. What there is no room for is not written. The functions without a place write to the front of the lent buffer and answer the number of bytes of the whole.
+// refusal. What there is no room for is not written. The functions without a place write to the front of the lent buffer and answer the
+// number of bytes of the whole.
 ghost use mathlib.Core.Path.{_≡_};
 ghost use mathlib.Core.List.{_∷_, [], _++_};
 ghost use Prim.Native.Nat.{_+_, _<_, _≤_};

@@ -63,7 +63,7 @@ separation ts room = timingsJudged ts (cellsJudged (length (cellsOf ts)) room)
 abbrev pub separatedCells : List ℕ → List ℕ → List ℕ
 separatedCells ts buffer = bufferAfter (separation ts (length buffer)) (packed (cellsOf ts)) buffer
 
--- 3.17, 8.31, 9.6: the lent number of border pulses afterwards: that of all timings, or, beside a refusal, the one that was there
+-- 3.17, 8.31, 9.6, 9.38: the lent number of border pulses afterwards: that of all timings, or, beside a refusal, the one that was there
 unfoldable pub borderPulsesAfter : Answer ℕ → ℕ → ℕ → ℕ
 borderPulsesAfter (gives cells) pulses before = pulses
 borderPulsesAfter (refused number value) pulses before = before

@@ -1,5 +1,5 @@
--- Section 9 of the specification, rules 9.31 to 9.34 and 9.37: answers as callers from C get them. The main property: a call returns a number, 0
--- where it is accepted and else the refusal's, and stores the value beside it. Assumes nothing.
+-- Section 9 of the specification, rules 9.31 to 9.34 and 9.37: answers as callers from C get them. The main property: a call returns a
+-- number, 0 where it is accepted and else the refusal's, and stores the value beside it. Assumes nothing.
 use Prim.Native.Nat.{ℕ}
 use mathlib.Core.Bool.{cond}
 use mathlib.Core.List.{List, [], _∷_}
