@@ -100,10 +100,6 @@ pub const EXCEPTIONS: &[(&str, &str)] = &[
         "an example: a theorem of the definitions, for no code",
     ),
     (
-        "11.11",
-        "run on the files without cells of tests/test_inputs, which do not name it",
-    ),
-    (
         "13.3",
         "run by `not_listed` of tests/comparison, which does not name it",
     ),
