@@ -193,7 +193,8 @@ fn the_sample() {
     let listing = include_str!("../../../samples/standard-two-revolutions.listing");
     let block = TrackBlock::new(bytes, 2);
     for revolution in 0..2 {
-        assert_eq!(block.cells(revolution).unwrap().track(0, 0).listing(), listing);
+        let cells = block.cells(revolution).unwrap();
+        assert_eq!(format!("{}FAA {}\n", cells.track(0, 0).listing(), cells.border_pulses), listing);
     }
     assert_eq!(block.timings(2), Err(Refusal::NoSuchRevolution));
     // Its values, from the offset that the table gives, in portions.
