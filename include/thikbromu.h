@@ -164,13 +164,15 @@ uint32_t thikbromu_decode(const uint8_t *cells, size_t length, uint8_t *bytes, s
  * An r below -500 or above 499 counts as 0.
  */
 
-/* One step (rule 9.5) on a residual that the caller lends: it becomes the next one, and stays as it is beside a refusal. Gives the number of
- * cells, of which the last is a one and the others are zeros; it may be 0. Refuses 8, with index 0. */
-uint32_t thikbromu_step(int32_t *residual, uint32_t timing, size_t *value);
+/* One step (rules 9.5 and 9.37) on a residual that the caller lends: it becomes the next one. Gives the number of cells, of which the last is
+ * a one and the others are zeros; it may be 0. `offset` becomes the offset e: how far the pulse lies from the centre of its window, in
+ * nanoseconds. Refuses 8, with index 0; the residual and the offset then stay as they are. */
+uint32_t thikbromu_step(int32_t *residual, uint32_t timing, int32_t *offset, size_t *value);
 
-/* The separator on a list (rule 9.6), from r = 0. Gives the number of cells, packed at the front of `cells`. Spare bits in the last byte of
- * the cells become 0; what stands behind that byte is kept. Refuses 6, 7, 8, 9, 10. */
-uint32_t thikbromu_separate(const uint32_t *timings, size_t length, uint8_t *cells, size_t room, size_t *value);
+/* The separator on a list (rules 9.6 and 9.38), from r = 0. Gives the number of cells, packed at the front of `cells`. Spare bits in the last
+ * byte of the cells become 0; what stands behind that byte is kept. `border_pulses` becomes the number of pulses with an offset of -902 or
+ * less or of 902 or more; beside a refusal it stays as it is. Refuses 6, 7, 8, 9, 10. */
+uint32_t thikbromu_separate(const uint32_t *timings, size_t length, uint8_t *cells, size_t room, size_t *border_pulses, size_t *value);
 
 /* The histogram (rules 5.1 to 5.3, 9.7 and 9.35): 256 counts to the front of `counts`, or as many as it has room for. A timing t raises
  * count t / 100, rounded down, and one from 25,500 on count 255. Gives the number of timings. Refuses 6, 7, 8, all counts then 0. */
@@ -205,11 +207,11 @@ uint32_t thikbromu_revolution_timings(const uint8_t *block, size_t length, uint3
 uint32_t thikbromu_revolution_portion(uint32_t *state, const uint8_t *portion, size_t length, uint32_t *timings, size_t room,
                                       size_t *value);
 
-/* The cells of the chosen revolution (rule 9.16): its timings go to the separator. Gives the number of cells, packed at the front of `cells`
- * as thikbromu_separate leaves them. Refuses 16, 17, 6, 7, 8, 9, 10, the last with the bytes that the cells need. The timings take 262,144
- * bytes of the stack. */
+/* The cells of the chosen revolution (rules 9.16 and 9.38): its timings go to the separator. Gives the number of cells, packed at the front of
+ * `cells`, and in `border_pulses` the number of border pulses, as thikbromu_separate leaves both. Refuses 16, 17, 6, 7, 8, 9, 10, the last with
+ * the bytes that the cells need. The timings take 262,144 bytes of the stack. */
 uint32_t thikbromu_revolution_cells(const uint8_t *block, size_t length, uint32_t revolutions, uint32_t revolution, uint8_t *cells,
-                                    size_t room, size_t *value);
+                                    size_t room, size_t *border_pulses, size_t *value);
 
 /*
  * A track: n cells in `bytes`; `track` and `side` are the drive's, T and H. Bytes after those that the cells need are not looked at.

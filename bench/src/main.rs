@@ -195,11 +195,12 @@ fn track_blocks() {
         },
     );
     let mut packed = [0; MOST_CELL_BYTES];
+    let mut border_pulses = 0;
     row(
         &format!("cells of a revolution, {count} timings"),
         (21, 10),
         rate,
-        || boundary::revolution_cells(black_box(&block), 2, 1, &mut packed),
+        || boundary::revolution_cells(black_box(&block), 2, 1, &mut packed, &mut border_pulses),
         || track_block::revolution_cells(black_box(&block), 2, 1, MOST_CELL_BYTES),
     );
 }

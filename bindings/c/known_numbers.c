@@ -90,51 +90,79 @@ static void test_coding(void)
     EXPECT(thikbromu_check_word_from(0xCDB4, data_mark, 1) == 0xE295);
 }
 
-/* A step of a row of rule 3.13, from a residual. */
-static void test_step(int32_t residual, uint32_t timing, size_t cells, int32_t after)
+/* A step of a row of rule 3.13 or 3.18, from a residual: its cells, its offset, and the next residual. */
+static void test_step(int32_t residual, uint32_t timing, size_t cells, int32_t e, int32_t after)
 {
-    GIVES(thikbromu_step(&residual, timing, &value), cells);
+    int32_t offset = 7;
+    GIVES(thikbromu_step(&residual, timing, &offset, &value), cells);
+    EXPECT(offset == e);
     EXPECT(residual == after);
+}
+
+/* The border pulses of a list of at most two timings. */
+static void test_border_pulses(uint32_t first, uint32_t second, size_t count, size_t expected)
+{
+    const uint32_t list[2] = {first, second};
+    uint8_t cells[1];
+    size_t border_pulses = 7;
+    size_t given;
+    EXPECT(thikbromu_separate(list, count, cells, 1, &border_pulses, &given) == 0);
+    EXPECT(border_pulses == expected);
 }
 
 static void test_separator(void)
 {
-    test_step(0, 4900, 2, 450);
-    test_step(450, 4000, 2, 225);
-    test_step(0, 4999, 2, 499);
-    test_step(0, 5000, 3, -500);
-    test_step(-500, 5000, 2, 250);
-    test_step(0, 5001, 3, -499);
-    test_step(0, 500, 0, 250);
-    test_step(250, 3500, 2, -125);
-    test_step(0, 10000000, 5000, 0);
-    test_step(500, 4900, 2, 450);
+    test_step(0, 4900, 2, 900, 450);
+    test_step(450, 4000, 2, 450, 225);
+    test_step(0, 4999, 2, 999, 499);
+    test_step(0, 5000, 3, -1000, -500);
+    test_step(-500, 5000, 2, 500, 250);
+    test_step(0, 5001, 3, -999, -499);
+    test_step(0, 500, 0, 500, 250);
+    test_step(250, 3500, 2, -250, -125);
+    test_step(0, 10000000, 5000, 0, 0);
+    test_step(500, 4900, 2, 900, 450);
+    test_step(0, 4901, 2, 901, 450);
+    test_step(0, 4902, 2, 902, 451);
+    test_step(0, 5098, 3, -902, -451);
+    test_step(0, 5099, 3, -901, -450);
     int32_t residual = 3;
-    REFUSES(thikbromu_step(&residual, 0, &value), TIMING_OUT_OF_RANGE, 0);
-    EXPECT(residual == 3);
+    int32_t offset = 7;
+    REFUSES(thikbromu_step(&residual, 0, &offset, &value), TIMING_OUT_OF_RANGE, 0);
+    EXPECT(residual == 3 && offset == 7);
     residual = 700;
-    REFUSES(thikbromu_step(&residual, 10000001, &value), TIMING_OUT_OF_RANGE, 0);
-    EXPECT(residual == 700);
+    REFUSES(thikbromu_step(&residual, 10000001, &offset, &value), TIMING_OUT_OF_RANGE, 0);
+    EXPECT(residual == 700 && offset == 7);
     /* Step by step, as the row 4900, 4000 has it. */
     residual = 0;
-    GIVES(thikbromu_step(&residual, 4900, &value), 2);
-    GIVES(thikbromu_step(&residual, 4000, &value), 2);
+    GIVES(thikbromu_step(&residual, 4900, &offset, &value), 2);
+    GIVES(thikbromu_step(&residual, 4000, &offset, &value), 2);
     EXPECT(residual == 225);
 
     const uint32_t two[2] = {5000, 5000};
     uint8_t cells[2] = {7, 7};
-    GIVES(thikbromu_separate(two, 2, cells, 2, &value), 5);
+    size_t border_pulses = 7;
+    GIVES(thikbromu_separate(two, 2, cells, 2, &border_pulses, &value), 5);
+    EXPECT(border_pulses == 1);
+    border_pulses = 7;
     EXPECT(cells[0] == 0x28 && cells[1] == 7);
-    REFUSES(thikbromu_separate(two, 0, cells, 2, &value), NO_TIMINGS, 0);
-    REFUSES(thikbromu_separate(two, 2, cells, 0, &value), NO_ROOM, 1);
+    REFUSES(thikbromu_separate(two, 0, cells, 2, &border_pulses, &value), NO_TIMINGS, 0);
+    REFUSES(thikbromu_separate(two, 2, cells, 0, &border_pulses, &value), NO_ROOM, 1);
     EXPECT(cells[0] == 0x28 && cells[1] == 7);
     for (size_t i = 0; i <= THIKBROMU_MOST_TIMINGS; i++) {
         timings[i] = 6000;
     }
-    REFUSES(thikbromu_separate(timings, THIKBROMU_MOST_TIMINGS + 1, cells, 2, &value), TOO_MANY_TIMINGS, 65537);
-    REFUSES(thikbromu_separate(timings, THIKBROMU_MOST_TIMINGS, cells, 2, &value), TOO_MANY_CELLS, 196608);
+    REFUSES(thikbromu_separate(timings, THIKBROMU_MOST_TIMINGS + 1, cells, 2, &border_pulses, &value), TOO_MANY_TIMINGS, 65537);
+    REFUSES(thikbromu_separate(timings, THIKBROMU_MOST_TIMINGS, cells, 2, &border_pulses, &value), TOO_MANY_CELLS, 196608);
     timings[9] = 0;
-    REFUSES(thikbromu_separate(timings, THIKBROMU_MOST_TIMINGS, cells, 2, &value), TIMING_OUT_OF_RANGE, 9);
+    REFUSES(thikbromu_separate(timings, THIKBROMU_MOST_TIMINGS, cells, 2, &border_pulses, &value), TIMING_OUT_OF_RANGE, 9);
+    EXPECT(border_pulses == 7);
+
+    test_border_pulses(4901, 0, 1, 0);
+    test_border_pulses(4902, 0, 1, 1);
+    test_border_pulses(5098, 0, 1, 1);
+    test_border_pulses(5099, 0, 1, 0);
+    test_border_pulses(4902, 4451, 2, 2);
 }
 
 static void test_histogram(void)
@@ -170,7 +198,10 @@ static void test_track_blocks(void)
     GIVES(thikbromu_revolution_timings(two_revolutions, BLOCK_BYTES, 2, 1, list, 1, &value), 1);
     EXPECT(list[0] == 1638425 && list[1] == 6000);
     /* 2, 3 and 4 cells: 01, 001, 0001. */
-    GIVES(thikbromu_revolution_cells(two_revolutions, BLOCK_BYTES, 2, 0, cells, 3, &value), 9);
+    size_t border_pulses = 7;
+    GIVES(thikbromu_revolution_cells(two_revolutions, BLOCK_BYTES, 2, 0, cells, 3, &border_pulses, &value), 9);
+    EXPECT(border_pulses == 0);
+    border_pulses = 7;
     EXPECT(cells[0] == 0x48 && cells[1] == 0x80 && cells[2] == 7);
 
     /* What is refused leaves the memory as it was. */
@@ -180,14 +211,14 @@ static void test_track_blocks(void)
     REFUSES(thikbromu_revolution_timings(two_revolutions, BLOCK_BYTES, 3, 0, list, 4, &value), NOT_A_TRACK_BLOCK, 0);
     REFUSES(thikbromu_revolution_timings(two_revolutions, BLOCK_BYTES, 2, 2, list, 0, &value), NO_SUCH_REVOLUTION, 0);
     REFUSES(thikbromu_revolution_timings(two_revolutions, BLOCK_BYTES, 2, 0, list, 2, &value), NO_ROOM, 3);
-    REFUSES(thikbromu_revolution_cells(two_revolutions, BLOCK_BYTES, 3, 0, cells, 3, &value), NOT_A_TRACK_BLOCK, 0);
-    REFUSES(thikbromu_revolution_cells(two_revolutions, BLOCK_BYTES, 2, 2, cells, 3, &value), NO_SUCH_REVOLUTION, 0);
-    REFUSES(thikbromu_revolution_cells(two_revolutions, BLOCK_BYTES, 2, 0, cells, 1, &value), NO_ROOM, 2);
+    REFUSES(thikbromu_revolution_cells(two_revolutions, BLOCK_BYTES, 3, 0, cells, 3, &border_pulses, &value), NOT_A_TRACK_BLOCK, 0);
+    REFUSES(thikbromu_revolution_cells(two_revolutions, BLOCK_BYTES, 2, 2, cells, 3, &border_pulses, &value), NO_SUCH_REVOLUTION, 0);
+    REFUSES(thikbromu_revolution_cells(two_revolutions, BLOCK_BYTES, 2, 0, cells, 1, &border_pulses, &value), NO_ROOM, 2);
     /* The second revolution without values, and with one, which is a 0. */
     memcpy(block, two_revolutions, BLOCK_BYTES);
     block[SECOND_COUNT] = 0;
     REFUSES(thikbromu_revolution_timings(block, BLOCK_BYTES, 2, 1, list, 4, &value), NO_TIMINGS, 0);
-    REFUSES(thikbromu_revolution_cells(block, BLOCK_BYTES, 2, 1, cells, 3, &value), NO_TIMINGS, 0);
+    REFUSES(thikbromu_revolution_cells(block, BLOCK_BYTES, 2, 1, cells, 3, &border_pulses, &value), NO_TIMINGS, 0);
     block[SECOND_COUNT] = 1;
     REFUSES(thikbromu_revolution_timings(block, BLOCK_BYTES, 2, 0, list, 4, &value), NOT_A_TRACK_BLOCK, 0);
     /* Its values from the last byte of the table on. */

@@ -81,8 +81,15 @@ extern "C" {
         value: *mut usize,
     ) -> u32;
     fn thikbromu_decode(cells: *const u8, length: usize, bytes: *mut u8, room: usize, value: *mut usize) -> u32;
-    fn thikbromu_step(residual: *mut i32, timing: u32, value: *mut usize) -> u32;
-    fn thikbromu_separate(timings: *const u32, length: usize, cells: *mut u8, room: usize, value: *mut usize) -> u32;
+    fn thikbromu_step(residual: *mut i32, timing: u32, offset: *mut i32, value: *mut usize) -> u32;
+    fn thikbromu_separate(
+        timings: *const u32,
+        length: usize,
+        cells: *mut u8,
+        room: usize,
+        border_pulses: *mut usize,
+        value: *mut usize,
+    ) -> u32;
     fn thikbromu_histogram(timings: *const u32, length: usize, counts: *mut u32, room: usize, value: *mut usize)
         -> u32;
     fn thikbromu_revolution_timings(
@@ -109,6 +116,7 @@ extern "C" {
         revolution: u32,
         cells: *mut u8,
         room: usize,
+        border_pulses: *mut usize,
         value: *mut usize,
     ) -> u32;
     fn thikbromu_sector(
@@ -267,33 +275,34 @@ pub fn decode(cells: &[u8], bytes: &mut [u8]) -> Result<usize, Refusal> {
     answer(|value| unsafe { thikbromu_decode(cells.as_ptr(), cells.len(), bytes.as_mut_ptr(), bytes.len(), value) })
 }
 
-/// A step of the separator (rule 9.5) on a residual that is lent: it becomes the next one, and stays as it is beside a refusal. Gives the
-/// number of cells, of which the last is a one and the others are zeros; it may be 0. A residual below -500 or above 499 counts as 0.
+/// A step of the separator (rules 9.5 and 9.37) on a residual that is lent: it becomes the next one. Gives the number of cells, of which
+/// the last is a one and the others are zeros; it may be 0. The offset e goes to `offset`. A residual below -500 or above 499 counts as 0.
 ///
-/// Refuses [`TimingOutOfRange`](Refusal::TimingOutOfRange), with index 0.
+/// Refuses [`TimingOutOfRange`](Refusal::TimingOutOfRange), with index 0; `residual` and `offset` then stay as they are.
 ///
 /// ```
-/// let mut residual = 0;
-/// assert_eq!(thikbromu::boundary::step(&mut residual, 4900), Ok(2));
-/// assert_eq!(residual, 450);
+/// let (mut residual, mut offset) = (0, 0);
+/// assert_eq!(thikbromu::boundary::step(&mut residual, 4900, &mut offset), Ok(2));
+/// assert_eq!((residual, offset), (450, 900));
 /// ```
 #[inline]
-pub fn step(residual: &mut i32, timing: u32) -> Result<usize, Refusal> {
-    // SAFETY: `residual` and `value` are lent to this call alone.
-    answer(|value| unsafe { thikbromu_step(residual, timing, value) })
+pub fn step(residual: &mut i32, timing: u32, offset: &mut i32) -> Result<usize, Refusal> {
+    // SAFETY: `residual`, `offset` and `value` are lent to this call alone.
+    answer(|value| unsafe { thikbromu_step(residual, timing, offset, value) })
 }
 
-/// The separator on a list of timings (rule 9.6), from a residual of 0. Gives the number of cells, packed at the front of `cells`. Spare
-/// bits in the last byte of the cells become 0; what stands behind that byte is kept.
+/// The separator on a list of timings (rules 9.6 and 9.38), from a residual of 0. Gives the number of cells, packed at the front of `cells`.
+/// Spare bits in the last byte of the cells become 0; what stands behind that byte is kept. The number of border pulses goes to
+/// `border_pulses`.
 ///
 /// Refuses [`NoTimings`](Refusal::NoTimings), [`TooManyTimings`](Refusal::TooManyTimings),
 /// [`TimingOutOfRange`](Refusal::TimingOutOfRange), [`TooManyCells`](Refusal::TooManyCells),
-/// [`NoRoom`](Refusal::NoRoom).
+/// [`NoRoom`](Refusal::NoRoom); `cells` and `border_pulses` then stay as they are.
 #[inline]
-pub fn separate(timings: &[u32], cells: &mut [u8]) -> Result<usize, Refusal> {
-    // SAFETY: each address and length are those of one slice; `cells` and `value` are lent to this call alone.
+pub fn separate(timings: &[u32], cells: &mut [u8], border_pulses: &mut usize) -> Result<usize, Refusal> {
+    // SAFETY: each address and length are those of one slice; `cells`, `border_pulses` and `value` are lent to this call alone.
     answer(|value| unsafe {
-        thikbromu_separate(timings.as_ptr(), timings.len(), cells.as_mut_ptr(), cells.len(), value)
+        thikbromu_separate(timings.as_ptr(), timings.len(), cells.as_mut_ptr(), cells.len(), border_pulses, value)
     })
 }
 
@@ -355,16 +364,23 @@ pub fn revolution_portion(state: &mut u32, portion: &[u8], timings: &mut [u32]) 
     })
 }
 
-/// The cells of a revolution of a SuperCard Pro track block (rule 9.16): its timings go to the separator. Gives the number of cells, packed
-/// at the front of `cells` as [`separate`] leaves them. The timings take 262,144 bytes of the stack.
+/// The cells of a revolution of a SuperCard Pro track block (rules 9.16 and 9.38): its timings go to the separator. Gives the number of
+/// cells, packed at the front of `cells` as [`separate`] leaves them. The number of border pulses goes to `border_pulses`, which is kept
+/// beside a refusal. The timings take 262,144 bytes of the stack.
 ///
 /// Refuses [`NotATrackBlock`](Refusal::NotATrackBlock), [`NoSuchRevolution`](Refusal::NoSuchRevolution),
 /// [`NoTimings`](Refusal::NoTimings), [`TooManyTimings`](Refusal::TooManyTimings),
 /// [`TimingOutOfRange`](Refusal::TimingOutOfRange), [`TooManyCells`](Refusal::TooManyCells), [`NoRoom`](Refusal::NoRoom) with the bytes
 /// that the cells need.
 #[inline]
-pub fn revolution_cells(block: &[u8], revolutions: u32, revolution: u32, cells: &mut [u8]) -> Result<usize, Refusal> {
-    // SAFETY: each address and length are those of one slice; `cells` and `value` are lent to this call alone.
+pub fn revolution_cells(
+    block: &[u8],
+    revolutions: u32,
+    revolution: u32,
+    cells: &mut [u8],
+    border_pulses: &mut usize,
+) -> Result<usize, Refusal> {
+    // SAFETY: each address and length are those of one slice; `cells`, `border_pulses` and `value` are lent to this call alone.
     answer(|value| unsafe {
         thikbromu_revolution_cells(
             block.as_ptr(),
@@ -373,6 +389,7 @@ pub fn revolution_cells(block: &[u8], revolutions: u32, revolution: u32, cells: 
             revolution,
             cells.as_mut_ptr(),
             cells.len(),
+            border_pulses,
             value,
         )
     })

@@ -1,6 +1,6 @@
 //! The separator and the histogram.
 
-use crate::boundary::{self, separate};
+use crate::boundary;
 use crate::refusal::Refusal;
 use crate::track::{Track, MOST_CELL_BYTES};
 
@@ -22,11 +22,21 @@ pub struct Separator {
     residual: i32,
 }
 
-/// What a step hands back.
+/// What a step gives.
+#[derive(Clone, Copy, Debug, PartialEq, Eq)]
+pub struct Step {
+    /// The number of cells, which may be 0. The last of them is a one, the others are zeros.
+    pub cells: usize,
+    /// The offset e, in nanoseconds: how far the pulse lies from the centre of its window (rule 3.15). At -902 and below and at 902 and
+    /// above it is a border pulse (rule 3.16).
+    pub offset: i32,
+}
+
+/// What a step by value hands back.
 #[derive(Clone, Copy, Debug, PartialEq, Eq)]
 pub struct Stepped {
-    /// The number of cells, which may be 0. The last of them is a one, the others are zeros.
-    pub cells: Result<usize, Refusal>,
+    /// What the step gives.
+    pub step: Result<Step, Refusal>,
     /// The next state; beside a refusal, the one that came.
     pub next: Separator,
 }
@@ -50,22 +60,26 @@ impl Separator {
     /// Steps by one timing (rules 3.3 and 3.8). Refuses [`TimingOutOfRange`](Refusal::TimingOutOfRange), with index 0.
     ///
     /// ```
-    /// let stepped = thikbromu::Separator::new().step(4900);
-    /// assert_eq!(stepped.cells, Ok(2));
+    /// use thikbromu::{Separator, Step};
+    ///
+    /// let stepped = Separator::new().step(4900);
+    /// assert_eq!(stepped.step, Ok(Step { cells: 2, offset: 900 }));
     /// assert_eq!(stepped.next.residual(), 450);
     /// ```
     #[inline]
     pub fn step(self, timing: u32) -> Stepped {
         let mut next = self;
-        let cells = next.step_in_place(timing);
-        Stepped { cells, next }
+        let step = next.step_in_place(timing);
+        Stepped { step, next }
     }
 
-    /// Steps by one timing, leaves the next state in this one, and gives the number of cells (rule 3.9). It answers as
+    /// Steps by one timing, leaves the next state in this one, and gives the number of cells with the offset (rule 3.9). It answers as
     /// [`step`](Separator::step) does; beside a refusal the state is kept.
     #[inline]
-    pub fn step_in_place(&mut self, timing: u32) -> Result<usize, Refusal> {
-        boundary::step(&mut self.residual, timing)
+    pub fn step_in_place(&mut self, timing: u32) -> Result<Step, Refusal> {
+        let mut offset = 0;
+        let cells = boundary::step(&mut self.residual, timing, &mut offset)?;
+        Ok(Step { cells, offset })
     }
 }
 
@@ -76,6 +90,8 @@ pub struct Cells {
     pub packed: Vec<u8>,
     /// The number of cells.
     pub count: usize,
+    /// The number of border pulses among the timings (rule 3.17).
+    pub border_pulses: usize,
 }
 
 impl Cells {
@@ -85,12 +101,34 @@ impl Cells {
     }
 }
 
+/// What the separator gives of a list of timings.
+#[derive(Clone, Copy, Debug, PartialEq, Eq)]
+pub struct Separation {
+    /// The number of cells.
+    pub cells: usize,
+    /// The number of border pulses (rule 3.17).
+    pub border_pulses: usize,
+}
+
+/// The separator on a list of timings (rule 9.6), from a residual of 0: the cells are packed at the front of `cells`. Spare bits in the last
+/// byte of the cells become 0; what stands behind that byte is kept.
+///
+/// Refuses [`NoTimings`](Refusal::NoTimings), [`TooManyTimings`](Refusal::TooManyTimings),
+/// [`TimingOutOfRange`](Refusal::TimingOutOfRange), [`TooManyCells`](Refusal::TooManyCells),
+/// [`NoRoom`](Refusal::NoRoom).
+#[inline]
+pub fn separate(timings: &[u32], cells: &mut [u8]) -> Result<Separation, Refusal> {
+    let mut border_pulses = 0;
+    let cells = boundary::separate(timings, cells, &mut border_pulses)?;
+    Ok(Separation { cells, border_pulses })
+}
+
 /// As [`separate`], into a vector that has room for the most cells, so that room is never too little.
 pub fn separate_to_vec(timings: &[u32]) -> Result<Cells, Refusal> {
     let mut packed = vec![0; MOST_CELL_BYTES];
-    let count = separate(timings, &mut packed)?;
+    let Separation { cells: count, border_pulses } = separate(timings, &mut packed)?;
     packed.truncate(count.div_ceil(8));
-    Ok(Cells { packed, count })
+    Ok(Cells { packed, count, border_pulses })
 }
 
 /// The histogram of timings (rules 5.1 to 5.3): a timing t raises count t / 100, rounded down, and one from 25,500 on count 255.

@@ -36,12 +36,12 @@ mod track_block;
 mod track_file;
 
 #[doc(inline)]
-pub use boundary::{check_word, check_word_from, clear, decode, encode, put_one, separate};
+pub use boundary::{check_word, check_word_from, clear, decode, encode, put_one};
 pub use coding::{decode_to_vec, encode_to_vec, MOST_BYTES_TO_CODE, MOST_BYTES_TO_DECODE};
 pub use finding::{Finding, Kind, NotAKind, MOST_FINDINGS};
 pub use flux::{
-    histogram, separate_to_vec, Cells, Separator, Stepped, HISTOGRAM_COUNTS, LONGEST_TIMING, MOST_TIMINGS,
-    SHORTEST_TIMING,
+    histogram, separate, separate_to_vec, Cells, Separation, Separator, Step, Stepped, HISTOGRAM_COUNTS,
+    LONGEST_TIMING, MOST_TIMINGS, SHORTEST_TIMING,
 };
 pub use refusal::{NotARefusal, Refusal};
 pub use sector::{ReadOut, Sector, SectorData, Sectors, LONGEST_SECTOR};

@@ -70,9 +70,11 @@ impl<'a> TrackBlock<'a> {
     /// cells, so that [`NoRoom`](Refusal::NoRoom) is never given. Refuses [`TooManyCells`](Refusal::TooManyCells).
     pub fn cells(&self, revolution: u32) -> Result<Cells, Refusal> {
         let mut packed = vec![0; MOST_CELL_BYTES];
-        let count = boundary::revolution_cells(self.bytes, self.revolutions, revolution, &mut packed)?;
+        let mut border_pulses = 0;
+        let count =
+            boundary::revolution_cells(self.bytes, self.revolutions, revolution, &mut packed, &mut border_pulses)?;
         packed.truncate(count.div_ceil(8));
-        Ok(Cells { packed, count })
+        Ok(Cells { packed, count, border_pulses })
     }
 }
 

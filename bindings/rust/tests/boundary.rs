@@ -51,16 +51,28 @@ fn counts_of_any_room() {
 }
 
 #[test]
-fn a_residual_is_kept_beside_a_refusal() {
+fn a_residual_and_an_offset_are_kept_beside_a_refusal() {
     for (residual, timing) in [(3, 0), (-500, 10_000_001), (700, 0), (i32::MIN, u32::MAX)] {
-        let mut lent = residual;
-        assert_eq!(step(&mut lent, timing), Err(Refusal::TimingOutOfRange(0)));
-        assert_eq!(lent, residual);
+        let (mut lent, mut offset) = (residual, 7);
+        assert_eq!(step(&mut lent, timing, &mut offset), Err(Refusal::TimingOutOfRange(0)));
+        assert_eq!((lent, offset), (residual, 7));
     }
     // One that is out of range is stepped as 0.
-    let mut lent = 500;
-    assert_eq!(step(&mut lent, 4_900), Ok(2));
-    assert_eq!(lent, 450);
+    let (mut lent, mut offset) = (500, 7);
+    assert_eq!(step(&mut lent, 4_900, &mut offset), Ok(2));
+    assert_eq!((lent, offset), (450, 900));
+}
+
+#[test]
+fn border_pulses_are_kept_beside_a_refusal() {
+    let mut border_pulses = 7;
+    let mut cells = [9; 1];
+    assert_eq!(separate(&[], &mut cells, &mut border_pulses), Err(Refusal::NoTimings));
+    assert_eq!(separate(&[4_902, 0], &mut cells, &mut border_pulses), Err(Refusal::TimingOutOfRange(1)));
+    assert_eq!(separate(&[4_902], &mut [], &mut border_pulses), Err(Refusal::NoRoom(1)));
+    assert_eq!((border_pulses, cells), (7, [9]));
+    assert_eq!(separate(&[4_902], &mut cells, &mut border_pulses), Ok(2));
+    assert_eq!((border_pulses, cells), (1, [0b0100_0000]));
 }
 
 #[test]

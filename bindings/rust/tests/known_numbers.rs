@@ -84,29 +84,39 @@ fn check_words() {
     assert_eq!(check_word_from(after_syncs, &[0xFB]), 0xE295);
 }
 
-/// The rows of rule 3.13: the timings, the number of cells of each, and the residual after it.
-const ROWS: [(&[u32], &[usize], &[i32]); 6] = [
-    (&[4900, 4000], &[2, 2], &[450, 225]),
-    (&[4999], &[2], &[499]),
-    (&[5000, 5000], &[3, 2], &[-500, 250]),
-    (&[5001], &[3], &[-499]),
-    (&[500, 3500], &[0, 2], &[250, -125]),
-    (&[10_000_000], &[5000], &[0]),
+/// The rows of rules 3.13 and 3.18: the timings, of each the number of cells, the offset and the residual after it, and how many are border
+/// pulses.
+type Row = (&'static [u32], &'static [(usize, i32, i32)], usize);
+const ROWS: [Row; 11] = [
+    (&[4900, 4000], &[(2, 900, 450), (2, 450, 225)], 0),
+    (&[4999], &[(2, 999, 499)], 1),
+    (&[5000, 5000], &[(3, -1000, -500), (2, 500, 250)], 1),
+    (&[5001], &[(3, -999, -499)], 1),
+    (&[500, 3500], &[(0, 500, 250), (2, -250, -125)], 0),
+    (&[10_000_000], &[(5000, 0, 0)], 0),
+    (&[4901], &[(2, 901, 450)], 0),
+    (&[4902], &[(2, 902, 451)], 1),
+    (&[5098], &[(3, -902, -451)], 1),
+    (&[5099], &[(3, -901, -450)], 0),
+    (&[4902, 4451], &[(2, 902, 451), (2, 902, 451)], 2),
 ];
 
 #[test]
 fn separator_rows() {
-    for (timings, counts, residuals) in ROWS {
+    for (timings, steps, border_pulses) in ROWS {
         let mut state = Separator::new();
         let mut lent = Separator::new();
-        for ((&timing, &count), &residual) in timings.iter().zip(counts).zip(residuals) {
+        for (&timing, &(cells, offset, residual)) in timings.iter().zip(steps) {
             let stepped = state.step(timing);
-            assert_eq!(stepped, Stepped { cells: Ok(count), next: Separator::with_residual(residual) });
-            assert_eq!(lent.step_in_place(timing), Ok(count));
+            let step = Ok(Step { cells, offset });
+            assert_eq!(stepped, Stepped { step, next: Separator::with_residual(residual) });
+            assert_eq!(lent.step_in_place(timing), step);
             assert_eq!(lent, stepped.next);
             state = stepped.next;
         }
-        assert_eq!(separate_to_vec(timings).unwrap().count, counts.iter().sum());
+        let made = separate_to_vec(timings).unwrap();
+        assert_eq!(made.count, steps.iter().map(|step| step.0).sum());
+        assert_eq!(made.border_pulses, border_pulses);
     }
 }
 
@@ -116,7 +126,7 @@ fn a_refused_step_keeps_the_state() {
         for residual in [-500, 0, 499, 500, i32::MIN] {
             let state = Separator::with_residual(residual);
             let stepped = state.step(timing);
-            assert_eq!(stepped, Stepped { cells: Err(Refusal::TimingOutOfRange(0)), next: state });
+            assert_eq!(stepped, Stepped { step: Err(Refusal::TimingOutOfRange(0)), next: state });
         }
     }
     // A residual outside its range counts as 0.
@@ -126,12 +136,12 @@ fn a_refused_step_keeps_the_state() {
 #[test]
 fn cells_of_timings() {
     let cells = separate_to_vec(&[5000, 5000]).unwrap();
-    assert_eq!(cells, Cells { packed: vec![0b0010_1000], count: 5 });
+    assert_eq!(cells, Cells { packed: vec![0b0010_1000], count: 5, border_pulses: 1 });
     let mut room = [7; 2];
-    assert_eq!(separate(&[5000, 5000], &mut room), Ok(5));
+    assert_eq!(separate(&[5000, 5000], &mut room), Ok(Separation { cells: 5, border_pulses: 1 }));
     assert_eq!(room, [0b0010_1000, 7]);
     // Timings that give no cells are accepted.
-    assert_eq!(separate_to_vec(&[1]), Ok(Cells { packed: vec![], count: 0 }));
+    assert_eq!(separate_to_vec(&[1]), Ok(Cells { packed: vec![], count: 0, border_pulses: 0 }));
 }
 
 #[test]

@@ -143,25 +143,30 @@ fn cells_of_a_revolution() {
     // 2, 3 and 4 cells: 01, 001, 0001.
     let packed = [0b0100_1000, 0b1000_0000];
     let block = TrackBlock::new(THREE, 3);
-    assert_eq!(block.cells(0), Ok(Cells { packed: packed.to_vec(), count: 9 }));
+    assert_eq!(block.cells(0), Ok(Cells { packed: packed.to_vec(), count: 9, border_pulses: 0 }));
     assert_eq!(block.cells(1), Err(Refusal::NoTimings));
     assert_eq!(block.cells(3), Err(Refusal::NoSuchRevolution));
     for room in 0..=3 {
         let mut cells = vec![7; room];
-        let answer = revolution_cells(THREE, 3, 0, &mut cells);
+        let mut border_pulses = 7;
+        let answer = revolution_cells(THREE, 3, 0, &mut cells, &mut border_pulses);
         if room < 2 {
             assert_eq!(answer, Err(Refusal::NoRoom(2)));
-            assert_eq!(cells, vec![7; room]);
+            assert_eq!((cells, border_pulses), (vec![7; room], 7));
         } else {
-            assert_eq!(answer, Ok(9));
+            assert_eq!((answer, border_pulses), (Ok(9), 0));
             assert_eq!(cells[..2], packed);
             assert!(cells[2..].iter().all(|&byte| byte == 7));
         }
     }
     // 500 ns make no cell, which needs no room; 27 timings of 5,000 cells make too many.
-    assert_eq!(revolution_cells(&one(&[20]), 1, 0, &mut []), Ok(0));
+    let mut border_pulses = 7;
+    assert_eq!(revolution_cells(&one(&[20]), 1, 0, &mut [], &mut border_pulses), Ok(0));
+    assert_eq!(border_pulses, 0);
     let many = one(&[0, 0, 0, 0, 0, 0, 6_784].repeat(27));
-    assert_eq!(revolution_cells(&many, 1, 0, &mut []), Err(Refusal::TooManyCells(135_000)));
+    assert_eq!(revolution_cells(&many, 1, 0, &mut [], &mut border_pulses), Err(Refusal::TooManyCells(135_000)));
+    // 4,925 ns have the offset 925, and 2,450 after them 912: both are border pulses.
+    assert_eq!(TrackBlock::new(&one(&[197, 98]), 1).cells(0).unwrap().border_pulses, 2);
 }
 
 #[test]
@@ -188,7 +193,8 @@ fn the_sample() {
     let listing = include_str!("../../../samples/standard-two-revolutions.listing");
     let block = TrackBlock::new(bytes, 2);
     for revolution in 0..2 {
-        assert_eq!(block.cells(revolution).unwrap().track(0, 0).listing(), listing);
+        let cells = block.cells(revolution).unwrap();
+        assert_eq!(format!("{}FAA {}\n", cells.track(0, 0).listing(), cells.border_pulses), listing);
     }
     assert_eq!(block.timings(2), Err(Refusal::NoSuchRevolution));
     // Its values, from the offset that the table gives, in portions.

@@ -13,7 +13,7 @@ fn number_at(file: &[u8], place: usize) -> usize {
 fn cells_of(file: &[u8]) -> Cells {
     let count = number_at(file, 6);
     if count != 0 {
-        return Cells { packed: file[10..10 + count.div_ceil(8)].to_vec(), count };
+        return Cells { packed: file[10..10 + count.div_ceil(8)].to_vec(), count, border_pulses: 0 };
     }
     let timings: Vec<u32> = (0..number_at(file, 10)).map(|index| number_at(file, 14 + 4 * index) as u32).collect();
     separate_to_vec(&timings).unwrap()
@@ -29,6 +29,10 @@ fn listing_of(file: &[u8]) -> String {
         format!("T{track:02} H{side} cells {} sectors {sectors} findings {}\n", cells.count, findings.len());
     for finding in findings {
         listing += &format!("{finding}\n");
+    }
+    // Of cells that are there nothing is known of the pulses.
+    if number_at(file, 6) == 0 {
+        listing += &format!("FAA {}\n", cells.border_pulses);
     }
     listing
 }

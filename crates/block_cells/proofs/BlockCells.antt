@@ -6,18 +6,20 @@ use mathlib.Core.List.{List}
 use native.Mathlib.Omega.{arith}
 use borrow.Author.Tests.{le-ltb, ltb-false}
 use lib.Dec.{eqb, ltb}
+use lib.IntN.{pos}
 use lib.ListN.{length, take, drop}
 use lib.Seq.{take-at}
 use Rattle.basis.specs.Lists.{writtenOver}
 use Rattle.cells.specs.CellsAndBytes.{packed}
-use Rattle.separation.specs.Separation.{cellsOf, cellsJudged, separation, separatedCells}
+use Rattle.separation.specs.Separation.{cellsOf, borderPulsesOf, cellsJudged, separation, separatedCells, borderPulsesAfter}
 use Rattle.flux_timings.specs.Timings.{firstOut, timingsJudged}
+use Rattle.separation.proofs.BorderPulses.{border-pulses-few}
 use Rattle.separation.proofs.Promise.{promised}
 use Rattle.refusals.specs.RefusedCalls.{Answer, bufferAfter}
 use Rattle.refusals.specs.RefusedCalls.Answer.{gives, refused}
 use Rattle.supercard_pro.specs.TrackBlock.{revolutionTimings, notATrackBlock, blockJudged, blockAnswer, blockTimings}
 use Rattle.revolution_portions.specs.Portions.{roomJudged}
-use Rattle.block_cells.specs.BlockToCells.{blockSeparation, blockCells, BlockDemand3}
+use Rattle.block_cells.specs.BlockToCells.{blockSeparation, blockCells, blockBorderPulses, BlockDemand3}
 
 -- the refusals 16, 17, 6, 7 and 8 in their order: `next` is given where none holds
 abbrev chain : (bad has none many out : Bool) (timings index : ℕ) → Answer ℕ → Answer ℕ
@@ -64,35 +66,40 @@ module _ (block : List ℕ) (revolutions k : ℕ) where
   abbrev bad : Bool
   bad = notATrackBlock block revolutions
 
-  -- all that the call promises, from what it answers and leaves
-  abbrev pub CellsPromised : List ℕ → Answer ℕ → List ℕ → Type 0
-  CellsPromised before answer after =
+  -- all that the call promises, from what it answers and leaves; the number of border pulses goes from `pulses` to `pulses′`
+  abbrev pub CellsPromised : List ℕ → Answer ℕ → List ℕ → (pulses pulses′ : ℕ) → Type 0
+  CellsPromised before answer after pulses pulses′ =
       (answer ≡ blockSeparation block revolutions k (length before))
-      × ((after ≡ blockCells block revolutions k before) × BlockDemand3 block revolutions k answer before after)
+      × ((after ≡ blockCells block revolutions k before)
+      × ((pulses′ ≡ blockBorderPulses block revolutions k (length before) pulses) × BlockDemand3 block revolutions k answer before after))
 
   judged-on : {next : Answer ℕ} → bad ≡ false → ltb k revolutions ≡ true → blockJudged block revolutions k next ≡ next
   unfolding blockJudged
   judged-on b h = rw (b, h)
 
-  cells-promised : (before : List ℕ) {answer : Answer ℕ} {after : List ℕ} → answer ≡ blockSeparation block revolutions k (length before)
-      → after ≡ bufferAfter answer (packed (cellsOf ts)) before → CellsPromised before answer after
-  cells-promised before {answer} {after} e f = (
+  cells-promised : (before : List ℕ) (pulses : ℕ) {answer : Answer ℕ} {after : List ℕ} {pulses′ : ℕ} → answer ≡ blockSeparation block revolutions k (length before)
+      → after ≡ bufferAfter answer (packed (cellsOf ts)) before → pulses′ ≡ borderPulsesAfter answer (borderPulsesOf ts) pulses
+      → CellsPromised before answer after pulses pulses′
+  cells-promised before pulses e f g = (
     e,
     (
       f ∙ ap (λ (a : Answer ℕ). bufferAfter a (packed (cellsOf ts)) before) e,
-      record { recovers = λ b h. promised ts before (e ∙ judged-on b h) f .1 .1 },
+      (
+        g ∙ ap (λ (a : Answer ℕ). borderPulsesAfter a (borderPulsesOf ts) pulses) e,
+        record { recovers = λ b h. promised ts before (e ∙ judged-on b h) f .1 .1 },
+      ),
     ),
   )
 
   -- the timings' call refuses, with room for all timings that are not refused: so does the call for cells
   pub block-refused : (room : ℕ) → 65536 ≤ room → {number value : ℕ} → refused number value ≡ blockAnswer block revolutions k room
-      → (before : List ℕ) → CellsPromised before (refused number value) before
-  unfolding blockJudged timingsJudged bufferAfter
-  block-refused room big {number} {value} e before =
-      cells-promised before
+      → (before : List ℕ) (pulses : ℕ) → CellsPromised before (refused number value) before pulses pulses
+  unfolding blockJudged timingsJudged bufferAfter borderPulsesAfter
+  block-refused room big {number} {value} e before pulses =
+      cells-promised before pulses
       (sym (chain-refuses bad (ltb k revolutions) (eqb (length ts) 0) (ltb 65536 (length ts)) (ltb (firstOut ts) (length ts)) (length ts) (firstOut ts)
       (roomJudged (length ts) room) (cellsJudged (length (cellsOf ts)) (length before)) (length ts) number value enough (sym e)))
-      refl
+      refl refl
     where
       enough : ltb 65536 (length ts) ≡ false → roomJudged (length ts) room ≡ gives (length ts)
       enough m = rw (le-ltb room (length ts) (omega (arith, ltb-false 65536 (length ts) m)))
@@ -121,10 +128,22 @@ module _ (block : List ℕ) (revolutions k : ℕ) where
     pub filled-long : length filled ≡ length list → count ≤ length filled
     filled-long l = omega (arith, count-fits .1)
 
-    pub block-separated : (before : List ℕ) {answer : Answer ℕ} {after : List ℕ} → answer ≡ separation (take count filled) (length before)
-        → after ≡ separatedCells (take count filled) before → CellsPromised before answer after
-    block-separated before {answer} {after} a g =
+    pub block-separated : (before : List ℕ) (pulses : ℕ) {answer : Answer ℕ} {after : List ℕ} {pulses′ : ℕ} → answer ≡ separation (take count filled) (length before)
+        → after ≡ separatedCells (take count filled) before
+        → pulses′ ≡ borderPulsesAfter (separation (take count filled) (length before)) (borderPulsesOf (take count filled)) pulses
+        → CellsPromised before answer after pulses pulses′
+    block-separated before pulses {answer} {after} a g p =
         let s : separation (take count filled) (length before) ≡ separation ts (length before) = ap (λ (x : List ℕ). separation x (length before)) front-is in
         let is : answer ≡ separation ts (length before) = a ∙ s in
-        cells-promised before (is ∙ sym (judged-on (passes .good) (passes .there)))
+        cells-promised before pulses (is ∙ sym (judged-on (passes .good) (passes .there)))
         (g ∙ ap (λ (x : List ℕ). separatedCells x before) front-is ∙ ap (λ (x : Answer ℕ). bufferAfter x (packed (cellsOf ts)) before) (sym is))
+        (p ∙ ap (λ (x : List ℕ). borderPulsesAfter (separation x (length before)) (borderPulsesOf x) pulses) front-is
+        ∙ ap (λ (x : Answer ℕ). borderPulsesAfter x (borderPulsesOf ts) pulses) (sym is))
+
+  -- where the call is accepted, the border pulses are no more than timings may be
+  pub pulses-few : (room before : ℕ) {count : ℕ} → blockSeparation block revolutions k room ≡ gives count → blockBorderPulses block revolutions k room before ≤ 65536
+  unfolding blockJudged timingsJudged borderPulsesAfter
+  pulses-few room before {count} e =
+      let p = chain-passes bad (ltb k revolutions) (eqb (length ts) 0) (ltb 65536 (length ts)) (ltb (firstOut ts) (length ts)) (length ts) (firstOut ts)
+      (cellsJudged (length (cellsOf ts)) room) count e in
+      rw e (omega (arith, border-pulses-few ts (pos 0), ltb-false 65536 (length ts) (p .few)))

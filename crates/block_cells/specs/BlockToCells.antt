@@ -7,7 +7,7 @@ use mathlib.Core.List.{List}
 use lib.Dec.{ltb}
 use lib.ListN.{length}
 use Rattle.cells.specs.CellsAndBytes.{packed}
-use Rattle.separation.specs.Separation.{cellsOf, separation}
+use Rattle.separation.specs.Separation.{cellsOf, borderPulsesOf, separation, borderPulsesAfter}
 use Rattle.separation.specs.Demand3.{Demand3}
 use Rattle.refusals.specs.RefusedCalls.{Answer, bufferAfter}
 use Rattle.supercard_pro.specs.TrackBlock.{revolutionTimings, notATrackBlock, blockJudged}
@@ -20,6 +20,12 @@ blockSeparation block revolutions k room = blockJudged block revolutions k (sepa
 abbrev pub blockCells : List ℕ → ℕ → ℕ → List ℕ → List ℕ
 blockCells block revolutions k buffer =
     bufferAfter (blockSeparation block revolutions k (length buffer)) (packed (cellsOf (revolutionTimings block k))) buffer
+
+-- 3.17, 9.16, 9.38, 12.20: the lent number of border pulses afterwards: that of the revolution's timings, or, beside a refusal, the one that
+-- was there. The buffer has `room` bytes
+abbrev pub blockBorderPulses : (block : List ℕ) (revolutions k room before : ℕ) → ℕ
+blockBorderPulses block revolutions k room before =
+    borderPulsesAfter (blockSeparation block revolutions k room) (borderPulsesOf (revolutionTimings block k)) before
 
 -- 12.21: demand 3 of a revolution of a track block: the call recovers the cells written, for all flux transitions and pulses within the
 -- tolerance of which the revolution's timings are the distances. Where the first value runs from the index and not from a pulse it is no

@@ -1,4 +1,4 @@
-// The listing of one revolution of a track block: that of the track with the cells which the separator makes of it.
+// The listing of one revolution of a track block: that of the track with the cells which the separator makes of it, and its border pulses.
 use refusals::Counted;
 ghost use mathlib.Core.Path.{_≡_};
 ghost use Prim.Native.Nat.{_≤_};
@@ -20,9 +20,18 @@ pub fn list_block(
     ensures out { λ _. ⌜ now (out .exit) ≡ outAfter (blockListing (now (block .entry)) revolutions revolution track side) (now (out .entry)) ⌝ }
 {
     let mut cells = room_for_cells();
-    let separated = block_cells::separate_revolution(block, revolutions, revolution, &mut cells);
+    let mut pulses: usize = 0;
+    let separated = block_cells::separate_revolution(
+        block,
+        revolutions,
+        revolution,
+        &mut cells,
+        &mut pulses,
+    );
     match separated {
-        Counted::Count(count) => { listing::list_track(&cells, count, track, side, out) }
+        Counted::Count(count) => {
+            listing::list_flux_track(&cells, count, track, side, pulses as u32, out)
+        }
         Counted::Refused(refusal) => lines::refused_line(out, refusal.number()),
     }
 }

@@ -1,5 +1,6 @@
 pub mod Walk
 pub mod Writing
+pub mod BorderPulses
 pub mod CellsJudged
 pub mod Tolerance
 pub mod Recovery

@@ -10,7 +10,7 @@ use Rattle.basis.specs.Lists.{writtenOver}
 use Rattle.cells.specs.CellsAndBytes.{packed}
 use Rattle.refusals.specs.RefusedCalls.{Answer, bufferAfter}
 use Rattle.refusals.specs.RefusedCalls.Answer.{gives, refused}
-use Rattle.separation.specs.Separation.{cellsFor, cellsOf, separation, separatedCells}
+use Rattle.separation.specs.Separation.{cellsFor, cellsOf, borderPulsesOf, separation, separatedCells, borderPulsesAfter}
 use Rattle.flux_timings.specs.Timings.{timingsJudged}
 use Rattle.separation.specs.Demand3.{Reversal, cellsWritten, cellsInAll, refusalTable, longestCell, mostJitter, mostError, Demand3}
 use Rattle.separation.proofs.Walk.{length-for}
@@ -33,20 +33,31 @@ module _ (ts before : List ℕ) {after : List ℕ} {answer : Answer ℕ} (is-ans
           refusal = is-answer ∙ rw (f .in-range, le-ltb (length ts) (length ts) (omega arith), n);
           cells = is-after ∙ ap (λ (x : List ℕ). bufferAfter answer (packed x) before) (f .cells);
           centres = f .centres;
+          no-border-pulses = f .no-borders (omega arith);
         };
   }
 
   pub promised : (answer ≡ separation ts (length before)) × ((after ≡ separatedCells ts before) × Demand3 ts answer before after)
   promised = (is-answer, (is-after ∙ ap (λ (x : Answer ℕ). bufferAfter x (packed (cellsOf ts)) before) is-answer, demand3))
 
--- a refusal, and an accepted call
-pub promised-refused : (ts before : List ℕ) {number value : ℕ} → refused number value ≡ separation ts (length before)
-    → (refused number value ≡ separation ts (length before)) × ((before ≡ separatedCells ts before) × Demand3 ts (refused number value) before before)
-unfolding bufferAfter
-promised-refused ts before e = promised ts before e refl
+-- all that the call promises, with the number of border pulses, which goes from `pulses` to `pulses′`
+abbrev Promised : (ts before after : List ℕ) (pulses pulses′ : ℕ) → Answer ℕ → Type 0
+Promised ts before after pulses pulses′ answer =
+    (answer ≡ separation ts (length before))
+    × ((after ≡ separatedCells ts before)
+    × ((pulses′ ≡ borderPulsesAfter (separation ts (length before)) (borderPulsesOf ts) pulses) × Demand3 ts answer before after))
 
-pub promised-cells : (ts before : List ℕ) {after : List ℕ} {n : ℕ} → gives n ≡ separation ts (length before)
-    → after ≡ writtenOver (packed (cellsOf ts)) before
-    → (gives n ≡ separation ts (length before)) × ((after ≡ separatedCells ts before) × Demand3 ts (gives n) before after)
-unfolding bufferAfter
-promised-cells ts before e f = promised ts before e f
+-- a refusal, and an accepted call
+pub promised-refused : (ts before : List ℕ) (pulses : ℕ) {number value : ℕ} → refused number value ≡ separation ts (length before)
+    → Promised ts before before pulses pulses (refused number value)
+unfolding bufferAfter borderPulsesAfter
+promised-refused ts before pulses e =
+    let p = promised ts before e refl in
+    (p .0, (p .1 .0, (ap (λ (x : Answer ℕ). borderPulsesAfter x (borderPulsesOf ts) pulses) e, p .1 .1)))
+
+pub promised-cells : (ts before : List ℕ) (pulses : ℕ) {after : List ℕ} {n pulses′ : ℕ} → gives n ≡ separation ts (length before)
+    → after ≡ writtenOver (packed (cellsOf ts)) before → pulses′ ≡ borderPulsesOf ts → Promised ts before after pulses pulses′ (gives n)
+unfolding bufferAfter borderPulsesAfter
+promised-cells ts before pulses e f counted =
+    let p = promised ts before e f in
+    (p .0, (p .1 .0, (counted ∙ ap (λ (x : Answer ℕ). borderPulsesAfter x (borderPulsesOf ts) pulses) e, p .1 .1)))

@@ -8,12 +8,13 @@ use native.Mathlib.Omega.{arith}
 use lib.IntN.{ℤ, pos, subℕ, _-ℤ_}
 use lib.ListN.{length}
 use Rattle.flux_timings.specs.Timings.{inRange}
-use Rattle.separator.specs.Rule.{cellsAt, offsetAt, residualAfter, halfWindow}
-use Rattle.separation.specs.Separation.{Window, windowsFrom, cellsIn}
+use Rattle.separator.specs.Rule.{cellsAt, offsetAt, residualAfter, halfWindow, borderPulsesAt}
+use Rattle.separation.specs.Separation.{Window, windowsFrom, cellsIn, borderPulsesIn}
 use Rattle.flux_timings.specs.Timings.{firstOut}
 use Rattle.separation.specs.Demand3.{Reversal, Within, Fair, Track, last, more, Centred, none, also, cellsWritten}
 use Rattle.separator.proofs.Differences.{up, down, sub-parts, minus-parts}
 use Rattle.separator.proofs.Orders.{le-of, abs-le, le-abs}
+use Rattle.separator.proofs.Border.{border-near}
 use Rattle.separator.proofs.Lifted.{halfway, cells-is, offset-is, residual-is}
 use Rattle.flux_timings.proofs.Timing.{in-range}
 use Rattle.separation.proofs.Tolerance.{Apart, Carried, shortest-gap, longest-gap, window-cells, window-timing, window-centre, window-carried}
@@ -79,25 +80,35 @@ module _ {D J error : ℕ} (ok : 8 * D + 2 * J ≤ 998) (enough : 8 * D + J ≤ 
       let w = sub-parts m 1000 in
       rw (offset-is 1000 b t) (abs-le (centre -ℤ v .place) error (omega arith) (omega arith))
 
+  -- the offset is at most 8 D + 2 J, so that up to 901 the pulse is no border pulse
+  no-border : 8 * D + 2 * J ≤ 901 → borderPulsesAt (offsetAt halfWindow (subℕ b 1000) t) ≡ 0
+  no-border quiet =
+      let m = (t + b) % 2000 in
+      let c = window-centre (v .gap) gap t ok carried before after (fair .least) (fair .most) gap-near timed in
+      let a = after in
+      let w = sub-parts m 1000 in
+      rw (offset-is 1000 b t) (border-near (subℕ m 1000) (omega arith) (omega arith))
+
   carried-on : Carried D J (halfway 1000 ((t + b) % 2000)) (up (v .pulse -ℤ v .place)) (down (v .pulse -ℤ v .place))
   carried-on = window-carried (v .gap) gap t ok carried before after (fair .least) (fair .most) gap-near timed
 
 -- what the rule makes of the timings ts of a track with the reversals vs, from the residual r on
-pub record Followed (error : ℕ) (r : ℤ) (vs : List Reversal) (ts : List ℕ) : Type 0 where
+pub record Followed (D J error : ℕ) (r : ℤ) (vs : List Reversal) (ts : List ℕ) : Type 0 where
   pub in-range : firstOut ts ≡ length ts
   pub gaps : map (λ (w : Window). w .cells) (windowsFrom halfWindow r ts) ≡ map (λ (v : Reversal). v .gap) vs
   pub cells : cellsIn (windowsFrom halfWindow r ts) ≡ cellsWritten vs
   pub centres : Centred error vs (windowsFrom halfWindow r ts)
+  pub no-borders : 8 * D + 2 * J ≤ 901 → borderPulsesIn (windowsFrom halfWindow r ts) ≡ 0
 
 module _ (D J error : ℕ) (ok : 8 * D + 2 * J ≤ 998) (enough : 8 * D + J ≤ error) where
   followed-from : {p q : ℤ} {vs : List Reversal} {ts : List ℕ} (b : ℕ) → Within J q p → Carried D J b (up (q -ℤ p)) (down (q -ℤ p))
-      → Track (2000 - D) (2000 + D) J p q vs ts → Followed error (subℕ b 1000) vs ts
-  unfolding windowsFrom cellsIn cellsWritten firstOut
-  followed-from b near carried last = record { in-range = refl; gaps = refl; cells = refl; centres = none }
+      → Track (2000 - D) (2000 + D) J p q vs ts → Followed D J error (subℕ b 1000) vs ts
+  unfolding windowsFrom cellsIn borderPulsesIn cellsWritten firstOut
+  followed-from b near carried last = record { in-range = refl; gaps = refl; cells = refl; centres = none; no-borders = λ quiet. refl }
   followed-from b near carried (more {v = v} {vs = vs} {t = t} {ts = ts} fair track) =
       let r = residualAfter halfWindow (subℕ b 1000) t in
-      let later : Followed error r vs ts =
-      subst (λ (z : ℤ). Followed error z vs ts) (sym (residual-is 1000 b t))
+      let later : Followed D J error r vs ts =
+      subst (λ (z : ℤ). Followed D J error z vs ts) (sym (residual-is 1000 b t))
       (followed-from (halfway 1000 ((t + b) % 2000)) (fair .near) (carried-on ok enough fair b near carried) track) in
       let same = cells-are-gap ok enough fair b near carried in
       record {
@@ -105,11 +116,12 @@ module _ (D J error : ℕ) (ok : 8 * D + 2 * J ≤ 998) (enough : 8 * D + J ≤ 
         gaps = rw (same, later .gaps);
         cells = rw (same, later .cells);
         centres = also (centre-near ok enough fair b near carried) (later .centres);
+        no-borders = λ quiet. rw (no-border ok enough fair b near carried quiet, later .no-borders quiet);
       }
 
   -- from the first reversal, whose pulse is off too, with the residual 0
   pub tolerance : {p q : ℤ} {vs : List Reversal} {ts : List ℕ} → Within J q p → Track (2000 - D) (2000 + D) J p q vs ts
-      → Followed error (pos 0) vs ts
+      → Followed D J error (pos 0) vs ts
   tolerance {p} {q} near track =
       let a = within-apart J q p near in
       followed-from 1000 near (record { low = omega arith; high = omega arith }) track

@@ -11,7 +11,7 @@ use lib.ListN.{length}
 use lib.Signed.{_≤ℤ_}
 use Rattle.cells.specs.CellsAndBytes.{packed}
 use Rattle.refusals.specs.RefusedCalls.{Answer, bufferAfter}
-use Rattle.separation.specs.Separation.{cellsFor, Window, windowsOf, cellsJudged}
+use Rattle.separation.specs.Separation.{cellsFor, Window, windowsOf, borderPulsesOf, cellsJudged}
 use Rattle.flux_timings.specs.Timings.{numberJudged}
 
 -- 4.1, 4.2, 4.4: a flux transition after the first: its g, which is how many cells it stands after the one that precedes it, its true
@@ -64,13 +64,14 @@ pub data Centred (error : ℕ) : List Reversal → List Window → Type 0 where
 unfoldable pub refusalTable : ℕ → ℕ → ℕ → Answer ℕ
 refusalTable k n room = numberJudged k (cellsJudged n room)
 
--- 4.8, 4.9, 4.10, 4.11: what a call on the timings ts that answers `answer` and takes a buffer from `before` to `after` makes of the
+-- 4.8, 4.9, 4.10, 4.11, 4.13: what a call on the timings ts that answers `answer` and takes a buffer from `before` to `after` makes of the
 -- transitions vs. It is refused as the table says and not otherwise; where it is accepted the cells written stand packed at the front of
--- the buffer; and the centres are near, each by the e of the steps up to it
+-- the buffer; the centres are near, each by the e of the steps up to it; and no pulse is a border pulse
 pub record Recovered (error : ℕ) (ts : List ℕ) (vs : List Reversal) (answer : Answer ℕ) (before after : List ℕ) : Type 0 where
   pub refusal : answer ≡ refusalTable (length ts) (cellsInAll vs) (length before)
   pub cells : after ≡ bufferAfter answer (packed (cellsWritten vs)) before
   pub centres : Centred error vs (windowsOf ts)
+  pub no-border-pulses : borderPulsesOf ts ≡ 0
 
 -- 4.3: the shortest cell of the tolerance and the longest, in nanoseconds
 abbrev pub shortestCell : ℕ

@@ -1,6 +1,6 @@
--- Section 3 of the specification, rules 3.10 to 3.12, and rule 9.6: the separator's call on a whole list of timings, with its refusals 6 to
--- 10. The main property is demand 3: Demand3 states what the call recovers. Assumes nothing.
-use Prim.Native.Nat.{ℕ, zero, suc}
+-- Section 3 of the specification, rules 3.10 to 3.12 and 3.17, and rule 9.6: the separator's call on a whole list of timings, with its
+-- refusals 6 to 10. The main property is demand 3: Demand3 states what the call recovers. Assumes nothing.
+use Prim.Native.Nat.{ℕ, zero, suc, _+_}
 use mathlib.Core.Bool.{cond}
 use mathlib.Core.List.{List, [], _∷_, _++_}
 use lib.Dec.{ltb}
@@ -9,7 +9,7 @@ use lib.ListN.{length, replicate}
 use Rattle.cells.specs.CellsAndBytes.{bytesFor, packed}
 use Rattle.refusals.specs.RefusedCalls.{Answer, bufferAfter}
 use Rattle.refusals.specs.RefusedCalls.Answer.{gives, refused}
-use Rattle.separator.specs.Rule.{cellsAt, offsetAt, residualAfter, halfWindow}
+use Rattle.separator.specs.Rule.{cellsAt, offsetAt, residualAfter, halfWindow, borderPulsesAt}
 use Rattle.flux_timings.specs.Timings.{timingsJudged}
 
 -- 3.4: n cells: zeros, and a one as the last of them. Where n is 0 there are none
@@ -40,6 +40,15 @@ cellsIn (w ∷ ws) = cellsFor (w .cells) ++ cellsIn ws
 abbrev pub cellsOf : List ℕ → List ℕ
 cellsOf ts = cellsIn (windowsOf ts)
 
+-- 3.17: the number of border pulses among all steps
+unfoldable pub borderPulsesIn : List Window → ℕ
+borderPulsesIn [] = 0
+borderPulsesIn (w ∷ ws) = borderPulsesAt (w .offset) + borderPulsesIn ws
+
+-- 3.17: the number of border pulses of a list of timings
+abbrev pub borderPulsesOf : List ℕ → ℕ
+borderPulsesOf ts = borderPulsesIn (windowsOf ts)
+
 -- 3.12, 8.9, 8.10: n cells and a buffer of `room` bytes are judged. More than 131,072 cells are refused with 9, with n beside it; then a
 -- buffer that is too short with 10, with the bytes that the cells need beside it. Else n is given, also where it is 0
 unfoldable pub cellsJudged : ℕ → ℕ → Answer ℕ
@@ -53,3 +62,8 @@ separation ts room = timingsJudged ts (cellsJudged (length (cellsOf ts)) room)
 -- bytes after it as they were
 abbrev pub separatedCells : List ℕ → List ℕ → List ℕ
 separatedCells ts buffer = bufferAfter (separation ts (length buffer)) (packed (cellsOf ts)) buffer
+
+-- 3.17, 8.31, 9.6, 9.38: the lent number of border pulses afterwards: that of all timings, or, beside a refusal, the one that was there
+unfoldable pub borderPulsesAfter : Answer ℕ → ℕ → ℕ → ℕ
+borderPulsesAfter (gives cells) pulses before = pulses
+borderPulsesAfter (refused number value) pulses before = before

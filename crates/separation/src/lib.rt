@@ -1,4 +1,4 @@
-// The separator on a whole list of timings: the cells, packed in a lent buffer.
+// The separator on a whole list of timings: the cells, packed in a lent buffer, and the number of border pulses.
 use flux_timings::MOST_TIMINGS;
 use flux_timings::first_out;
 use refusals::Counted;
@@ -16,16 +16,17 @@ ghost use Rattle.refusals.specs.RefusedCalls.Answer.{gives};
 ghost use Rattle.cells.specs.CellsAndBytes.{bytesFor, packed, withOne};
 ghost use Rattle.flux_timings.specs.Timings.{firstOut};
 ghost use Rattle.separator.specs.Rule.{takenAnswer};
-ghost use Rattle.separation.specs.Separation.{cellsOf, separation, separatedCells};
+ghost use Rattle.separation.specs.Separation.{cellsOf, borderPulsesOf, separation, separatedCells, borderPulsesAfter};
 ghost use Rattle.separation.specs.Demand3.{Demand3};
 
 // The most cells that one call gives.
 pub const MOST_CELLS: usize = 131_072;
 
-// The whole list of timings, to cells at the front of a buffer; they are counted.
-pub fn separate(timings: &[u32], cells: &mut [u8]) -> Counted
+// The whole list of timings, to cells at the front of a buffer; they are counted, and the border pulses too.
+pub fn separate(timings: &[u32], cells: &mut [u8], border_pulses: &mut usize) -> Counted
     ensures answer { λ r. ⌜ countedAnswer r ≡ separation (now (timings .entry)) (length (now (cells .entry))) ⌝ }
     ensures buffer { λ _. ⌜ now (cells .exit) ≡ separatedCells (now (timings .entry)) (now (cells .entry)) ⌝ }
+    ensures border_pulses { λ _. ⌜ now («border_pulses» .exit) ≡ borderPulsesAfter (separation (now (timings .entry)) (length (now (cells .entry)))) (borderPulsesOf (now (timings .entry))) (now («border_pulses» .entry)) ⌝ }
     ensures demand3 { λ r. ⌜ Demand3 (now (timings .entry)) (countedAnswer r) (now (cells .entry)) (now (cells .exit)) ⌝ }
 {
     let given = timings.len();
@@ -39,7 +40,8 @@ pub fn separate(timings: &[u32], cells: &mut [u8]) -> Counted
     if first < given {
         return Counted::Refused(Refusal::TimingOutOfRange(first));
     }
-    let count = count_cells(timings);
+    let counts = count_cells(timings);
+    let count = counts.cells;
     if MOST_CELLS < count {
         return Counted::Refused(Refusal::TooManyCells(count));
     }
@@ -48,25 +50,39 @@ pub fn separate(timings: &[u32], cells: &mut [u8]) -> Counted
         return Counted::Refused(Refusal::NoRoom(needed));
     }
     write_cells(timings, needed, cells);
+    *border_pulses = counts.border_pulses;
     Counted::Count(count)
 }
 
-// The number of cells in all of timings that are in range.
-fn count_cells(timings: &[u32]) -> usize
+// What timings have in all: cells, and border pulses.
+struct Counts {
+    cells: usize,
+    border_pulses: usize,
+}
+
+// The cells and the border pulses of timings that are in range, counted.
+fn count_cells(timings: &[u32]) -> Counts
     requires { ⌜ (length (now timings) ≤ 65536) × (firstOut (now timings) ≡ length (now timings)) ⌝ }
-    ensures { λ r. ⌜ r ≡ length (cellsOf (now (timings .entry))) ⌝ }
+    ensures cells { λ r. ⌜ r .cells ≡ length (cellsOf (now (timings .entry))) ⌝ }
+    ensures border_pulses { λ r. ⌜ r .«border_pulses» ≡ borderPulsesOf (now (timings .entry)) ⌝ }
 {
     let mut count: usize = 0;
+    let mut border_pulses: usize = 0;
     let mut state = Separator::new();
     let mut i: usize = 0;
     while i < timings.len() {
         let stepped = state.step(timings[i]);
-        let taken = stepped.taken;
+        let given = stepped.given;
+        let taken = given.taken;
         count += cells_given(taken);
+        border_pulses += separator::border_pulses_at(given.offset) as usize;
         state = stepped.next;
         i += 1;
     }
-    count
+    Counts {
+        cells: count,
+        border_pulses: border_pulses,
+    }
 }
 
 // Writes the cells of timings that are in range to the front of a buffer that has room for them.
@@ -80,7 +96,8 @@ fn write_cells(timings: &[u32], needed: usize, cells: &mut [u8])
     let mut i: usize = 0;
     while i < timings.len() {
         let stepped = separator.step(timings[i]);
-        let taken = stepped.taken;
+        let given = stepped.given;
+        let taken = given.taken;
         let count = cells_given(taken);
         put_cells(cells, at, count);
         at += count;

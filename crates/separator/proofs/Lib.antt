@@ -1,5 +1,6 @@
 pub mod Differences
 pub mod Orders
+pub mod Border
 pub mod Lifted
 pub mod Residual
 pub mod MachineStep

@@ -3,9 +3,10 @@
 --   u = t + r          n = (u + half) / window, rounded down          e = u - window * n          the new r = e / 2, towards zero
 --
 -- The window is 2,000 ns and its half 1,000 ns; the step is stated over the half. The main property: the step by value and the lent one
--- give the same answer, `stepAnswer`, and leave the same residual, `stepResidual`. Assumes nothing.
+-- give the same answer, `stepAnswer`, with the same offset beside it, `stepOffset`, and leave the same residual, `stepResidual`.
+-- Assumes nothing.
 use Prim.Native.Nat.{ℕ, _*_}
-use mathlib.Core.Bool.{cond, _&&_}
+use mathlib.Core.Bool.{Bool, cond, _&&_, _||_}
 use lib.IntN.{ℤ, pos, negsuc, _+ℤ_, _-ℤ_, natAbs}
 use lib.Signed.{leZ, quotZ, shrZ}
 use Rattle.refusals.specs.RefusedCalls.{Answer, refusedWith}
@@ -55,3 +56,15 @@ stepAnswer r t = cond (inRange t) (gives (cellsAt halfWindow (usable r) t)) (ref
 -- 3.7, 3.8, 3.9, 9.5, 9.36: the state after a step, by value and lent: the new residual, or, beside a refusal, the one that came
 unfoldable pub stepResidual : ℤ → ℕ → ℤ
 stepResidual r t = cond (inRange t) (residualAfter halfWindow (usable r) t) r
+
+-- 3.15, 9.5: the offset that a step gives beside n, by value and lent: e, or 0 beside a refusal, where nothing is stepped
+unfoldable pub stepOffset : ℤ → ℕ → ℤ
+stepOffset r t = cond (inRange t) (offsetAt halfWindow (usable r) t) (pos 0)
+
+-- 3.16: a pulse with the offset e is a border pulse where e is at most -902 or at least 902 (negsuc 901 is -902)
+unfoldable pub isBorder : ℤ → Bool
+isBorder e = leZ e (negsuc 901) || leZ (pos 902) e
+
+-- 3.16: how many border pulses such a pulse is: 1 or 0
+unfoldable pub borderPulsesAt : ℤ → ℕ
+borderPulsesAt e = cond (isBorder e) 1 0

@@ -8,7 +8,7 @@ use refusals::Refusal;
 ghost use mathlib.Core.Path.{_≡_};
 ghost use Prim.Native.Nat.{ℕ, _/_, _%_, _<_};
 ghost use lib.IntN.{pos, subℕ};
-ghost use Rattle.separator.specs.Rule.{halved, usable, takenAnswer, stepAnswer, stepResidual};
+ghost use Rattle.separator.specs.Rule.{halved, usable, takenAnswer, stepAnswer, stepOffset, stepResidual, borderPulsesAt};
 
 // The separator's state: the residual, in nanoseconds.
 pub struct Separator {
@@ -21,9 +21,15 @@ pub enum Taken {
     Refused(Refusal),
 }
 
-// A step by value: what it answers, and the next state, which is the same beside a refusal.
-pub struct Stepped {
+// What a step gives: its answer, and beside it the offset e in nanoseconds, which is 0 beside a refusal.
+pub struct Given {
     pub taken: Taken,
+    pub offset: i32,
+}
+
+// A step by value: what it gives, and the next state, which is the same beside a refusal.
+pub struct Stepped {
+    pub given: Given,
     pub next: Separator,
 }
 
@@ -37,12 +43,17 @@ impl Separator {
 
     // One timing.
     pub fn step(self, timing: u32) -> Stepped
-        ensures answer { λ r. ⌜ takenAnswer (r .taken) ≡ stepAnswer (self .residual) timing ⌝ }
+        ensures answer { λ r. ⌜ takenAnswer (r .given .taken) ≡ stepAnswer (self .residual) timing ⌝ }
+        ensures offset { λ r. ⌜ r .given .offset ≡ stepOffset (self .residual) timing ⌝ }
         ensures state { λ r. ⌜ r .next .residual ≡ stepResidual (self .residual) timing ⌝ }
     {
         if !timing_in_range(timing) {
-            return Stepped {
+            let refused = Given {
                 taken: Taken::Refused(Refusal::TimingOutOfRange(0)),
+                offset: 0,
+            };
+            return Stepped {
+                given: refused,
                 next: self,
             };
         }
@@ -53,11 +64,33 @@ impl Separator {
         let cells = timing / TIMING_WINDOW + cells_in(part);
         let e = offset_in(part);
         let next = Separator { residual: half(e) };
-        Stepped {
+        let given = Given {
             taken: Taken::Cells(cells),
+            offset: e,
+        };
+        Stepped {
+            given: given,
             next: next,
         }
     }
+}
+
+// The offsets from which on, at either side, a pulse is a border pulse.
+const LEAST_BORDER: i32 = -902;
+
+const MOST_BORDER: i32 = 902;
+
+// How many border pulses a pulse with this offset is: 1 where it lies near the border of its window, and else 0.
+pub fn border_pulses_at(offset: i32) -> u32
+    ensures { λ r. ⌜ r ≡ borderPulsesAt offset ⌝ }
+{
+    if offset <= LEAST_BORDER {
+        return 1;
+    }
+    if MOST_BORDER <= offset {
+        return 1;
+    }
+    0
 }
 
 // The window, of a timing and of an offset, its half, and the residuals that a step can leave, in nanoseconds.

@@ -1,8 +1,9 @@
--- Section 9 of the specification, rules 9.31 to 9.34: answers as callers from C get them. The main property: a call returns a number, 0
--- where it is accepted and else the refusal's, and stores the value beside it. Assumes nothing.
+-- Section 9 of the specification, rules 9.31 to 9.34 and 9.37: answers as callers from C get them. The main property: a call returns a
+-- number, 0 where it is accepted and else the refusal's, and stores the value beside it. Assumes nothing.
 use Prim.Native.Nat.{ℕ}
 use mathlib.Core.Bool.{cond}
 use mathlib.Core.List.{List, [], _∷_}
+use lib.IntN.{ℤ}
 use lib.ListN.{length, take}
 use Rattle.basis.specs.Lists.{writtenOver}
 use Rattle.refusals.specs.RefusedCalls.{Answer}
@@ -20,6 +21,11 @@ numberIn (refused number value) = number
 abbrev pub valueIn : Answer ℕ → ℕ
 valueIn (gives count) = count
 valueIn (refused number value) = value
+
+-- 9.37: a step stores its offset e. A refused one keeps what was there
+abbrev pub offsetStored : Answer ℕ → (e before : ℤ) → ℤ
+offsetStored (gives count) e before = e
+offsetStored (refused number value) e before = before
 
 -- 9.31, 9.32: reading out stores how many data bytes there are, and in the lent check result 1 for a good check and 0 for a bad one. A
 -- refused call keeps the check result

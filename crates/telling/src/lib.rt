@@ -5,6 +5,7 @@ use revolution_portions::RevolutionReader;
 use revolution_portions::TakenPortion;
 use sector_records::Sector;
 use sectors::ReadOut;
+use separator::Given;
 use separator::Taken;
 use track_file::Read;
 ghost use mathlib.Core.Path.{_≡_};
@@ -14,7 +15,7 @@ ghost use Rattle.refusals.specs.RefusedCalls.{countedAnswer};
 ghost use Rattle.sectors.specs.Calls.{readOutAnswer};
 ghost use Rattle.separator.specs.Rule.{takenAnswer};
 ghost use Rattle.track_file.specs.Portions.{readAnswer};
-ghost use Rattle.telling.specs.Numbers.{numberIn, valueIn, sectorNumbers, valueRead, checkRead, valueGiven, placeGiven};
+ghost use Rattle.telling.specs.Numbers.{numberIn, valueIn, offsetStored, sectorNumbers, valueRead, checkRead, valueGiven, placeGiven};
 
 // Tells a count: every routine that counts something does it by this function.
 pub fn told(counted: Counted, value: &mut usize) -> u32
@@ -32,13 +33,16 @@ pub fn told(counted: Counted, value: &mut usize) -> u32
     }
 }
 
-// Tells the cells of a step.
-pub fn told_taken(taken: Taken, value: &mut usize) -> u32
-    ensures { λ r. ⌜ (r ≡ numberIn (takenAnswer taken)) × (now (value .exit) ≡ valueIn (takenAnswer taken)) ⌝ }
+// Tells the cells of a step, and stores its offset; beside a refusal that is kept.
+pub fn told_step(given: Given, offset: &mut i32, value: &mut usize) -> u32
+    ensures { λ r. ⌜ (r ≡ numberIn (takenAnswer (given .taken))) × (now (value .exit) ≡ valueIn (takenAnswer (given .taken))) × (now (offset .exit) ≡ offsetStored (takenAnswer (given .taken)) (given .offset) (now (offset .entry))) ⌝ }
 {
+    let taken = given.taken;
+    let e = given.offset;
     match taken {
         Taken::Cells(count) => {
             *value = count as usize;
+            *offset = e;
             0
         }
         Taken::Refused(refusal) => {

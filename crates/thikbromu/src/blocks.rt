@@ -5,7 +5,7 @@ ghost use mathlib.Core.Path.{_≡_};
 ghost use lib.ListN.{length};
 ghost use Rattle.supercard_pro.specs.TrackBlock.{blockAnswer, blockTimings};
 ghost use Rattle.revolution_portions.specs.Portions.{portionAnswer, portionReader, portionList};
-ghost use Rattle.block_cells.specs.BlockToCells.{blockSeparation, blockCells, BlockDemand3};
+ghost use Rattle.block_cells.specs.BlockToCells.{blockSeparation, blockCells, blockBorderPulses, BlockDemand3};
 ghost use Rattle.reader_as_number.specs.Numbers.{readerOfNumber, numberKept, AllByNumber};
 ghost use Rattle.telling.specs.Numbers.{numberIn, valueIn};
 
@@ -49,22 +49,24 @@ pub extern "C" fn thikbromu_revolution_portion(
 }
 
 // The cells of one revolution of a block, packed at the front of `cells`: its timings, handed to the separator; `value` is the number of
-// cells.
+// cells, and `border_pulses` the number of border pulses, which is kept beside a refusal.
 #[no_mangle]
 pub extern "C" fn thikbromu_revolution_cells(
     block: &[u8],
     revolutions: u32,
     revolution: u32,
     cells: &mut [u8],
+    border_pulses: &mut usize,
     value: &mut usize,
 ) -> u32
     ensures number { λ r. ⌜ r ≡ numberIn (blockSeparation (now (block .entry)) revolutions revolution (length (now (cells .entry)))) ⌝ }
     ensures value { λ _. ⌜ now (value .exit) ≡ valueIn (blockSeparation (now (block .entry)) revolutions revolution (length (now (cells .entry)))) ⌝ }
     ensures buffer { λ _. ⌜ now (cells .exit) ≡ blockCells (now (block .entry)) revolutions revolution (now (cells .entry)) ⌝ }
+    ensures border_pulses { λ _. ⌜ now («border_pulses» .exit) ≡ blockBorderPulses (now (block .entry)) revolutions revolution (length (now (cells .entry))) (now («border_pulses» .entry)) ⌝ }
     ensures demand3 { λ _. ⌜ BlockDemand3 (now (block .entry)) revolutions revolution (blockSeparation (now (block .entry)) revolutions revolution (length (now (cells .entry)))) (now (cells .entry)) (now (cells .exit)) ⌝ }
 {
     told(
-        block_cells::separate_revolution(block, revolutions, revolution, cells),
+        block_cells::separate_revolution(block, revolutions, revolution, cells, border_pulses),
         value,
     )
 }

@@ -19,7 +19,7 @@ use findings::Finding;
 use telling::sector_numbers;
 use telling::told;
 use telling::told_read;
-use telling::told_taken;
+use telling::told_step;
 ghost use mathlib.Core.Path.{_≡_};
 ghost use mathlib.Core.Bool.{cond};
 ghost use Prim.Native.Nat.{_/_};
@@ -27,13 +27,13 @@ ghost use lib.ListN.{length};
 ghost use Rattle.cells.specs.CellsAndBytes.{cell, wordAt, leastPlace, cleared, withOne};
 ghost use Rattle.crc.specs.CheckWord.{checkWordFrom, checkWord};
 ghost use Rattle.mfm.specs.Calls.{codingAnswer, decodingAnswer, encodedAfter, decodedAfter};
-ghost use Rattle.separator.specs.Rule.{stepAnswer, stepResidual};
-ghost use Rattle.separation.specs.Separation.{separation, separatedCells};
+ghost use Rattle.separator.specs.Rule.{stepAnswer, stepOffset, stepResidual};
+ghost use Rattle.separation.specs.Separation.{borderPulsesOf, separation, separatedCells, borderPulsesAfter};
 ghost use Rattle.separation.specs.Demand3.{Demand3};
 ghost use Rattle.histogram.specs.Histogram.{counting};
 ghost use Rattle.sectors.specs.Calls.{indexAnswer, dataAnswer, dataAfter};
 ghost use Rattle.findings.specs.Calls.{findingsAnswer, listAfter, numbersAfter};
-ghost use Rattle.telling.specs.Numbers.{numberIn, valueIn, valueRead, checkRead};
+ghost use Rattle.telling.specs.Numbers.{numberIn, valueIn, offsetStored, valueRead, checkRead};
 ghost use Rattle.thikbromu.specs.Lent.{countsLent, recordLent};
 
 // Cell p of a track of n cells, counted on past n.
@@ -126,30 +126,43 @@ pub extern "C" fn thikbromu_decode(cells: &[u8], bytes: &mut [u8], value: &mut u
 }
 
 // One step of the separator, on a state that the caller lends: its residual is advanced in its place, and kept beside a refusal. `value` is
-// the number of cells.
+// the number of cells, and `offset` the offset e, which is kept beside a refusal too.
 #[no_mangle]
-pub extern "C" fn thikbromu_step(residual: &mut i32, timing: u32, value: &mut usize) -> u32
+pub extern "C" fn thikbromu_step(
+    residual: &mut i32,
+    timing: u32,
+    offset: &mut i32,
+    value: &mut usize,
+) -> u32
     ensures number { λ r. ⌜ r ≡ numberIn (stepAnswer (now (residual .entry)) timing) ⌝ }
     ensures value { λ _. ⌜ now (value .exit) ≡ valueIn (stepAnswer (now (residual .entry)) timing) ⌝ }
+    ensures offset { λ _. ⌜ now (offset .exit) ≡ offsetStored (stepAnswer (now (residual .entry)) timing) (stepOffset (now (residual .entry)) timing) (now (offset .entry)) ⌝ }
     ensures residual { λ _. ⌜ now (residual .exit) ≡ stepResidual (now (residual .entry)) timing ⌝ }
 {
     let stepped = separator::step_lent(*residual, timing);
     let next = stepped.next;
     let advanced = next.residual;
     *residual = advanced;
-    let taken = stepped.taken;
-    told_taken(taken, value)
+    let given = stepped.given;
+    told_step(given, offset, value)
 }
 
-// The separator on a list of timings; `value` is the number of cells, packed at the front of `cells`.
+// The separator on a list of timings; `value` is the number of cells, packed at the front of `cells`, and `border_pulses` the number of
+// border pulses, which is kept beside a refusal.
 #[no_mangle]
-pub extern "C" fn thikbromu_separate(timings: &[u32], cells: &mut [u8], value: &mut usize) -> u32
+pub extern "C" fn thikbromu_separate(
+    timings: &[u32],
+    cells: &mut [u8],
+    border_pulses: &mut usize,
+    value: &mut usize,
+) -> u32
     ensures number { λ r. ⌜ r ≡ numberIn (separation (now (timings .entry)) (length (now (cells .entry)))) ⌝ }
     ensures value { λ _. ⌜ now (value .exit) ≡ valueIn (separation (now (timings .entry)) (length (now (cells .entry)))) ⌝ }
     ensures buffer { λ _. ⌜ now (cells .exit) ≡ separatedCells (now (timings .entry)) (now (cells .entry)) ⌝ }
+    ensures border_pulses { λ _. ⌜ now («border_pulses» .exit) ≡ borderPulsesAfter (separation (now (timings .entry)) (length (now (cells .entry)))) (borderPulsesOf (now (timings .entry))) (now («border_pulses» .entry)) ⌝ }
     ensures demand3 { λ _. ⌜ Demand3 (now (timings .entry)) (separation (now (timings .entry)) (length (now (cells .entry)))) (now (cells .entry)) (now (cells .exit)) ⌝ }
 {
-    told(separation::separate(timings, cells), value)
+    told(separation::separate(timings, cells, border_pulses), value)
 }
 
 // The histogram of timings: 256 counts to the front of `counts`, or as many as it has room for; `value` is the number of

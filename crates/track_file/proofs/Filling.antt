@@ -70,41 +70,41 @@ placed-gives track side answer e = go answer e
     go (refused number value) e = ap counted e
 
 module _ (place : Place) (room : ℕ) (big : 16384 ≤ room) (content : Content) where
-  timings-buffer : (k : ℕ) (ys : List ℕ) → suc k ≤ 65536 → ends (Timings place (suc k) Empty (tookWith 0 0 (pos 0))) ys ≡ gives content
-      → cellsAfter (Timings place (suc k) Empty (tookWith 0 0 (pos 0))) ys (zeros room) ≡ writtenOver (packed (cellsOf (numbers (suc k) ys))) (zeros room)
+  timings-buffer : (k : ℕ) (ys : List ℕ) → suc k ≤ 65536 → ends (Timings place (suc k) Empty (tookWith 0 0 0 (pos 0))) ys ≡ gives content
+      → cellsAfter (Timings place (suc k) Empty (tookWith 0 0 0 (pos 0))) ys (zeros room) ≡ writtenOver (packed (cellsOf (numbers (suc k) ys))) (zeros room)
   unfolding finishAnswer
   timings-buffer k ys h e = go (ℕ-discrete (length ys) (4 * suc k))
     where
       go : Dec (length ys ≡ 4 * suc k)
-          → cellsAfter (Timings place (suc k) Empty (tookWith 0 0 (pos 0))) ys (zeros room) ≡ writtenOver (packed (cellsOf (numbers (suc k) ys))) (zeros room)
+          → cellsAfter (Timings place (suc k) Empty (tookWith 0 0 0 (pos 0))) ys (zeros room) ≡ writtenOver (packed (cellsOf (numbers (suc k) ys))) (zeros room)
       go (yes w) =
           let ts = numbers (suc k) ys in
           let l : length ts ≡ suc k = length-numbers (suc k) ys in
           let some : length ts ≡ 0 → ⊥ = λ z. omega arith in
           let few : length ts ≤ 65536 = omega arith in
           let ok = accepted ts some few
-          (placed-gives (place .track) (place .side) (separation ts 16384) (sym (ap finishAnswer (timings-whole place k (tookWith 0 0 (pos 0)) ys w) ∙ ap (placed (place .track) (place .side)) (taken-answer ts some few)) ∙ e)) in
-          timings-cells place k (tookWith 0 0 (pos 0)) ys (zeros room) w ∙ timings-filled room big ts few ok
-      go (no f) = never (sym (timings-not-whole place k (tookWith 0 0 (pos 0)) ys f) ∙ e)
+          (placed-gives (place .track) (place .side) (separation ts 16384) (sym (ap finishAnswer (timings-whole place k (tookWith 0 0 0 (pos 0)) ys w) ∙ ap (placed (place .track) (place .side)) (taken-answer ts some few)) ∙ e)) in
+          timings-cells place k (tookWith 0 0 0 (pos 0)) ys (zeros room) w ∙ timings-filled room big ts few ok
+      go (no f) = never (sym (timings-not-whole place k (tookWith 0 0 0 (pos 0)) ys f) ∙ e)
 
   after-flux-count : (n v : ℕ) (ys buffer : List ℕ) → (n ≡ 0 → buffer ≡ zeros room) → ends (afterFluxCount place n v) ys ≡ gives content
       → cellsAfter (afterFluxCount place n v) ys buffer ≡ cond (eqb v 0) buffer (writtenOver (packed (cellsOf (numbers v ys))) (zeros room))
   unfolding afterFluxCount
   after-flux-count n v ys buffer blank e = go (ltb 65536 v) (eqb n 0) (eqb v 0) refl refl refl e
     where
-      some : (v : ℕ) → v ≤ 65536 → (v ≡ 0 → ⊥) → ends (Timings place v Empty (tookWith 0 0 (pos 0))) ys ≡ gives content
-          → cellsAfter (Timings place v Empty (tookWith 0 0 (pos 0))) ys (zeros room) ≡ writtenOver (packed (cellsOf (numbers v ys))) (zeros room)
+      some : (v : ℕ) → v ≤ 65536 → (v ≡ 0 → ⊥) → ends (Timings place v Empty (tookWith 0 0 0 (pos 0))) ys ≡ gives content
+          → cellsAfter (Timings place v Empty (tookWith 0 0 0 (pos 0))) ys (zeros room) ≡ writtenOver (packed (cellsOf (numbers v ys))) (zeros room)
       some zero h f e = absurd (f refl)
       some (suc k) h f e = timings-buffer k ys h e
 
       go : (x y w : Bool) → ltb 65536 v ≡ x → eqb n 0 ≡ y → eqb v 0 ≡ w
-          → ends (cond x (Stopped (TooManyTimings v)) (cond y (cond w NotATrackFile (Timings place v Empty (tookWith 0 0 (pos 0)))) (cond w (AllCells place n) NotATrackFile))) ys ≡ gives content
-          → cellsAfter (cond x (Stopped (TooManyTimings v)) (cond y (cond w NotATrackFile (Timings place v Empty (tookWith 0 0 (pos 0)))) (cond w (AllCells place n) NotATrackFile))) ys buffer
+          → ends (cond x (Stopped (TooManyTimings v)) (cond y (cond w NotATrackFile (Timings place v Empty (tookWith 0 0 0 (pos 0)))) (cond w (AllCells place n) NotATrackFile))) ys ≡ gives content
+          → cellsAfter (cond x (Stopped (TooManyTimings v)) (cond y (cond w NotATrackFile (Timings place v Empty (tookWith 0 0 0 (pos 0)))) (cond w (AllCells place n) NotATrackFile))) ys buffer
           ≡ cond w buffer (writtenOver (packed (cellsOf (numbers v ys))) (zeros room))
       go true y w a b c e = never (sym (ends-stopped (TooManyTimings v) ys) ∙ e)
       go false true true a b c e = never (sym (ends-no-file ys) ∙ e)
       go false true false a b c e =
-          ap (cellsAfter (Timings place v Empty (tookWith 0 0 (pos 0))) ys) (blank (eqb-true n 0 b)) ∙ some v (ltb-false 65536 v a) (eqb-false v 0 c) e
+          ap (cellsAfter (Timings place v Empty (tookWith 0 0 0 (pos 0))) ys) (blank (eqb-true n 0 b)) ∙ some v (ltb-false 65536 v a) (eqb-false v 0 c) e
       go false false true a b c e = all-cells-stay place n ys buffer
       go false false false a b c e = never (sym (ends-no-file ys) ∙ e)
 

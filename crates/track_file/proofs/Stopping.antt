@@ -86,10 +86,10 @@ module _ (place : Place) where
   after-flux-count n v bytes = go (ltb 65536 v) (eqb n 0) (eqb v 0)
     where
       go : (x y z : Bool)
-          → stops (cond x (Stopped (TooManyTimings v)) (cond y (cond z NotATrackFile (Timings place v Empty (tookWith 0 0 (pos 0)))) (cond z (AllCells place n) NotATrackFile))) bytes ≡ x
+          → stops (cond x (Stopped (TooManyTimings v)) (cond y (cond z NotATrackFile (Timings place v Empty (tookWith 0 0 0 (pos 0)))) (cond z (AllCells place n) NotATrackFile))) bytes ≡ x
       go true y z = stops-stopped (TooManyTimings v) bytes
       go false true true = stops-no-file bytes
-      go false true false = stops-timings v Empty (tookWith 0 0 (pos 0)) bytes
+      go false true false = stops-timings v Empty (tookWith 0 0 0 (pos 0)) bytes
       go false false true = stops-all-cells n bytes
       go false false false = stops-no-file bytes
 

@@ -14,9 +14,11 @@ use lib.ListN.{length, getD, take, drop, replicate}
 use Rattle.basis.specs.Bytes.{number}
 use Rattle.basis.specs.Lists.{writtenOver}
 use Rattle.cells.specs.CellsAndBytes.{bytesFor, packed}
-use Rattle.separation.specs.Separation.{cellsOf, separation}
+use Rattle.separation.specs.Separation.{cellsOf, borderPulsesOf, separation}
 use Rattle.refusals.specs.RefusedCalls.{Answer}
 use Rattle.refusals.specs.RefusedCalls.Answer.{gives, refused}
+use Rattle.track_file.specs.declared.BorderPulses.{BorderPulses}
+use Rattle.track_file.specs.declared.BorderPulses.the-variants.{Pulses, NoFluxSection}
 
 -- 10.2: so many counts or timings, one after another
 unfoldable pub numbers : ℕ → List ℕ → List ℕ
@@ -113,6 +115,10 @@ fileAnswer file =
 -- 10.9: the packed cells of an accepted file: its own bytes, or the separator's cells
 unfoldable pub fileCells : List ℕ → List ℕ
 fileCells file = cond (eqb (fluxCount file) 0) (packedBytes file) (packed (cellsOf (timings file)))
+
+-- 10.17: the border pulses of an accepted file: those of all its timings; a file with cells has no flux section and so no such number
+unfoldable pub fileBorderPulses : List ℕ → BorderPulses
+fileBorderPulses file = cond (eqb (fluxCount file) 0) NoFluxSection (Pulses (borderPulsesOf (timings file)))
 
 -- 8.10, 9.10, 10.11: what a file gives that is read into a buffer of `room` bytes: 10 goes first, with the bytes that 131,072 cells need
 -- beside it

@@ -9,7 +9,7 @@ use separator::Taken;
 ghost use mathlib.Core.Path.{_≡_};
 ghost use Prim.Native.Nat.{_≤_};
 ghost use lib.ListN.{length, drop};
-ghost use Rattle.track_file.specs.Portions.{startOf, startCells, readerAfter, cellsAfter, isStopped, AtOnce, readAnswer, finishAnswer, WholeFile};
+ghost use Rattle.track_file.specs.Portions.{startOf, startCells, readerAfter, cellsAfter, isStopped, AtOnce, readAnswer, finishAnswer, WholeFile, borderPulsesRead, WholeBorderPulses};
 
 // The bytes that a cell buffer must have: room for 131,072 cells.
 pub const ROOM: usize = 16_384;
@@ -18,6 +18,12 @@ pub const ROOM: usize = 16_384;
 pub enum Read {
     Cells { track: u8, side: u8, count: usize },
     Refused(Refusal),
+}
+
+// The border pulses of a file: their number, which a file with a flux section alone has.
+pub enum BorderPulses {
+    Pulses(u32),
+    NoFluxSection,
 }
 
 // The beginning, before any byte: the cell buffer is cleared, or refused where it has too little room (rule 10.11).
@@ -66,6 +72,19 @@ pub fn finish(reader: Reader) -> Read
     ensures file { λ r. ⌜ WholeFile reader (readAnswer r) ⌝ }
 {
     given(reader)
+}
+
+// The border pulses of the file, at its end (rule 10.17). They are counted as the timings come.
+pub fn border_pulses(reader: Reader) -> BorderPulses
+    ensures answer { λ r. ⌜ r ≡ borderPulsesRead reader ⌝ }
+    ensures file { λ r. ⌜ WholeBorderPulses reader r ⌝ }
+{
+    match reader {
+        Reader::AllTimings(_, taken) => {
+            BorderPulses::Pulses(taken_timings::border_pulses_taken(taken))
+        }
+        _ => BorderPulses::NoFluxSection,
+    }
 }
 
 // What the end of the file gives. A file that ends anywhere else is short.

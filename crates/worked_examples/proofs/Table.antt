@@ -1,15 +1,15 @@
--- The examples of rules 1.17, 2.4 and 3.13 hold, each by computation. Assumes nothing.
+-- The examples of rules 1.17, 2.4, 3.13 and 3.18 hold, each by computation. Assumes nothing.
 use mathlib.Core.Path.{refl}
 use Rattle.basis.specs.Lists.{listed}
 use Rattle.cells.specs.CellsAndBytes.{word, packedByte, packed}
 use Rattle.crc.specs.CheckWord.{afterBit, afterBits, afterByte, checkWordFrom}
-use Rattle.separator.specs.Rule.{reading, cellsAt, offsetAt, halved, residualAfter}
-use Rattle.separation.specs.Separation.{windowsFrom}
+use Rattle.separator.specs.Rule.{reading, cellsAt, offsetAt, halved, residualAfter, isBorder, borderPulsesAt}
+use Rattle.separation.specs.Separation.{windowsFrom, borderPulsesIn}
 use Rattle.mfm.specs.Coding.{dataBits, bitCells, encoded}
 use Rattle.worked_examples.specs.WorkedExamples.{AllHold, table}
 
 pub table-holds : AllHold table
-unfolding listed word packedByte packed afterBit afterBits afterByte checkWordFrom reading cellsAt offsetAt halved residualAfter windowsFrom dataBits bitCells encoded
+unfolding listed word packedByte packed afterBit afterBits afterByte checkWordFrom reading cellsAt offsetAt halved residualAfter isBorder borderPulsesAt windowsFrom borderPulsesIn dataBits bitCells encoded
 table-holds = (
   (refl, refl, refl),
   (
@@ -22,7 +22,7 @@ table-holds = (
           (refl, refl, refl),
           (
             (refl, refl, refl),
-            (refl, (refl, (refl, (refl, (refl, (refl, tt)))))),
+            (refl, (refl, (refl, (refl, (refl, (refl, (refl, (refl, (refl, (refl, (refl, tt))))))))))),
           ),
         ),
       ),

@@ -1,4 +1,5 @@
--- The examples of rules 1.17, 2.4 and 3.13 of the specification in one table: six rows of the separator, three codings, three check words.
+-- The examples of rules 1.17, 2.4, 3.13 and 3.18 of the specification in one table: six rows of the separator, three codings, three check
+-- words, five numbers of border pulses.
 -- The main property, `AllHold table`, says that every one of them holds; `table-holds`, in proofs/Table, proves it. Assumes nothing.
 use Prim.Native.Nat.{ℕ}
 use mathlib.Core.List.{List, [], _∷_, map}
@@ -6,27 +7,30 @@ use mathlib.Core.Path.{_≡_}
 use lib.IntN.{ℤ, pos, negsuc}
 use Rattle.crc.specs.CheckWord.{checkWord}
 use Rattle.separator.specs.Rule.{halved}
-use Rattle.separation.specs.Separation.{Window, windowsOf}
+use Rattle.separation.specs.Separation.{Window, windowsOf, borderPulsesOf}
 use Rattle.mfm.specs.Coding.{encoded}
 
--- an example: timings, with n, e and the r after each of them; a byte coded after a bit; bytes and their check word
+-- an example: timings, with n, e and the r after each of them; a byte coded after a bit; bytes and their check word; timings and how many
+-- border pulses they have
 pub data Example : Type 0 where
   separates : List ℕ → List ℕ → List ℤ → List ℤ → Example
   codes : ℕ → ℕ → List ℕ → Example
   checks : List ℕ → ℕ → Example
+  borders : List ℕ → ℕ → Example
 
--- what an example says: n, e and r of each window that the rule gives; the cells; the check word
+-- what an example says: n, e and r of each window that the rule gives; the cells; the check word; the number of border pulses
 abbrev pub Holds : Example → Type 0
 Holds (separates timings n e r) =
     (map (λ (w : Window). w .cells) (windowsOf timings) ≡ n) × (map (λ (w : Window). w .offset) (windowsOf timings) ≡ e) × (map (λ (w : Window). halved (w .offset)) (windowsOf timings) ≡ r)
 Holds (codes before byte cells) = encoded before (byte ∷ []) ≡ cells
 Holds (checks bytes word) = checkWord bytes ≡ word
+Holds (borders timings pulses) = borderPulsesOf timings ≡ pulses
 
 abbrev pub AllHold : List Example → Type 0
 AllHold [] = Unit
 AllHold (example ∷ examples) = Holds example × AllHold examples
 
--- 1.17, 2.4, 3.13: the examples, in the order of the specification within each kind; negsuc k is -(k + 1)
+-- 1.17, 2.4, 3.13, 3.18: the examples, in the order of the specification within each kind; negsuc k is -(k + 1)
 abbrev pub table : List Example
 table =
     separates (4900 ∷ 4000 ∷ []) (2 ∷ 2 ∷ []) (pos 900 ∷ pos 450 ∷ []) (pos 450 ∷ pos 225 ∷ [])
@@ -41,4 +45,9 @@ table =
     ∷ checks (0xA1 ∷ 0xA1 ∷ 0xA1 ∷ []) 0xCDB4
     ∷ checks (0xA1 ∷ 0xA1 ∷ 0xA1 ∷ 0xFE ∷ []) 0xB230
     ∷ checks (0xA1 ∷ 0xA1 ∷ 0xA1 ∷ 0xFB ∷ []) 0xE295
+    ∷ borders (4901 ∷ []) 0
+    ∷ borders (4902 ∷ []) 1
+    ∷ borders (5098 ∷ []) 1
+    ∷ borders (5099 ∷ []) 0
+    ∷ borders (4902 ∷ 4451 ∷ []) 2
     ∷ []

@@ -14,7 +14,7 @@ use std::os::unix::ffi::OsStrExt;
 use std::process::{Command, Stdio};
 use std::time::Duration;
 use test_inputs::block_inputs::{
-    block_of_parts, block_of_values, bytes_of_values, odd_track_block, random_portions, samplings, standard_track_block,
+    block_of_parts, block_of_values, border_block, bytes_of_values, odd_track_block, random_portions, samplings, standard_track_block,
     track_that_ends_in_a_one, BlockPlan, BETWEEN_SECTORS, GROUPS, IN_A_SECTOR,
 };
 use test_inputs::file_inputs::file_of_cells;
@@ -42,13 +42,25 @@ fn expected(block: &[u8], [revolutions, revolution, track, side]: [u8; 4]) -> St
     text(&printed(block, revolutions, revolution, track, side))
 }
 
-/// What the crate lists of the revolution's cells.
+/// What the crate lists of the revolution's cells, and the line of their border pulses, which a track's listing has not.
 fn listing_by_crate(block: &[u8], numbers: [u8; 4]) -> String {
     let [revolutions, revolution, track, side] = numbers.map(u32::from);
     match TrackBlock::new(block, revolutions).cells(revolution) {
-        Ok(cells) => cells.track(track, side).listing(),
+        Ok(cells) => {
+            let listed = cells.track(track, side).listing();
+            if listed.starts_with("refused ") {
+                listed
+            } else {
+                format!("{listed}FAA {}\n", cells.border_pulses)
+            }
+        }
         Err(refusal) => format!("refused {}\n", refusal.number()),
     }
+}
+
+/// What is listed of flux within demand 3's tolerance: the listing of its cells, and no border pulse.
+fn within_tolerance(track: u8, side: u8, track_cells: &[u8]) -> String {
+    text(&listing(&file_of_cells(track, side, track_cells))) + "FAA 0\n"
 }
 
 /// A block through the program, and by the crate.
@@ -110,7 +122,7 @@ pub fn standard_track(report: &mut Report) {
                 let numbers = [revolutions as u8, revolution, track, side];
                 let given = || format!("the standard track of seed {seed}, {numbers:?}");
                 let ours = text(&through_pipe(program_with(numbers), &block));
-                group.same(&ours, &text(&listing(&file_of_cells(track, side, track_cells))), given);
+                group.same(&ours, &within_tolerance(track, side, track_cells), given);
                 group.same(&ours, &expected(&block, numbers), given);
                 group.same(&listing_by_crate(&block, numbers), &ours, given);
             }
@@ -118,7 +130,8 @@ pub fn standard_track(report: &mut Report) {
     }
     let block = standard_track_block(14, 0, 0, 0xE5, 1).bytes();
     let ours = text(&through_pipe(program_with([1, 0, 0, 0]), &block));
-    group.same(ours, "T00 H0 cells 100000 sectors 9 findings 0\n".to_string(), || "the listing of rule 11.10".to_string());
+    let listed = "T00 H0 cells 100000 sectors 9 findings 0\nFAA 0\n";
+    group.same(ours, listed.to_string(), || "the listing of rule 11.10".to_string());
     group.close(report);
 }
 
@@ -146,9 +159,9 @@ pub fn standard_track_from_index(report: &mut Report) {
                     continue;
                 }
                 let listed = if between && track == own_track {
-                    format!("T{track:02} H{side} cells 100000 sectors 9 findings 0\n")
+                    format!("T{track:02} H{side} cells 100000 sectors 9 findings 0\nFAA 0\n")
                 } else {
-                    text(&listing(&file_of_cells(track, side, &turned)))
+                    within_tolerance(track, side, &turned)
                 };
                 group.same(ours, listed, given);
             }
@@ -339,6 +352,7 @@ pub fn system(report: &mut Report) {
     for (name, block, numbers) in [
         ("the standard track", standard_track_block(15, 0, 0, 0xE5, 2).bytes(), [2, 1, 0, 0]),
         ("an odd track", odd_track_block(7).bytes(), [2, 1, 5, 0]),
+        ("border pulses", border_block(50).bytes(), [3, 1, 5, 0]),
         ("a block of 300,001 bytes", block_of_length(300_001).bytes(), [1, 0, 80, 0]),
     ] {
         let expected = expected(&block, numbers);

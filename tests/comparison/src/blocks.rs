@@ -3,6 +3,7 @@
 use crate::report::{Group, Lent, Report};
 use crate::terms::answer;
 use second_program::refusal::{Refusal, MOST_TIMINGS};
+use second_program::separator::Separation;
 use second_program::track_block::{self, revolution_bytes, BytesSoFar, Carried, PortionAnswer};
 use std::collections::HashSet;
 use test_inputs::block_inputs::{any_carried, any_portion, cases, equal_portions, random_portions, with_empty_portions};
@@ -31,22 +32,23 @@ pub fn timings(report: &mut Report) {
     group.close(report);
 }
 
-/// From a block to cells, on all cases.
+/// From a block to cells, and the number of its border pulses, on all cases.
 pub fn cells(report: &mut Report) {
     let mut group = Group::new("the cells of a revolution");
     for case in cases() {
         let (block, revolutions, revolution) = (&case.block, case.revolutions, case.revolution);
         for room in case.rooms_for_cells() {
-            group.same_written(
+            group.same_separation(
                 block,
                 room,
-                |input, packed| revolution_cells(input, revolutions, revolution, packed),
-                track_block::revolution_cells(block, revolutions, revolution, room),
+                |input, packed, border_pulses| revolution_cells(input, revolutions, revolution, packed, border_pulses),
+                &track_block::revolution_cells(block, revolutions, revolution, room),
                 || format!("{}, room {room}", case.name),
             );
         }
         let second = track_block::revolution_cells(block, revolutions, revolution, MOST_CELL_BYTES);
-        let ours = answer(TrackBlock::new(block, revolutions).cells(revolution)).map(|cells| (cells.count, cells.packed));
+        let ours = answer(TrackBlock::new(block, revolutions).cells(revolution));
+        let ours = ours.map(|cells| Separation { cells: cells.count, border_pulses: cells.border_pulses, bytes: cells.packed });
         group.same(ours, second, || format!("{}, as a vector", case.name));
     }
     group.close(report);

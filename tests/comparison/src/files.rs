@@ -3,7 +3,7 @@
 use crate::report::{Group, Lent, Report};
 use crate::terms::answer;
 use second_program::cells::bytes_needed;
-use second_program::listing::listing;
+use second_program::listing::{listing, listing_of_cells};
 use second_program::refusal::Refusal;
 use second_program::track_file::{read_cells, TrackCells};
 use std::io::{self, Read};
@@ -17,7 +17,8 @@ const ROOM: usize = 16_384;
 /// The bytes that any listing has room in.
 const LISTING: usize = 65_536;
 
-/// What the crate read of a file, as the second program has it.
+/// What the crate read of a file, as the second program has it. The call does not tell the number of border pulses, which the listings
+/// show.
 fn read_cells_of(ours: thikbromu::TrackCells) -> TrackCells {
     let track = ours.track();
     TrackCells {
@@ -25,7 +26,13 @@ fn read_cells_of(ours: thikbromu::TrackCells) -> TrackCells {
         drive_side: track.side(),
         n: track.cells(),
         bytes: track.packed().to_vec(),
+        border_pulses: None,
     }
+}
+
+/// What the second program read of a file, without what the crate's call does not tell.
+fn told_by_crate(second: &Result<TrackCells, Refusal>) -> Result<TrackCells, Refusal> {
+    second.clone().map(|track| TrackCells { border_pulses: None, ..track })
 }
 
 /// What is expected of a file's cells with so much room: the answer, the bytes at the front of the cells, and the place. Too little room is
@@ -104,7 +111,7 @@ pub fn in_memory(report: &mut Report) {
                 cells_case(&mut group, bytes, &second, (room, places.next().expect("lengths without end")), given);
             }
         }
-        group.same(answer(TrackFile::new(bytes).cells()).map(read_cells_of), second.clone(), given);
+        group.same(answer(TrackFile::new(bytes).cells()).map(read_cells_of), told_by_crate(&second), given);
 
         let expected = listing(bytes);
         for room in listing_rooms(expected.len()) {
@@ -112,6 +119,8 @@ pub fn in_memory(report: &mut Report) {
         }
         listings.same(TrackFile::new(bytes).listing().as_bytes(), &expected[..], given);
         if let Ok(track) = &second {
+            // The listing of its cells alone has no line of border pulses.
+            let expected = listing_of_cells(track);
             let mut out = Lent::new(LISTING);
             let (packed, n, drive) = (&track.bytes, track.n, (track.drive_track, track.drive_side));
             let length = boundary::listing(packed, n, drive.0, drive.1, out.part());
@@ -156,7 +165,7 @@ pub fn from_readers(report: &mut Report) {
             let given = || format!("{} in portions of up to {most}", file.name);
             let read = TrackFile::read_from(Portions { rest: bytes, most, random: &mut random, fails: false }).expect("no failure");
             group.same(read.bytes(), &bytes[..bytes.len().min(LONGEST_FILE + 1)], given);
-            group.same(answer(read.cells()).map(read_cells_of), second.clone(), given);
+            group.same(answer(read.cells()).map(read_cells_of), told_by_crate(&second), given);
             group.same(read.listing().as_bytes(), &expected[..], given);
         }
         // The failure is not met behind a file that is longer than any.

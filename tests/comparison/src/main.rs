@@ -28,7 +28,7 @@ use std::thread;
 type Part = fn(&mut Report);
 
 /// The parts, by their modules. The long ones come first, so that no worker is left alone with one at the end.
-const PARTS: [(&str, Part); 42] = [
+const PARTS: [(&str, Part); 43] = [
     ("files", files::in_memory),
     ("findings", findings::any_tracks),
     ("sectors", sectors::standard),
@@ -58,6 +58,7 @@ const PARTS: [(&str, Part); 42] = [
     ("flux", flux::known),
     ("flux", flux::steps),
     ("flux", flux::lists),
+    ("flux", flux::borders),
     ("flux", flux::limits),
     ("flux", flux::histograms),
     ("sectors", sectors::shapes),

@@ -15,7 +15,7 @@ use std::path::Path;
 use std::process::{Child, Command, Output, Stdio};
 use std::time::{Duration, Instant};
 use test_inputs::file_inputs::{self, NamedFile};
-use test_inputs::flux_inputs::timings_of_cells;
+use test_inputs::flux_inputs::{timings_at_the_limits, timings_of_cells};
 use test_inputs::random::Random;
 use test_inputs::track_builder::{odd_track, standard_track};
 
@@ -147,11 +147,13 @@ fn kind_of(line: &str) -> Option<usize> {
     line.split(' ').next()?.parse().ok()
 }
 
-/// The kinds and the refusals that stand in some listing.
+/// The kinds and the refusals that stand in some listing, and the lines of border pulses.
 #[derive(Default)]
 pub struct Seen {
     kinds: [usize; 22],
     refusals: [usize; 18],
+    without_border_pulses: usize,
+    with_border_pulses: usize,
 }
 
 impl Seen {
@@ -160,13 +162,18 @@ impl Seen {
             if let Some(kind) = kind_of(line) {
                 self.kinds[kind] += 1;
             }
+            match line.strip_prefix("FAA ") {
+                None => {}
+                Some("0") => self.without_border_pulses += 1,
+                Some(_) => self.with_border_pulses += 1,
+            }
         }
         if let Some(number) = listing.strip_prefix("refused ") {
             self.refusals[number.trim().parse::<usize>().expect("a number")] += 1;
         }
     }
 
-    /// A case for every kind, and for each of these refusals: that it was reached.
+    /// A case for every kind, for each of these refusals, and for a line with border pulses and one without: that it was reached.
     pub fn reached(&self, group: &mut Group, refusals: &[usize]) {
         for kind in 1..=21 {
             group.same(self.kinds[kind] > 0, true, || format!("kind {kind} was reached"));
@@ -174,6 +181,8 @@ impl Seen {
         for &number in refusals {
             group.same(self.refusals[number] > 0, true, || format!("refusal {number} was reached"));
         }
+        group.same(self.without_border_pulses > 0, true, || "no border pulses were reached".to_string());
+        group.same(self.with_border_pulses > 0, true, || "border pulses were reached".to_string());
     }
 }
 
@@ -201,7 +210,8 @@ fn ten_files() -> Vec<NamedFile> {
     add("standard track", file_inputs::file_of_cells(0, 0, &standard));
     add("standard track as timings", file_inputs::file_of_timings(0, 0, &timings_of_cells(&standard)));
     add("odd track", file_inputs::file_of_cells(33, 1, &odd));
-    add("odd track as timings", file_inputs::file_of_timings(33, 1, &timings_of_cells(&odd)));
+    let at_the_limits = timings_at_the_limits(&mut random, &odd, 2);
+    add("odd track as timings, half of them around the limits of border pulses", file_inputs::file_of_timings(33, 1, &at_the_limits));
     add("131,069 cells", file_inputs::file_of_cells(82, 0, &vec![1; 131_069]));
     add("20,000 cells from four timings", file_inputs::file_of_timings(79, 0, &[10_000_000; 4]));
     add("a timing out of range", file_inputs::file_of_timings(1, 0, &[4_000, 4_000, 10_000_001, 0, 4_000]));

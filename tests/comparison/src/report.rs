@@ -2,6 +2,7 @@
 
 use crate::terms::answer;
 use second_program::refusal::Refusal;
+use second_program::separator::Separation;
 use std::fmt::Debug;
 
 /// What the groups of one part came to: the lines to print, and how many cases agreed and how many did not.
@@ -69,6 +70,30 @@ impl Group {
         self.same((ours, lent.into_all(), &passed[..]), (expected, Lent::expected(room, &written), input), given);
     }
 
+    /// One call that packs cells to the front of a lent buffer and stores the number of border pulses in a lent variable: what it answers,
+    /// all of the buffer and the variable with their margins, and the input afterwards. Beside a refusal the variable is kept.
+    pub fn same_separation<I: Clone + PartialEq + Debug>(
+        &mut self,
+        input: &[I],
+        room: usize,
+        call: impl FnOnce(&[I], &mut [u8], &mut usize) -> Result<usize, thikbromu::Refusal>,
+        second: &Result<Separation, Refusal>,
+        given: impl Fn() -> String,
+    ) {
+        let passed = input.to_vec();
+        let (mut packed, mut number) = (Lent::new(room), Lent::new(1));
+        let ours = answer(call(&passed, packed.part(), &mut number.part()[0]));
+        let (expected, written, stored) = match second {
+            Ok(separation) => (Ok(separation.cells), &separation.bytes[..], &[separation.border_pulses][..]),
+            Err(refusal) => (Err(*refusal), &[][..], &[][..]),
+        };
+        self.same(
+            (ours, packed.into_all(), number.into_all(), &passed[..]),
+            (expected, Lent::expected(room, written), Lent::expected(1, stored), input),
+            given,
+        );
+    }
+
     /// Adds the group's lines and its cases to the report.
     pub fn close(self, report: &mut Report) {
         report.lines.extend(self.differences);
@@ -106,6 +131,12 @@ impl Element for u32 {
 impl Element for i32 {
     fn from_pattern(pattern: u32) -> i32 {
         pattern as i32
+    }
+}
+
+impl Element for usize {
+    fn from_pattern(pattern: u32) -> usize {
+        pattern as usize
     }
 }
 

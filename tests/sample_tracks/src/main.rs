@@ -3,7 +3,7 @@
 use std::path::Path;
 use test_inputs::block_inputs::standard_track_block;
 use test_inputs::file_inputs::{file_of_cells, file_of_timings};
-use test_inputs::flux_inputs::flux_track_of;
+use test_inputs::flux_inputs::{flux_track_of, timings_of_steps};
 use test_inputs::random::Random;
 use test_inputs::track_builder::{nine_sectors, standard_track, turn, SectorPlan, TrackBuilder, STANDARD_TRACK_CELLS};
 
@@ -16,10 +16,10 @@ fn changed(track: u8, change: impl Fn(&mut SectorPlan)) -> Vec<u8> {
     builder.cells().to_vec()
 }
 
-/// The standard track as a drive gives it: a cell takes 1,950 to 2,050 ns, and a pulse comes up to 250 ns early or late.
-fn standard_flux() -> Vec<u8> {
+/// The gaps of the standard track, in cells, from each one to the next.
+fn gaps_of_standard_track(track: u8) -> Vec<usize> {
     // Turned so that it ends in a one, and no cell is lost after the last pulse.
-    let track_cells = turn(&standard_track(0, 0, 0xE5), 99_999);
+    let track_cells = turn(&standard_track(track, 0, 0xE5), 99_999);
     assert_eq!(track_cells.last(), Some(&1));
     let mut gaps = Vec::new();
     let mut cells_since_one = 0;
@@ -30,10 +30,33 @@ fn standard_flux() -> Vec<u8> {
             cells_since_one = 0;
         }
     }
+    gaps
+}
+
+/// The standard track as a drive gives it: a cell takes 1,950 to 2,050 ns, and a pulse comes up to 250 ns early or late.
+fn standard_flux() -> Vec<u8> {
+    let gaps = gaps_of_standard_track(0);
     let mut random = Random::new(1);
     let distances: Vec<i64> = gaps.iter().map(|&g| random.between(1_950 * g as i64, 2_050 * g as i64)).collect();
     let shifts: Vec<i64> = (0..=gaps.len()).map(|_| random.between(-250, 250)).collect();
     file_of_timings(0, 0, &flux_track_of(&gaps, &distances, &shifts).timings)
+}
+
+/// A track whose flux is poor in the data of sector 5: there pulses come up to 950 ns off the centre of their windows, elsewhere up to
+/// 300 ns. All lie in their windows, so no cell is lost this time.
+fn border_pulses() -> Vec<u8> {
+    // A cell earlier than on the standard track, which is turned.
+    let data_of_5 = 1_152 + 4 * 9_824 + 704 + 64 - 1;
+    let poor = data_of_5..data_of_5 + 16 * 512;
+    let mut random = Random::new(2);
+    let mut place = 0;
+    let mut steps = Vec::new();
+    for gap in gaps_of_standard_track(17) {
+        place += gap;
+        let most = if poor.contains(&place) { 950 } else { 300 };
+        steps.push((gap as i64, random.between(-most, most)));
+    }
+    file_of_timings(17, 0, &timings_of_steps(&steps).expect("steps with cells"))
 }
 
 /// A long track: 4E goes on to 104,000 cells.
@@ -126,6 +149,7 @@ fn main() {
     let samples = [
         ("standard", standard_file.clone()),
         ("standard-flux", standard_flux()),
+        ("border-pulses", border_pulses()),
         ("unformatted", file_of_cells(5, 0, &all_aa)),
         ("unformatted-80", file_of_cells(80, 0, &all_aa)),
         ("no-flux-80", file_of_cells(80, 0, &[0; 100_000])),

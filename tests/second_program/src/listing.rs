@@ -1,11 +1,12 @@
-//! The listing of a track file (rules 11.1 to 11.8).
+//! The listings of a track and of a track file (rules 11.1 to 11.8, 11.12 and 11.13).
 
 use crate::findings;
 use crate::refusal::Refusal;
-use crate::track_file::{self, Track};
+use crate::track_file::{self, Track, TrackCells};
 
-/// The listing of a file that is not refused: the header (rules 11.2 and 11.5), and then
-/// a line for each finding (rule 11.3).
+/// The listing of a track that is not refused: the header (rules 11.2 and 11.5), then a
+/// line for each finding (rule 11.3), and, where its cells are from timings, a line with
+/// the number of border pulses, which the header does not count (rules 11.12 and 11.13).
 fn lines_of(track: &Track) -> String {
     let mut lines = format!(
         "T{:02} H{} cells {} sectors {} findings {}\n",
@@ -25,19 +26,36 @@ fn lines_of(track: &Track) -> String {
             finding.detail
         );
     }
+    if let Some(number) = track.cells.border_pulses {
+        lines += &format!("FAA {number}\n");
+    }
     lines
 }
 
-/// All that is printed of a refused file (rule 11.4).
+/// All that is printed where something is refused (rule 11.4).
 fn refused_line(refusal: Refusal) -> String {
     format!("refused {}\n", refusal.number)
 }
 
-/// All that the program prints for a whole file.
-pub fn listing(file: &[u8]) -> Vec<u8> {
-    let text = match track_file::read(file) {
+/// What is printed of a track, or of its refusal.
+fn text_of(track: Result<Track, Refusal>) -> Vec<u8> {
+    let text = match track {
         Ok(track) => lines_of(&track),
         Err(refusal) => refused_line(refusal),
     };
     text.into_bytes()
+}
+
+/// The listing of a track (rule 9.12). It has no line of border pulses: of cells alone
+/// nobody can tell how they were read.
+pub fn listing_of_cells(cells: &TrackCells) -> Vec<u8> {
+    text_of(track_file::analysed(TrackCells {
+        border_pulses: None,
+        ..cells.clone()
+    }))
+}
+
+/// All that the program prints for a whole file.
+pub fn listing(file: &[u8]) -> Vec<u8> {
+    text_of(track_file::read(file))
 }

@@ -1,4 +1,4 @@
-//! The separator (rules 3.1 to 3.14), which turns flux timings into cells; and the
+//! The separator (rules 3.1 to 3.18), which turns flux timings into cells; and the
 //! histogram (rules 5.1 to 5.3).
 
 use crate::cells;
@@ -15,6 +15,9 @@ const HALF_CELL: i64 = 1_000;
 /// The residuals that a step takes as they are (rule 3.6).
 const LEAST_RESIDUAL: i64 = -500;
 const MOST_RESIDUAL: i64 = 499;
+/// How far a border pulse lies at least from the window's centre (rule 3.16). The window
+/// ends 1,000 ns from it.
+const BORDER: i64 = 902;
 
 /// Whether the timing is in range.
 pub fn timing_in_range(timing: u32) -> bool {
@@ -28,13 +31,21 @@ pub struct SeparatorState {
     pub residual: i64,
 }
 
-/// What one timing gives (rules 3.3 to 3.5).
+/// What one timing gives (rules 3.3 to 3.5 and 3.15).
 #[derive(Clone, Copy, Debug, PartialEq, Eq)]
 pub struct Step {
     /// n, the cells of this timing.
     pub cells: i64,
     /// e, by which the pulse lies after the window's centre.
     pub offset: i64,
+}
+
+impl Step {
+    /// Whether the pulse lies so near to the border of its window that another read may
+    /// put it into the next one (rule 3.16).
+    pub fn is_border_pulse(self) -> bool {
+        self.offset <= -BORDER || self.offset >= BORDER
+    }
 }
 
 impl SeparatorState {
@@ -117,16 +128,30 @@ pub fn rows(timings: &[u32]) -> Result<Vec<Row>, Refusal> {
     Ok(rows)
 }
 
-/// The call on a list (rules 3.10 to 3.12 and 9.6): the number of cells and the packed
-/// cells. `room` is the room for the cells in bytes. Refusals in order: 6 to 10. All
-/// timings are judged before cells are counted (rule 9.21).
-pub fn separate(timings: &[u32], room: usize) -> Result<(usize, Vec<u8>), Refusal> {
+/// What a whole list of timings gives.
+#[derive(Clone, Debug, PartialEq, Eq)]
+pub struct Separation {
+    /// The number of cells.
+    pub cells: usize,
+    /// The number of border pulses (rule 3.17).
+    pub border_pulses: usize,
+    /// The packed cells, as many bytes as they need.
+    pub bytes: Vec<u8>,
+}
+
+/// The call on a list (rules 3.10 to 3.12, 3.17 and 9.6). `room` is the room for the cells
+/// in bytes. Refusals in order: 6 to 10. All timings are judged before cells are counted
+/// (rule 9.21).
+pub fn separate(timings: &[u32], room: usize) -> Result<Separation, Refusal> {
     judge_timings(timings)?;
 
     let mut state = SeparatorState::new();
     let mut cells_in_all: i64 = 0;
+    let mut border_pulses = 0;
     for &timing in timings {
-        cells_in_all += state.advance(timing)?.cells;
+        let step = state.advance(timing)?;
+        cells_in_all += step.cells;
+        border_pulses += usize::from(step.is_border_pulse());
     }
     let cells_in_all = cells_in_all as usize;
     if cells_in_all > MOST_CELLS {
@@ -149,7 +174,11 @@ pub fn separate(timings: &[u32], room: usize) -> Result<(usize, Vec<u8>), Refusa
             bytes[place / 8] |= 1 << (7 - place % 8);
         }
     }
-    Ok((cells_in_all, bytes))
+    Ok(Separation {
+        cells: cells_in_all,
+        border_pulses,
+        bytes,
+    })
 }
 
 /// The histogram (rules 5.1, 5.2 and 9.7). Refusals in order: 6 to 8.
@@ -179,6 +208,26 @@ mod tests {
         }
     }
 
+    /// A list that is not refused.
+    fn accepted(cells: usize, border_pulses: usize, bytes: Vec<u8>) -> Result<Separation, Refusal> {
+        Ok(Separation {
+            cells,
+            border_pulses,
+            bytes,
+        })
+    }
+
+    /// The number of border pulses of a list that is not refused.
+    fn border_pulses_of(timings: &[u32]) -> usize {
+        separate(timings, 16_384).unwrap().border_pulses
+    }
+
+    /// The offsets of a list's timings.
+    fn offsets_of(timings: &[u32]) -> Vec<i64> {
+        let rows = rows(timings).unwrap();
+        rows.iter().map(|row| row.offset).collect()
+    }
+
     #[test]
     fn the_six_rows_of_rule_3_13() {
         assert_eq!(
@@ -200,14 +249,128 @@ mod tests {
 
     #[test]
     fn the_cells_of_5000_5000_are_00101() {
-        assert_eq!(separate(&[5_000, 5_000], 1), Ok((5, vec![0b0010_1000])));
+        // The first of the two is a border pulse, its offset being -1,000.
+        assert_eq!(
+            separate(&[5_000, 5_000], 1),
+            accepted(5, 1, vec![0b0010_1000])
+        );
         assert_eq!(cells::unpack(&[0b0010_1000], 5), [0, 0, 1, 0, 1]);
     }
 
     #[test]
     fn timings_without_cells_are_accepted() {
-        assert_eq!(separate(&[500], 0), Ok((0, vec![])));
-        assert_eq!(separate(&[1], 0), Ok((0, vec![])));
+        assert_eq!(separate(&[500], 0), accepted(0, 0, vec![]));
+        assert_eq!(separate(&[1], 0), accepted(0, 0, vec![]));
+    }
+
+    #[test]
+    fn a_step_gives_its_offset() {
+        for (residual, timing, cells, offset, next) in [
+            (0, 4_901, 2, 901, 450),
+            (0, 4_902, 2, 902, 451),
+            (0, 5_098, 3, -902, -451),
+            (0, 5_099, 3, -901, -450),
+            (450, 4_000, 2, 450, 225),
+            (-500, 1, 0, -499, -249),
+            (499, 500, 0, 999, 499),
+            // A residual that counts as 0 (rule 3.6).
+            (500, 4_902, 2, 902, 451),
+        ] {
+            let expected = Ok(Step { cells, offset });
+            let state = SeparatorState { residual };
+            let next = SeparatorState { residual: next };
+            assert_eq!(state.step(timing), (next, expected));
+            let mut lent = state;
+            assert_eq!(lent.advance(timing), expected);
+            assert_eq!(lent, next);
+        }
+    }
+
+    /// Among them those of rule 3.18.
+    #[test]
+    fn border_pulses_begin_902_ns_from_the_centre() {
+        for offset in -1_000..1_000 {
+            let step = Step { cells: 2, offset };
+            assert_eq!(
+                step.is_border_pulse(),
+                (-1_000..=-902).contains(&offset) || (902..=999).contains(&offset)
+            );
+        }
+        // From r = 0, where an offset is the timing less its cells.
+        for (timing, offset, number) in [
+            (901, 901, 0),
+            (902, 902, 1),
+            (999, 999, 1),
+            (1_000, -1_000, 1),
+            (1_098, -902, 1),
+            (1_099, -901, 0),
+            (4_901, 901, 0),
+            (4_902, 902, 1),
+            (4_903, 903, 1),
+            (4_999, 999, 1),
+            (5_000, -1_000, 1),
+            (5_001, -999, 1),
+            (5_097, -903, 1),
+            (5_098, -902, 1),
+            (5_099, -901, 0),
+            (9_999_097, -903, 1),
+            (9_999_098, -902, 1),
+            (9_999_099, -901, 0),
+        ] {
+            assert_eq!(offsets_of(&[timing]), [offset]);
+            assert_eq!(border_pulses_of(&[timing]), number, "{timing}");
+        }
+    }
+
+    #[test]
+    fn border_pulses_are_counted_wherever_they_stand() {
+        // First, in the middle and last.
+        for place in 0..5 {
+            let mut timings = [4_000; 5];
+            for (timing, number) in [(4_901, 0), (4_902, 1), (5_098, 1), (5_099, 0)] {
+                timings[place] = timing;
+                assert_eq!(border_pulses_of(&timings), number, "{timings:?}");
+            }
+        }
+        // After an offset of 902 the residual is 451: 4,451 has the offset 902 again, and
+        // 4,450 has 901, which leaves 450.
+        assert_eq!(
+            offsets_of(&[4_902, 4_451, 4_450, 4_452]),
+            [902, 902, 901, 902]
+        );
+        assert_eq!(border_pulses_of(&[4_902, 4_451, 4_450, 4_452]), 3);
+        // The other way: -902 leaves -451.
+        assert_eq!(offsets_of(&[5_098, 5_549, 5_550]), [-902, -902, -901]);
+        assert_eq!(border_pulses_of(&[5_098, 5_549, 5_550]), 2);
+        // Hundreds in a row; and as many timings as a list may have.
+        for count in [300, 65_536] {
+            let mut timings = vec![3_549; count];
+            timings[0] = 3_098;
+            let separation = separate(&timings, 16_384).unwrap();
+            assert_eq!(
+                (separation.cells, separation.border_pulses),
+                (2 * count, count)
+            );
+        }
+    }
+
+    #[test]
+    fn border_pulses_without_cells() {
+        assert_eq!(separate(&[902], 0), accepted(0, 1, vec![]));
+        assert_eq!(separate(&[902, 451, 450], 0), accepted(0, 2, vec![]));
+        assert_eq!(separate(&[999, 500, 500], 0), accepted(0, 3, vec![]));
+        // A timing without cells among others.
+        assert_eq!(separate(&[902, 3_549], 1), accepted(2, 1, vec![0x40]));
+    }
+
+    #[test]
+    fn refused_lists_are_refused_with_border_pulses_too() {
+        assert_eq!(separate(&[4_902, 0, 4_902], 0), refused(8, 1));
+        assert_eq!(separate(&[4_902], 0), refused(10, 1));
+        let mut most = vec![3_549; 65_536];
+        most[0] = 3_098;
+        most[65_535] = 5_549;
+        assert_eq!(separate(&most, 16_384), refused(9, 131_073));
     }
 
     #[test]
@@ -225,14 +388,17 @@ mod tests {
         // 131,072 cells are accepted, one more is not.
         let mut most = vec![10_000_000; 26];
         most.push(2_000 * 1_072);
-        let (cells_in_all, bytes) = separate(&most, 16_384).unwrap();
-        assert_eq!((cells_in_all, bytes.len()), (131_072, 16_384));
+        let separation = separate(&most, 16_384).unwrap();
+        assert_eq!(
+            (separation.cells, separation.bytes.len()),
+            (131_072, 16_384)
+        );
         assert_eq!(separate(&most, 16_383), refused(10, 16_384));
         most.push(2_000);
         assert_eq!(separate(&most, 0), refused(9, 131_073));
         assert_eq!(separate(&[18_000], 1), refused(10, 2));
         // The residual of 1 ns is half of it rounded towards zero: nothing adds up.
-        assert_eq!(separate(&vec![1; 65_536], 0), Ok((0, vec![])));
+        assert_eq!(separate(&vec![1; 65_536], 0), accepted(0, 0, vec![]));
     }
 
     #[test]

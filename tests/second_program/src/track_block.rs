@@ -13,7 +13,7 @@
 
 use crate::listing::listing;
 use crate::refusal::{Refusal, MOST_TIMINGS};
-use crate::separator::{self, LONGEST_TIMING, SHORTEST_TIMING};
+use crate::separator::{self, Separation, LONGEST_TIMING, SHORTEST_TIMING};
 
 /// What a block begins with (rule 12.1).
 pub const LETTERS: &[u8] = b"TRK";
@@ -280,15 +280,15 @@ impl Carried {
 }
 
 /// From a block to packed cells (rules 9.16 and 12.20): the timings of the chosen
-/// revolution go to the separator's call on a list. Gives the number of cells and the
-/// packed cells; `room` is the room for the cells in bytes. No list of timings is lent,
-/// so 10 is the separator's. Refusals in order: 16, 17, 6, 7, 8, 9, 10.
+/// revolution go to the separator's call on a list. Gives what that call gives; `room` is
+/// the room for the cells in bytes. No list of timings is lent, so 10 is the separator's.
+/// Refusals in order: 16, 17, 6, 7, 8, 9, 10.
 pub fn revolution_cells(
     block: &[u8],
     revolutions: u32,
     revolution: u32,
     room: usize,
-) -> Result<(usize, Vec<u8>), Refusal> {
+) -> Result<Separation, Refusal> {
     let (_, timings) = revolution_timings(block, revolutions, revolution, MOST_TIMINGS)?;
     separator::separate(&timings, room)
 }
@@ -305,7 +305,8 @@ fn file_of_timings(drive_track: u8, drive_side: u8, timings: &[u32]) -> Vec<u8> 
 
 /// All that the program prints that gets the block on its standard input and the four
 /// numbers as arguments (rules 13.8 and 13.13): the listing of the track file with the
-/// revolution's timings at this T and H, or one line where the block is refused.
+/// revolution's timings at this T and H, its line of border pulses among them, or one line
+/// where the block is refused.
 pub fn printed(
     block: &[u8],
     revolutions: u8,

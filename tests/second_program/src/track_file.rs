@@ -1,4 +1,4 @@
-//! Reading a whole track file (rules 10.1 to 10.10).
+//! Reading a whole track file (rules 10.1 to 10.10 and 10.17).
 //!
 //! The whole file lies in memory here, so each part of it is looked up at its place.
 
@@ -98,7 +98,8 @@ fn sections(file: &[u8]) -> Option<Sections<'_>> {
     })
 }
 
-/// The place and the cells that a track file holds, or that its timings give (rule 10.9).
+/// The place and the cells that a track file holds, or that its timings give (rule 10.9),
+/// and the number of border pulses among these timings (rule 10.17).
 #[derive(Clone, Debug, PartialEq, Eq)]
 pub struct TrackCells {
     /// T.
@@ -109,6 +110,8 @@ pub struct TrackCells {
     pub n: usize,
     /// The packed cells, as many bytes as N cells need.
     pub bytes: Vec<u8>,
+    /// The number of border pulses; none of a file without timings.
+    pub border_pulses: Option<usize>,
 }
 
 /// The place and the cells of a whole file. First come the refusals that are given at
@@ -122,20 +125,27 @@ pub fn read_cells(file: &[u8]) -> Result<TrackCells, Refusal> {
     let Some(sections) = sections(file) else {
         return Err(Refusal::not_a_track_file());
     };
-    let (n, bytes) = if sections.cell_count > 0 {
-        (sections.cell_count, sections.packed_cells.to_vec())
+    let (n, bytes, border_pulses) = if sections.cell_count > 0 {
+        (sections.cell_count, sections.packed_cells.to_vec(), None)
     } else {
-        separator::separate(&sections.timings, cells::bytes_needed(MOST_CELLS))?
+        let room = cells::bytes_needed(MOST_CELLS);
+        let separation = separator::separate(&sections.timings, room)?;
+        (
+            separation.cells,
+            separation.bytes,
+            Some(separation.border_pulses),
+        )
     };
     Ok(TrackCells {
         drive_track: u32::from(sections.drive_track),
         drive_side: u32::from(sections.drive_side),
         n,
         bytes,
+        border_pulses,
     })
 }
 
-/// What a track file that is not refused gives.
+/// What a track that is not refused gives.
 #[derive(Clone, Debug, PartialEq, Eq)]
 pub struct Track {
     /// The place and the cells.
@@ -146,11 +156,9 @@ pub struct Track {
     pub findings: Vec<Finding>,
 }
 
-/// A whole file read. After the refusals of `read_cells` come those of the findings, 1 to
-/// 5 (rule 11.8). Of these 3 has given way to 15, since bytes were missing, and 5 cannot
-/// be, as there is room for all findings.
-pub fn read(file: &[u8]) -> Result<Track, Refusal> {
-    let cells = read_cells(file)?;
+/// A track with its sectors and findings. Refusals in order: 1 to 5. Of these 5 cannot be,
+/// as there is room for all findings (rule 11.7).
+pub fn analysed(cells: TrackCells) -> Result<Track, Refusal> {
     let findings = findings::findings(
         cells.drive_track,
         cells.drive_side,
@@ -164,4 +172,10 @@ pub fn read(file: &[u8]) -> Result<Track, Refusal> {
         sectors,
         findings,
     })
+}
+
+/// A whole file read. After the refusals of `read_cells` come those of the track, 1 to 5
+/// (rule 11.8). Of these 3 has given way to 15, since bytes were missing.
+pub fn read(file: &[u8]) -> Result<Track, Refusal> {
+    analysed(read_cells(file)?)
 }

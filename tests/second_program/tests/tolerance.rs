@@ -2,18 +2,22 @@
 
 use second_program::cells;
 use second_program::refusal::Refusal;
-use second_program::separator;
+use second_program::separator::{self, Separation};
 use test_inputs::flux_inputs::{flux_track, flux_track_of, Choice, FluxTrack};
 use test_inputs::random::Random;
 
-/// Rules 4.8 to 4.11 of one list that is not refused. Gives the greatest distance of
-/// a window centre from the true place.
+/// Rules 4.8 to 4.11 and 4.13 of one list that is not refused. Gives the greatest distance
+/// of a window centre from the true place.
 fn assert_within_tolerance(track: &FluxTrack) -> i64 {
     let needed = cells::bytes_needed(track.cells.len());
     let packed = cells::pack(&track.cells);
     assert_eq!(
         separator::separate(&track.timings, needed),
-        Ok((track.cells.len(), packed))
+        Ok(Separation {
+            cells: track.cells.len(),
+            border_pulses: 0,
+            bytes: packed
+        })
     );
     if needed > 0 {
         assert_eq!(
@@ -30,6 +34,7 @@ fn assert_within_tolerance(track: &FluxTrack) -> i64 {
         let window_centre = track.pulses[index + 1] - row.offset;
         let distance = (window_centre - track.true_places[index + 1]).abs();
         assert!(distance <= 651, "distance {distance}");
+        assert!(row.offset.abs() <= 901, "offset {}", row.offset);
         greatest = greatest.max(distance);
     }
     greatest
@@ -73,6 +78,25 @@ fn slow_and_fast_drives_with_shifts_to_and_fro() {
     }
     // The bound of 651 is nearly reached.
     assert!(greatest >= 640, "greatest distance {greatest}");
+}
+
+#[test]
+fn the_limit_of_border_pulses_is_nearly_reached() {
+    // The longest gaps of a fast and of a slow drive, and a last pulse that comes off the
+    // other way.
+    let mut greatest = 0;
+    for (for_a_cell, first) in [(1_950, 250), (2_050, -250)] {
+        let gaps = [4; 60];
+        let distances = [4 * for_a_cell; 60];
+        let mut shifts = [first; 61];
+        shifts[60] = -first;
+        let track = flux_track_of(&gaps, &distances, &shifts);
+        assert_within_tolerance(&track);
+        for row in separator::rows(&track.timings).unwrap() {
+            greatest = greatest.max(row.offset.abs());
+        }
+    }
+    assert!(greatest >= 890, "greatest offset {greatest}");
 }
 
 #[test]

@@ -2,6 +2,7 @@
 //! refusals.
 
 use second_program::refusal::Refusal;
+use second_program::separator::Separation;
 use second_program::track_block::*;
 use test_inputs::block_inputs::{
     any_carried, any_portion, block_of_values, equal_portions, random_portions,
@@ -13,6 +14,15 @@ use test_inputs::track_builder::standard_track;
 
 fn refused<T>(number: u32, value: u64) -> Result<T, Refusal> {
     Err(Refusal { number, value })
+}
+
+/// The cells of a revolution that is not refused.
+fn accepted(cells: usize, border_pulses: usize, bytes: Vec<u8>) -> Result<Separation, Refusal> {
+    Ok(Separation {
+        cells,
+        border_pulses,
+        bytes,
+    })
 }
 
 /// The timings that a call with ample room gives.
@@ -526,7 +536,7 @@ fn portions_give_the_timings_of_the_whole() {
 #[test]
 fn from_a_block_to_cells() {
     // 2, 3 and 4 cells: 01, 001, 0001.
-    let cells = Ok((9, vec![0b0100_1000, 0b1000_0000]));
+    let cells = accepted(9, 0, vec![0b0100_1000, 0b1000_0000]);
     assert_eq!(revolution_cells(TWO, 2, 0, 2), cells);
     assert_eq!(revolution_cells(TWO, 2, 0, 9), cells);
     // 10 is the separator's, with the bytes needed.
@@ -549,7 +559,41 @@ fn from_a_block_to_cells() {
     let many = one(&vec![160; 65_537]);
     assert_eq!(revolution_cells(&many, 1, 0, 0), refused(7, 65_537));
     // 20 units are 500 ns: no cell, and no room needed.
-    assert_eq!(revolution_cells(&one(&[20]), 1, 0, 0), Ok((0, vec![])));
+    assert_eq!(
+        revolution_cells(&one(&[20]), 1, 0, 0),
+        accepted(0, 0, vec![])
+    );
+}
+
+#[test]
+fn border_pulses_of_a_revolution() {
+    // 36 and 37 units are 900 and 925 ns, 43 and 44 are 925 and 900 ns short of a cell.
+    for (values, cells, number, bytes) in [
+        (vec![36], 0, 0, vec![]),
+        (vec![37], 0, 1, vec![]),
+        (vec![43], 1, 1, vec![0x80]),
+        (vec![44], 1, 0, vec![0x80]),
+        (vec![196], 2, 0, vec![0x40]),
+        (vec![197], 2, 1, vec![0x40]),
+        (vec![203], 3, 1, vec![0x20]),
+        (vec![204], 3, 0, vec![0x20]),
+        // 925 leaves 462, so 4,450 ns end 912 ns off. That leaves 456, with which 4,000 ns
+        // end far from the border.
+        (vec![197, 178, 160], 6, 2, vec![0x54]),
+    ] {
+        let block = block_of_values(&[vec![160], values]).bytes();
+        let bytes_needed = bytes.len();
+        assert_eq!(
+            revolution_cells(&block, 2, 1, bytes_needed),
+            accepted(cells, number, bytes)
+        );
+        if bytes_needed > 0 {
+            assert_eq!(
+                revolution_cells(&block, 2, 1, 0),
+                refused(10, bytes_needed as u64)
+            );
+        }
+    }
 }
 
 fn assert_prints(plan: &BlockPlan, numbers: [u8; 4], expected: &str) {
@@ -585,7 +629,8 @@ fn what_the_program_prints() {
          3 NOS level 3 place 0 detail 0\n\
          4 TNF level 2 place 0 detail 0\n\
          20 MTV level 3 place 4999 detail 4\n\
-         21 NFA level 1 place 0 detail 4999\n",
+         21 NFA level 1 place 0 detail 4999\n\
+         FAA 0\n",
     );
     for (revolution, expected) in [
         (1, "refused 9\n"),
@@ -626,6 +671,29 @@ fn the_standard_track_at_even_distances() {
     assert_prints(
         &block_of_values(&[values]),
         [1, 0, 0, 0],
-        "T00 H0 cells 100000 sectors 9 findings 0\n",
+        "T00 H0 cells 100000 sectors 9 findings 0\nFAA 0\n",
     );
+}
+
+#[test]
+fn a_block_with_border_pulses() {
+    // 20,000 cells: six timings of two cells that are 925 ns off, the others even.
+    let mut values = vec![160; 10_000];
+    for index in [0, 30, 4_000, 9_970, 9_999] {
+        values[index] = 197;
+    }
+    values[6_000] = 123;
+    let plan = block_of_values(&[vec![160; 10_000], values]);
+    let header = "T80 H0 cells 20000 sectors 0 findings 2\n\
+                  2 SHT level 1 place 0 detail 20000\n\
+                  3 NOS level 3 place 0 detail 0\n";
+    assert_prints(&plan, [2, 0, 80, 0], &format!("{header}FAA 0\n"));
+    assert_prints(&plan, [2, 1, 80, 0], &format!("{header}FAA 6\n"));
+    assert_prints(&plan, [2, 1, 84, 0], "refused 1\n");
+    // Too few cells, or none.
+    for values in [vec![197], vec![37]] {
+        let plan = block_of_values(&[values]);
+        assert_prints(&plan, [1, 0, 80, 0], "refused 2\n");
+        assert_prints(&plan, [1, 0, 80, 2], "refused 1\n");
+    }
 }

@@ -1,4 +1,4 @@
-//! Rules 10.1 to 10.10: files at and past each limit, and the order of the refusals.
+//! Rules 10.1 to 10.10 and 10.17: files at and past each limit, and the order of the refusals.
 
 use second_program::cells;
 use second_program::refusal::Refusal;
@@ -44,6 +44,7 @@ fn a_file_of_cells() {
         drive_side: 1,
         n: 20_000,
         bytes: vec![0xAA; 2_500],
+        border_pulses: None,
     };
     assert_eq!(read_cells(&file), Ok(expected.clone()));
     let track = read(&file).unwrap();
@@ -67,6 +68,44 @@ fn a_file_of_timings() {
         let one = u8::from(place % 5_000 == 4_999);
         assert_eq!(cells::cell(&track.cells.bytes, 20_000, place), one);
     }
+    assert_eq!(track.cells.border_pulses, Some(0));
+}
+
+#[test]
+fn the_border_pulses_of_all_timings_are_counted() {
+    // Before, between and after timings of 5,000 cells; 4,902 and 5,098 are border pulses.
+    for (timings, number) in [
+        (vec![4_901, 10_000_000, 5_099], 0),
+        (vec![4_902, 10_000_000, 10_000_000], 1),
+        (vec![10_000_000, 10_000_000, 5_098], 1),
+        (vec![10_000_000, 4_902, 4_451, 4_451, 10_000_000], 3),
+        // Without cells of their own.
+        (vec![902, 451, 10_000_000], 2),
+        (
+            [vec![3_098], vec![3_549; 699], vec![10_000_000]].concat(),
+            700,
+        ),
+    ] {
+        let file = file_of_timings(5, 0, &timings);
+        assert_eq!(read_cells(&file).unwrap().border_pulses, Some(number));
+    }
+    // No cells at all: the timings are accepted, the track is not.
+    let file = file_of_timings(5, 0, &[902]);
+    assert_eq!(read_cells(&file).unwrap().border_pulses, Some(1));
+    assert_refused(&file, 2, 0);
+}
+
+#[test]
+fn border_pulses_do_not_change_what_is_refused() {
+    assert_refused(&file_of_timings(5, 0, &[4_902, 0, 4_902]), 8, 1);
+    assert_refused(&file_of_timings(84, 0, &[4_902]), 1, 0);
+    assert_refused(&file_of_timings(5, 0, &[4_902]), 2, 2);
+    let mut many = vec![10_000_000; 27];
+    many[0] = 9_999_098;
+    assert_refused(&file_of_timings(5, 0, &many), 9, 135_000);
+    let file = file_of_timings(5, 0, &[4_902; 3]);
+    assert_refused(&file[..file.len() - 1], 15, 0);
+    assert_refused(&joined(&[&file, &[0]]), 15, 0);
 }
 
 #[test]

@@ -14,6 +14,8 @@ pub const LAWS: &[Law] = &[
     ("1.17", "worked_examples/proofs/Table", &["table-holds"]),
     ("2.4", "worked_examples/proofs/Table", &["table-holds"]),
     ("3.13", "worked_examples/proofs/Table", &["table-holds"]),
+    ("3.16", "separator/proofs/Border", &["limits"]),
+    ("3.18", "worked_examples/proofs/Table", &["table-holds"]),
     ("4.12", "separation/proofs/Witness", &["met"]),
     ("5.3", "histogram/proofs/Counts", &["counts-sum"]),
     (
@@ -94,8 +96,8 @@ pub const EXCEPTIONS: &[(&str, &str)] = &[
         "an example: a theorem of the definitions, for no code",
     ),
     (
-        "11.11",
-        "run on the files without cells of tests/test_inputs, which do not name it",
+        "3.18",
+        "an example: a theorem of the definitions, for no code",
     ),
     (
         "13.3",

@@ -3,6 +3,7 @@
 //! refusals; the flux of the standard track, from a pulse on and as the device samples it,
 //! from the index on; and portions to hand values over in.
 
+mod border_blocks;
 mod broken_blocks;
 mod flux_blocks;
 mod index_blocks;
@@ -14,6 +15,7 @@ use second_program::track_block::{
     revolution_cells, revolution_timings, Carried, Entry, ENTRY_LENGTH, LETTERS, VALUE_LENGTH,
 };
 
+pub use border_blocks::border_block;
 pub use flux_blocks::{
     odd_track_block, reported_revolution, standard_track_block, track_that_ends_in_a_one,
 };
@@ -253,7 +255,7 @@ impl BlockCase {
     /// The rooms to try for the cells, in bytes.
     pub fn rooms_for_cells(&self) -> Vec<usize> {
         match revolution_cells(&self.block, self.revolutions, self.revolution, usize::MAX) {
-            Ok((_, bytes)) => rooms_around(bytes.len()),
+            Ok(separation) => rooms_around(separation.bytes.len()),
             Err(_) => ANY_ROOMS.to_vec(),
         }
     }
@@ -295,7 +297,7 @@ impl Cases {
 pub type BlockGroup = (&'static str, fn() -> Vec<BlockCase>);
 
 /// All groups. The same cases come each time.
-pub const GROUPS: [BlockGroup; 22] = [
+pub const GROUPS: [BlockGroup; 23] = [
     ("sound blocks", sound_blocks::sound_blocks),
     ("overlapping values", sound_blocks::overlapping_blocks),
     ("revolutions without values", sound_blocks::without_values),
@@ -330,6 +332,7 @@ pub const GROUPS: [BlockGroup; 22] = [
         index_blocks::standard_tracks,
     ),
     ("odd tracks from the index on", index_blocks::odd_tracks),
+    ("border pulses", border_blocks::border_blocks),
 ];
 
 /// The cases of all groups, one group after the other; a group is made when its first
@@ -429,6 +432,8 @@ mod tests {
         let mut calls = 0;
         let mut accepted = 0;
         let mut accepted_cells = 0;
+        let mut with_border_pulses = 0;
+        let mut most_border_pulses = 0;
         let mut refusals_seen = [0; 18];
         let mut refusals_of_cells = [0; 18];
         for (group, make) in GROUPS {
@@ -448,9 +453,11 @@ mod tests {
                 }
                 for room in case.rooms_for_cells() {
                     match revolution_cells(&case.block, revolutions, revolution, room) {
-                        Ok((count, bytes)) => {
+                        Ok(separation) => {
                             accepted_cells += 1;
-                            assert_eq!(bytes.len(), count.div_ceil(8));
+                            assert_eq!(separation.bytes.len(), separation.cells.div_ceil(8));
+                            with_border_pulses += usize::from(separation.border_pulses > 0);
+                            most_border_pulses = most_border_pulses.max(separation.border_pulses);
                         }
                         Err(refusal) => refusals_of_cells[refusal.number as usize] += 1,
                     }
@@ -464,6 +471,8 @@ mod tests {
         assert!(accepted > 10_000, "{accepted} accepted");
         assert!(accepted_cells > 10_000, "{accepted_cells} accepted");
         assert!(different.len() > 15_000, "{} cases", different.len());
+        assert!(with_border_pulses > 1_000, "{with_border_pulses} of them");
+        assert!(most_border_pulses > 300, "{most_border_pulses} in one");
         for (number, &seen) in refusals_seen.iter().enumerate() {
             let arises = [6, 7, 8, 10, 16, 17].contains(&number);
             assert_eq!(seen >= 20, arises, "refusal {number}: {seen}");

@@ -2,6 +2,7 @@
 //! and files at and past each limit, cut, too long or changed, that reach every refusal
 //! of the program and try the order of the refusals.
 
+mod border_files;
 mod made_tracks;
 mod random_files;
 mod refused_files;
@@ -125,7 +126,7 @@ impl Files {
 pub type FileGroup = (&'static str, fn() -> Vec<NamedFile>);
 
 /// All groups. The same files come each time.
-pub const GROUPS: [FileGroup; 19] = [
+pub const GROUPS: [FileGroup; 20] = [
     ("the listings of rule 11.10", made_tracks::known_listings),
     ("place counts", refused_files::place_counts),
     ("cell counts at their limit", refused_files::cell_counts),
@@ -154,12 +155,24 @@ pub const GROUPS: [FileGroup; 19] = [
     ("mixed mistakes", random_files::mixed_files),
     ("changed bytes", random_files::changed_files),
     ("any bytes", random_files::files_of_any_bytes),
+    ("border pulses", border_files::border_files),
 ];
 
 /// The files of all groups, one group after the other; a group is made when its first
 /// file is asked for.
 pub fn files() -> impl Iterator<Item = NamedFile> {
     GROUPS.into_iter().flat_map(|(_, make)| make())
+}
+
+/// What a file of timings prints that have no border pulse and give these cells.
+#[cfg(test)]
+pub(crate) fn listing_without_border_pulses(
+    drive_track: u8,
+    drive_side: u8,
+    track_cells: &[u8],
+) -> Vec<u8> {
+    let file = file_of_cells(drive_track, drive_side, track_cells);
+    [&second_program::listing::listing(&file)[..], b"FAA 0\n"].concat()
 }
 
 #[cfg(test)]
@@ -227,6 +240,8 @@ mod tests {
         let mut kinds_seen = [0; KINDS + 1];
         let mut refusals_seen = [0; 16];
         let mut most_findings = 0;
+        let mut without_border_pulses = 0;
+        let mut with_border_pulses = 0;
         for (group, make) in GROUPS {
             let mut names = HashSet::new();
             for file in make() {
@@ -236,6 +251,11 @@ mod tests {
                         most_findings = most_findings.max(track.findings.len());
                         for finding in &track.findings {
                             kinds_seen[finding.kind as usize] += 1;
+                        }
+                        match track.cells.border_pulses {
+                            None => {}
+                            Some(0) => without_border_pulses += 1,
+                            Some(_) => with_border_pulses += 1,
                         }
                     }
                     Err(refusal) => refusals_seen[refusal.number as usize] += 1,
@@ -257,5 +277,9 @@ mod tests {
         }
         assert!(most_findings > 11 * MOST_SECTORS);
         assert!(most_findings <= ROOM_FOR_FINDINGS);
+        assert!(
+            without_border_pulses > 200 && with_border_pulses > 200,
+            "{without_border_pulses} and {with_border_pulses} files"
+        );
     }
 }

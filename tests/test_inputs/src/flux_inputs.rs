@@ -1,5 +1,5 @@
 //! Lists of flux transitions whose cells are known: within the tolerance (rules 4.1 to
-//! 4.6), and without drift or shifts.
+//! 4.6), without drift or shifts, and with chosen offsets.
 
 use crate::random::Random;
 
@@ -125,6 +125,110 @@ pub fn timings_of_cells(track_cells: &[u8]) -> Vec<u32> {
     timings
 }
 
+/// Offsets around the limits of border pulses (rule 3.16): the last that is none, the first
+/// that is one and the next, on either side.
+pub const AROUND_THE_LIMITS: [i64; 6] = [-903, -902, -901, 901, 902, 903];
+
+/// The residual between timings that are made one after the other (rule 3.3), so that the
+/// next one can be made for an offset.
+#[derive(Clone, Copy, Debug, Default, PartialEq, Eq)]
+pub struct Residual(i64);
+
+impl Residual {
+    /// The residual before the first timing.
+    pub fn new() -> Residual {
+        Residual(0)
+    }
+
+    /// The timing, in nanoseconds, that has so many cells and this offset after the timings
+    /// that were passed. It may be out of range.
+    pub fn timing(self, cells: i64, offset: i64) -> i64 {
+        2_000 * cells + offset - self.0
+    }
+
+    /// Passes a timing of so many cells.
+    pub fn pass(&mut self, cells: i64, timing: i64) {
+        self.0 = (timing + self.0 - 2_000 * cells) / 2;
+    }
+}
+
+/// The timings of steps, each given by its cells and its offset; none where one of them would
+/// be out of range, as a step without cells cannot have every offset.
+pub fn timings_of_steps(steps: &[(i64, i64)]) -> Option<Vec<u32>> {
+    let mut residual = Residual::new();
+    let mut timings = Vec::new();
+    for &(cells, offset) in steps {
+        let timing = residual.timing(cells, offset);
+        if !(1..=10_000_000).contains(&timing) {
+            return None;
+        }
+        residual.pass(cells, timing);
+        timings.push(timing as u32);
+    }
+    Some(timings)
+}
+
+/// The timings of a track's cells, as `timings_of_cells`, but with offsets around the limits
+/// of border pulses; once in `times` the offset is 0.
+pub fn timings_at_the_limits(random: &mut Random, track_cells: &[u8], times: u64) -> Vec<u32> {
+    let steps: Vec<(i64, i64)> = timings_of_cells(track_cells)
+        .into_iter()
+        .map(|timing| {
+            let offset = if random.one_in(times) {
+                0
+            } else {
+                AROUND_THE_LIMITS[random.below(6) as usize]
+            };
+            (i64::from(timing / 2_000), offset)
+        })
+        .collect();
+    timings_of_steps(&steps).expect("steps of one to 4,999 cells")
+}
+
+/// A list of timings and what it tries.
+#[derive(Clone, Debug, PartialEq, Eq)]
+pub struct NamedTimings {
+    /// What the list tries, in a few words.
+    pub name: String,
+    /// The timings.
+    pub timings: Vec<u32>,
+}
+
+/// Lists with offsets at the limits of border pulses and at the ends of a window: alone,
+/// first, between even timings and last; several in a row and hundreds; with and without
+/// cells.
+pub fn border_lists() -> Vec<NamedTimings> {
+    let mut lists = Vec::new();
+    let mut add = |name: String, steps: &[(i64, i64)]| {
+        if let Some(timings) = timings_of_steps(steps) {
+            lists.push(NamedTimings { name, timings });
+        }
+    };
+    let even = (2, 0);
+    let offsets = [-1_000, -904, -900, 900, 904, 999];
+    for offset in offsets.into_iter().chain(AROUND_THE_LIMITS) {
+        for cells in [0, 1, 2, 3, 4, 5_000] {
+            let own = (cells, offset);
+            let name = format!("offset {offset} of {cells} cells");
+            add(format!("{name}, alone"), &[own]);
+            if cells > 2 {
+                continue;
+            }
+            add(format!("{name}, first"), &[own, even, even]);
+            add(format!("{name}, in the middle"), &[even, own, even]);
+            add(format!("{name}, last"), &[even, even, own]);
+            add(format!("{name}, three in a row"), &[own; 3]);
+            add(format!("{name}, 500 in a row"), &[own; 500]);
+        }
+        // From one border to the other, and back.
+        let there_and_back = [(2, offset), (2, -offset.max(-999))].repeat(20);
+        add(format!("offset {offset} to and fro"), &there_and_back);
+    }
+    // As many as a list may have, of as many cells as a track may have.
+    add("65,536 border pulses".to_string(), &vec![(2, -902); 65_536]);
+    lists
+}
+
 #[cfg(test)]
 mod tests {
     use super::*;
@@ -156,8 +260,59 @@ mod tests {
         let timings = timings_of_cells(&track_cells);
         assert_eq!(timings, [6_000, 2_000, 12_000, 4_000]);
         let packed = cells::pack(&track_cells);
-        assert_eq!(separator::separate(&timings, 2), Ok((12, packed)));
+        let separation = separator::separate(&timings, 2).unwrap();
+        assert_eq!((separation.cells, separation.bytes), (12, packed));
         assert_eq!(timings_of_cells(&[1, 0, 0]), [2_000]);
         assert!(timings_of_cells(&[0, 0]).is_empty());
+    }
+
+    #[test]
+    fn steps_come_with_their_cells_and_offsets() {
+        let timings = timings_of_steps(&[(2, 902), (2, 902), (3, -902), (0, 0)]);
+        assert_eq!(timings, Some(vec![4_902, 4_451, 4_647, 451]));
+        // Without cells a timing would have to be 0, or less.
+        assert_eq!(timings_of_steps(&[(0, 0)]), None);
+        assert_eq!(timings_of_steps(&[(2, -500), (0, -500)]), None);
+        assert_eq!(timings_of_steps(&[(5_000, 1)]), None);
+        let mut random = Random::new(5);
+        let steps: Vec<(i64, i64)> = (0..1_000)
+            .map(|_| (random.between(1, 6), random.between(-1_000, 999)))
+            .collect();
+        let rows = separator::rows(&timings_of_steps(&steps).unwrap()).unwrap();
+        for (row, step) in rows.iter().zip(steps) {
+            assert_eq!((row.cells, row.offset), step);
+        }
+    }
+
+    #[test]
+    fn a_track_at_the_limits_has_its_cells() {
+        let track_cells = [0, 0, 1, 1, 0, 0, 0, 0, 0, 1, 0, 1].repeat(100);
+        let timings = timings_at_the_limits(&mut Random::new(6), &track_cells, 3);
+        let separation = separator::separate(&timings, 150).unwrap();
+        assert_eq!(separation.bytes, cells::pack(&track_cells));
+        let rows = separator::rows(&timings).unwrap();
+        for offset in AROUND_THE_LIMITS.into_iter().chain([0]) {
+            let seen = rows.iter().filter(|row| row.offset == offset).count();
+            assert!(seen >= 20, "offset {offset}: {seen}");
+        }
+    }
+
+    #[test]
+    fn the_lists_have_the_offsets_at_their_first_and_last_timings() {
+        let lists = border_lists();
+        assert!(lists.len() > 150, "{} lists", lists.len());
+        let (mut first, mut last) = (Vec::new(), Vec::new());
+        let mut most = 0;
+        for list in &lists {
+            let rows = separator::rows(&list.timings).unwrap();
+            first.push(rows[0].offset);
+            last.push(rows[rows.len() - 1].offset);
+            let separation = separator::separate(&list.timings, 16_384).unwrap();
+            most = most.max(separation.border_pulses);
+        }
+        for offset in AROUND_THE_LIMITS {
+            assert!(first.contains(&offset) && last.contains(&offset));
+        }
+        assert_eq!(most, 65_536);
     }
 }

@@ -42,13 +42,13 @@ same-length c = search needs
 returns : tie.Need-returns
 returns c =
     let s = c .before .before .separate .ensures in
-    let r = c .before .before .before .before .before .before .before .before .before .revolution-timings in
-    block-separated _ _ _ (c .before .before .before .before .before .before .before .before .before .before .before .room-for-timings .result) (ap countedAnswer (sym (c .before .before .before .before .before .before .counted .given .1)) ∙ r .ensures .0) (r .ensures .1) _ (s .0) (s .1 .0)
+    let r = c .before .before .before .before .before .before .before .before .before .before .revolution-timings in
+    block-separated _ _ _ (c .before .before .before .before .before .before .before .before .before .before .before .before .room-for-timings .result) (ap countedAnswer (sym (c .before .before .before .before .before .before .before .counted .given .1)) ∙ r .ensures .0) (r .ensures .1) _ _ (s .0) (s .1 .0) (s .1 .1 .0)
 
 returns-2 : tie.Need-returns-2
 returns-2 c =
     let r = c .before .before .before .before .revolution-timings in
-    block-refused _ _ _ _ (omega (arith, c .before .before .before .before .before .before .room-for-timings .ensures)) (ap countedAnswer (sym (c .before .counted2 .given .1)) ∙ r .ensures .0) _
+    block-refused _ _ _ _ (omega (arith, c .before .before .before .before .before .before .room-for-timings .ensures)) (ap countedAnswer (sym (c .before .counted2 .given .1)) ∙ r .ensures .0) _ _
 
 pub separate-revolution-spec : {M : Type 1} → statement M
 separate-revolution-spec =

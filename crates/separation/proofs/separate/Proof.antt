@@ -16,12 +16,12 @@ use Rattle.separation.proofs.separate.Statement.{statement}
 use Rattle.separation.proofs.separate.Tie as tie
 
 returns : tie.Need-returns
-returns c = let a = c .before .before .before .args in promised-refused (a .timings .now) (a .cells .now) (no-timings _ _ (c .if1 .taken))
+returns c = let a = c .before .before .before .args in promised-refused (a .timings .now) (a .cells .now) _ (no-timings _ _ (c .if1 .taken))
 
 returns-2 : tie.Need-returns-2
 returns-2 c =
     let a = c .before .before .before .before .args in
-    promised-refused (a .timings .now) (a .cells .now) (too-many-timings _ _ (c .before .if1 .left) (c .if2 .taken))
+    promised-refused (a .timings .now) (a .cells .now) _ (too-many-timings _ _ (c .before .if1 .left) (c .if2 .taken))
 
 first-out-requires : tie.Need-first-out-requires
 first-out-requires c κs = search needs
@@ -36,7 +36,7 @@ CS f = f .before .before .before .before .before .args .cells .now
 returns-3 : tie.Need-returns-3
 returns-3 c =
     let f = c .before in
-    promised-refused (TS f) (CS f)
+    promised-refused (TS f) (CS f) _
     (timing-out-of-range _ _ (f .before .before .if1 .left) (f .before .if2 .left) (f .first-out .ensures) (c .if3 .taken))
 
 all-in : (c : tie.Else3) → firstOut (TS (c .before)) ≡ length (TS (c .before))
@@ -46,16 +46,16 @@ count-cells-requires : tie.Need-count-cells-requires
 count-cells-requires c κs = (c .before .before .if2 .left, all-in c)
 
 -- what is left to judge once the cells are counted
-judged : (d : tie.After-count-cells) → cellsJudged (d .count-cells .result) (length (CS (d .before .before))) ≡ separation (TS (d .before .before)) (length (CS (d .before .before)))
+judged : (d : tie.After-count-cells) → cellsJudged (d .count-cells .result .cells) (length (CS (d .before .before))) ≡ separation (TS (d .before .before)) (length (CS (d .before .before)))
 judged d =
     let f = d .before .before in
-    ap (λ (n : ℕ). cellsJudged n (length (CS f))) (d .count-cells .ensures)
+    ap (λ (n : ℕ). cellsJudged n (length (CS f))) (d .count-cells .ensures .0)
     ∙ timings-accepted _ _ (f .before .before .if1 .left) (f .before .if2 .left) (all-in (d .before))
 
 returns-4 : tie.Need-returns-4
 returns-4 c =
     let f = c .before .before .before in
-    promised-refused (TS f) (CS f) (too-many-cells _ _ (c .if4 .taken) ∙ judged (c .before))
+    promised-refused (TS f) (CS f) _ (too-many-cells _ _ (c .if4 .taken) ∙ judged (c .before))
 
 add-needed : tie.Need-add-needed
 add-needed c = search needs
@@ -64,12 +64,12 @@ returns-5 : tie.Need-returns-5
 returns-5 c =
     let d = c .before .before in
     let f = d .before .before in
-    promised-refused (TS f) (CS f) (no-room-for-cells _ _ (c .before .if4 .left) (c .if5 .taken) ∙ judged d)
+    promised-refused (TS f) (CS f) _ (no-room-for-cells _ _ (c .before .if4 .left) (c .if5 .taken) ∙ judged d)
 
 write-cells-requires : tie.Need-write-cells-requires
 write-cells-requires c κs =
     let d = c .before .before .before in
-    let e = d .count-cells .ensures in
+    let e = d .count-cells .ensures .0 in
     (all-in (d .before), omega (arith, e, c .before .before .if4 .left), ap bytesFor e, c .before .if5 .left)
 
 same-length : tie.Need-same-length
@@ -80,9 +80,9 @@ returns-6 c =
     let w = c .before .before in
     let d = w .before .before .before .before in
     let f = d .before .before in
-    promised-cells (TS f) (CS f)
+    promised-cells (TS f) (CS f) _
     (cells-accepted _ _ (w .before .before .before .if4 .left) (w .before .before .if5 .left) ∙ judged d)
-    (w .write-cells .ensures)
+    (w .write-cells .ensures) (d .count-cells .ensures .1)
 
 pub separate-spec : {M : Type 1} → statement M
 separate-spec =

@@ -45,15 +45,15 @@ cells-given-requires c κs = search needs
 -- what a turn's step gives
 module _ (c : tie.After-cells-given Inv-loop μ-loop) where
   abbrev L : tie.At-loop Inv-loop μ-loop
-  L = c .before .before .before .before
+  L = c .before .before .before .before .before
 
   abbrev A : tie.Start Inv-loop μ-loop
   A = S (L .before .before .before .before)
 
-  turned : Turn (A .args .timings .now) (L .loop .i) (L .loop .separator .residual) (c .cells-given .result) (c .before .step .result .next .residual)
+  turned : Turn (A .args .timings .now) (L .loop .i) (L .loop .separator .residual) (c .cells-given .result) (c .before .before .step .result .next .residual)
   turned =
-      turn _ _ _ (A .pre .0) (c .before .before .before .loop-test .taken) (L .loop .inv .walked .kept)
-      (c .before .step .ensures .0) (c .before .step .ensures .1) (c .cells-given .ensures)
+      turn _ _ _ (A .pre .0) (c .before .before .before .before .loop-test .taken) (L .loop .inv .walked .kept)
+      (c .before .before .step .ensures .0) (c .before .before .step .ensures .1 .1) (c .cells-given .ensures)
 
   within : L .loop .at + c .cells-given .result ≤ 131072
   within =

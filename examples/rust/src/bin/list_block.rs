@@ -16,7 +16,14 @@ fn main() -> io::Result<()> {
     let mut block = Vec::new();
     io::stdin().read_to_end(&mut block)?;
     let listing = match TrackBlock::new(&block, revolutions.into()).cells(revolution.into()) {
-        Ok(cells) => cells.track(track.into(), side.into()).listing(),
+        Ok(cells) => {
+            let mut listing = cells.track(track.into(), side.into()).listing();
+            // A track that is refused has no line of border pulses.
+            if !listing.starts_with("refused") {
+                listing += &format!("FAA {}\n", cells.border_pulses);
+            }
+            listing
+        }
         Err(refusal) => format!("refused {}\n", refusal.number()),
     };
     io::stdout().write_all(listing.as_bytes())

@@ -151,9 +151,8 @@ pub(super) fn odd_tracks() -> Vec<BlockCase> {
 #[cfg(test)]
 mod tests {
     use super::*;
-    use crate::file_inputs::file_of_cells;
+    use crate::file_inputs::listing_without_border_pulses;
     use second_program::cells;
-    use second_program::listing::listing;
     use second_program::separator::separate;
     use second_program::track_block::{printed, revolution_cells, revolution_timings};
 
@@ -187,7 +186,8 @@ mod tests {
             }
             assert!(flux.timings.iter().all(|timing| timing % 25 == 0));
             let packed = cells::pack(&track_cells);
-            assert_eq!(separate(&flux.timings, 12_500), Ok((100_000, packed)));
+            let separation = separate(&flux.timings, 12_500).unwrap();
+            assert_eq!((separation.cells, separation.bytes), (100_000, packed));
         }
     }
 
@@ -201,16 +201,17 @@ mod tests {
             for revolution in 0..3 {
                 assert_eq!(
                     printed(&block, 3, revolution, track, side),
-                    listing(&file_of_cells(track, side, &standard))
+                    listing_without_border_pulses(track, side, &standard)
                 );
                 // Elsewhere the sectors' places are printed, which lie two cells on.
                 assert_eq!(
                     printed(&block, 3, revolution, 80, 1),
-                    listing(&file_of_cells(80, 1, &turned))
+                    listing_without_border_pulses(80, 1, &turned)
                 );
+                let separation = revolution_cells(&block, 3, revolution.into(), 12_500).unwrap();
                 assert_eq!(
-                    revolution_cells(&block, 3, revolution.into(), 12_500),
-                    Ok((100_000, cells::pack(&turned)))
+                    (separation.cells, separation.bytes),
+                    (100_000, cells::pack(&turned))
                 );
                 timings_seen
                     .push(revolution_timings(&block, 3, revolution.into(), 65_536).unwrap());
@@ -223,7 +224,7 @@ mod tests {
         let block = standard_track_block(6, 0, 0, 0xE5, 1).bytes();
         assert_eq!(
             printed(&block, 1, 0, 0, 0),
-            b"T00 H0 cells 100000 sectors 9 findings 0\n"
+            b"T00 H0 cells 100000 sectors 9 findings 0\nFAA 0\n"
         );
     }
 }

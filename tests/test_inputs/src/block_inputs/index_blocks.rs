@@ -240,9 +240,8 @@ pub(super) fn odd_tracks() -> Vec<BlockCase> {
 #[cfg(test)]
 mod tests {
     use super::*;
-    use crate::file_inputs::file_of_cells;
+    use crate::file_inputs::listing_without_border_pulses;
     use second_program::cells;
-    use second_program::listing::listing;
     use second_program::track_block::{printed, revolution_cells, revolution_timings};
 
     /// The timings of a revolution of a plan.
@@ -329,9 +328,11 @@ mod tests {
             // At the pulse, revolution 0 is as whole as the others.
             let first = u32::from(sampling.place != IndexPlace::AtPulse);
             for revolution in first..plan.revolutions() {
+                let answer = revolution_cells(&block, plan.revolutions(), revolution, 12_500);
+                let separation = answer.unwrap();
                 assert_eq!(
-                    revolution_cells(&block, plan.revolutions(), revolution, 12_500),
-                    Ok((100_000, cells::pack(&whole))),
+                    (separation.cells, separation.bytes),
+                    (100_000, cells::pack(&whole)),
                     "{sampling:?}, revolution {revolution}"
                 );
             }
@@ -343,7 +344,7 @@ mod tests {
     #[test]
     fn between_sectors_the_index_brings_no_finding() {
         let track_cells = standard_track(5, 0, 0xE5);
-        let clean = "T05 H0 cells 100000 sectors 9 findings 0\n";
+        let clean = "T05 H0 cells 100000 sectors 9 findings 0\nFAA 0\n";
         for (index_cells, is_clean) in [(&BETWEEN_SECTORS[..], true), (&IN_A_SECTOR, false)] {
             for &index_cell in index_cells {
                 let sampling = Sampling {
@@ -356,7 +357,7 @@ mod tests {
                 let listed = printed(&block, 2, 1, 5, 0);
                 assert_eq!(listed == clean.as_bytes(), is_clean, "{index_cell}");
                 let whole = sampling.whole_revolution(&track_cells);
-                assert_eq!(listed, listing(&file_of_cells(5, 0, &whole)));
+                assert_eq!(listed, listing_without_border_pulses(5, 0, &whole));
             }
         }
     }

@@ -7,7 +7,7 @@ use borrow.Author.Needs.{needs}
 use borrow.Author.Tests.{not-true, not-false}
 use mir.Facts.{toZ-ofZ}
 use Rattle.flux_timings.specs.Timings.{inRange}
-use Rattle.separator.specs.Rule.{usable, cellsAt, halved, halfWindow}
+use Rattle.separator.specs.Rule.{usable, cellsAt, halfWindow}
 use Rattle.separator.proofs.Lifted.{Kept}
 use Rattle.flux_timings.proofs.Timing.{range-of}
 use Rattle.separator.proofs.Residual.{usable-kept}
@@ -71,7 +71,8 @@ returns-2 c =
     let held = toZ-ofZ (record { sfits = a .before .struct-told .given .0 .1 }) in
     let r = a .usable-residual .ensures ∙ ap usable held in
     let e = c .before .offset-in .ensures _ (part-is (T₀ a) (short a) _ (kept a)) (part-small (T₀ a) (short a) _ (kept a)) ∙ e-is (T₀ a) (short a) _ (kept a) in
-    step-taken _ _ (ranged a) r (n-cells (c .before .before)) (toZ-ofZ (record { sfits = c .half .ok }) ∙ c .half .ensures ∙ ap halved (toZ-ofZ (record { sfits = c .before .offset-in .ok }) ∙ e))
+    let o = toZ-ofZ (record { sfits = c .before .offset-in .ok }) in
+    step-taken _ _ (ranged a) r (n-cells (c .before .before)) (o ∙ e) (toZ-ofZ (record { sfits = c .half .ok }) ∙ c .half .ensures)
 
 pub step-spec : {M : Type 1} → statement M
 step-spec =

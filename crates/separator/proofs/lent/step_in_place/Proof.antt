@@ -1,4 +1,4 @@
--- `separator::lent::step_in_place` meets its contract: a walk of its MIR, by hand. The borrow is opened, the state is copied out whole and passed to `step`; of what `step` returns the next state is stored over the old one and what was taken is the result; the borrow is closed at the new state.
+-- `separator::lent::step_in_place` meets its contract: a walk of its MIR, by hand. The borrow is opened, the state is copied out whole and passed to `step`; of what `step` returns the next state is stored over the old one and what it gives is the result; the borrow is closed at the new state.
 -- All that the proof knows of `step` is that it meets its contract.
 -- Assumes nothing.
 use mathlib.Core.Path.{refl, ap}
@@ -31,7 +31,6 @@ use denote.Signature.{plain}
 use denote.Steps.{only, opens, closes, owned, peeks, heard, nothing}
 use denote.Struct.Steps.{spelt}
 use denote.Struct.Laws as LL
-use denote.Enum.Laws as EL
 use denote.Triple.Entry.{onEntry}
 use denote.Triple.Spec.{Meets, tripleOf}
 use denote.Triple.Statement.{Contract, Triple}
@@ -42,15 +41,14 @@ use denote.Triple.Walked.{Stays, stay-ref, stay-none, walkOf, AllGo, goes-none, 
 use denote.Exit.{yes}
 use Rattle.separator.specs.declared.Separator.{Separator}
 use Rattle.separator.specs.declared.Stepped.{Stepped}
-use Rattle.separator.specs.declared.Taken.{Taken}
+use Rattle.separator.specs.declared.Given.{Given as Gave}
 use Rattle.separator.proofs.Separator as T
 use Rattle.separator.proofs.Separator.Laws as T′
 use Rattle.separator.proofs.Stepped as S
 use Rattle.separator.proofs.Stepped.Laws as S′
-use Rattle.separator.proofs.Taken as N
-use Rattle.separator.proofs.Taken.Laws as N′
-use Rattle.basis.proofs.Walks.{says-both}
-use Rattle.separator.proofs.Lending.{state-vals, taken-vals, Answers, Moves}
+use Rattle.separator.proofs.Given as N
+use Rattle.separator.proofs.Given.Laws as N′
+use Rattle.separator.proofs.Lending.{state-vals, given-vals, Answers, Offsets, Moves, says-three}
 use Rattle.separator.proofs.Separator.step as step
 use Rattle.separator.proofs.Separator.step.Symbol as step-def
 use Rattle.separator.proofs.Separator.step.Symbol.{name as #step}
@@ -71,12 +69,12 @@ module _ {M : Type 1} (𝓤 : URA M) (H : Heap 𝓤) (A : Atoms 𝓤) (mem′ : 
   abbrev Step : Contract 𝓤
   Step = tripleOf 𝓤 H A step.signature (step.spec 𝓤 H A mem′ run)
 
-  abbrev Promised : Separator → ℕ → Taken → Separator → SProp 𝓤
-  Promised h n a z = sep 𝓤 (fact 𝓤 (Answers h n a)) (fact 𝓤 (Moves h n z))
+  abbrev Promised : Separator → ℕ → Gave → Separator → SProp 𝓤
+  Promised h n a z = sep 𝓤 (fact 𝓤 (Answers h n a)) (sep 𝓤 (fact 𝓤 (Offsets h n a)) (fact 𝓤 (Moves h n z)))
 
   -- of what `step` ensures, the clauses alone
-  stepped-of : (h : Separator) (n : ℕ) (r : Stepped) → ent 𝓤 (ensured 𝓤 H A step.ended (step.clauses 𝓤 H A mem′ run) tt (h, (n, tt)) tt r) (Promised h n (r .taken) (r .next))
-  stepped-of h n r = exE 𝓤 _ (λ ws. snd∗ 𝓤 (sem 𝓤 H A (lasts step.ended tt (h, (n, tt)) ws)) (Promised h n (r .taken) (r .next)))
+  stepped-of : (h : Separator) (n : ℕ) (r : Stepped) → ent 𝓤 (ensured 𝓤 H A step.ended (step.clauses 𝓤 H A mem′ run) tt (h, (n, tt)) tt r) (Promised h n (r .given) (r .next))
+  stepped-of h n r = exE 𝓤 _ (λ ws. snd∗ 𝓤 (sem 𝓤 H A (lasts step.ended tt (h, (n, tt)) ws)) (Promised h n (r .given) (r .next)))
 
 module _ {M : Type 1} (𝓤 : URA M) (H : Heap 𝓤) (A : Atoms 𝓤) (W : Given 𝓤 H A) (at-mem : Memory → SProp 𝓤) (run : Routine → Fun 𝓤) (κ : Lft) (q : Share) (b o : ℕ) (γ : GName) (h : Separator) (n : ℕ) (fits : n < 2 ^ 32) where
   abbrev x : Arg
@@ -89,20 +87,20 @@ module _ {M : Type 1} (𝓤 : URA M) (H : Heap 𝓤) (A : Atoms 𝓤) (W : Given
   Post = walkOf 𝓤 H A in-place.ended stayed (in-place.clauses 𝓤 H A at-mem run) .post (((κ, tt), (q, tt), tt, x, at), tt)
 
   -- what is known of the two fields of what `step` returns
-  is-taken : (r : Stepped) (vs : List Val) → Is S.the-row r vs → Is N.the-row (r .taken) (taken-vals (r .taken))
-  is-taken r vs is = LL.owed S.the-type S′.the-laws r vs is .0
+  is-given : (r : Stepped) (vs : List Val) → Is S.the-row r vs → Is N.the-row (r .given) (given-vals (r .given))
+  is-given r vs is = LL.owed S.the-type S′.the-laws r vs is .0
 
   is-next : (r : Stepped) (vs : List Val) → Is S.the-row r vs → Is T.the-row (r .next) (state-vals (r .next))
   is-next r vs is = LL.owed S.the-type S′.the-laws r vs is .1 .0
 
-  exits : (r : Stepped) → Answers h n (r .taken) → Moves h n (r .next) → Is N.the-row (r .taken) (taken-vals (r .taken))
-      → ent 𝓤 (sep 𝓤 (A .obs γ (T.the-row .coded .code (r .next))) (sep 𝓤 (A .bor κ (Body (mem T.the-row) b o γ)) (A .lft κ q))) (Post (EL.val N.the-type N′.the-laws (r .taken)))
-  exits r e m is =
+  exits : (r : Stepped) → Answers h n (r .given) → Offsets h n (r .given) → Moves h n (r .next) → Is N.the-row (r .given) (given-vals (r .given))
+      → ent 𝓤 (sep 𝓤 (A .obs γ (T.the-row .coded .code (r .next))) (sep 𝓤 (A .bor κ (Body (mem T.the-row) b o γ)) (A .lft κ q))) (Post (LL.val N.the-type N′.the-laws (r .given)))
+  exits r e f m is =
       qed W (‵ (fobs γ (T.the-row .coded .code (r .next))) ∷ ‵ (fbor κ (Body (mem T.the-row) b o γ)) ∷ ‵ (flft κ q) ∷ []) ∵
-      suffices ! _ (ends-at 𝓤 H A in-place.ended stayed (in-place.clauses 𝓤 H A at-mem run) W (((κ, tt), (q, tt), tt, x, at), tt) (EL.val N.the-type N′.the-laws (r .taken)) (r .taken) (r .next, (tt, tt)) (tt, (tt, tt))) $
-      says-both ! e m $ nothing ! $ move ! (3 ∷ 0 ∷ []) $ join ! $
+      suffices ! _ (ends-at 𝓤 H A in-place.ended stayed (in-place.clauses 𝓤 H A at-mem run) W (((κ, tt), (q, tt), tt, x, at), tt) (LL.val N.the-type N′.the-laws (r .given)) (r .given) (r .next, (tt, tt)) (tt, (tt, tt))) $
+      says-three ! e f m $ nothing ! $ move ! (3 ∷ 0 ∷ []) $ join ! $
       frame ! $ feqI ! (List Val) (vptr b o ∷ []) (vptr b o ∷ []) refl $ fjoin3 ! $ nothing ! $ owned ! u32 (Is u32) (uint-makes 𝓤 H A W w32) n _ (refl, fits) $ fjoin ! $ move ! (1 ∷ 0 ∷ []) $ fjoin ! $
-      owned ! N.the-row (Is N.the-row) (EL.makes N.the-type N′.the-plain 𝓤 H A) (r .taken) _ is $ move ! (1 ∷ 0 ∷ []) $ done !
+      owned ! N.the-row (Is N.the-row) (LL.makes N.the-type N′.the-plain 𝓤 H A) (r .given) _ is $ move ! (1 ∷ 0 ∷ []) $ done !
 
   abbrev to-step : Step 𝓤 H A at-mem run .Ghost
   to-step = ((tt, tt, tt, (h, (n, tt)), (state-vals h, (vint w32 n ∷ [], tt))), tt)
@@ -128,20 +126,20 @@ module _ {M : Type 1} (𝓤 : URA M) (H : Heap 𝓤) (A : Atoms 𝓤) (W : Given
         nothing ! $ use1 W (raw (Step 𝓤 H A at-mem run .pre to-step)) (goes-step was) $
         calls-at ! fm (Step 𝓤 H A at-mem run) known to-step (and-then ! (load ! (from ! (stop !)) (look ! 5 refl)) (and-then ! (load ! (from ! (stop !)) (look ! 9 refl)) (no-more !))) (λ v.
         use1 W (later (some (λ (r : Stepped). (‵ ftrue ⊛ ‵ (S.the-row .own r (v ∷ []))) ⊛ raw (ensured 𝓤 H A step.ended (step.clauses 𝓤 H A at-mem run) tt (h, (n, tt)) tt r)))) (id⊢ 𝓤 _) $ await ! tt $ pick ! (λ r.
-        split ! $ move ! (1 ∷ []) $ use1 W (raw (fact 𝓤 (Answers h n (r .taken))) ⊛ raw (fact 𝓤 (Moves h n (r .next)))) (stepped-of 𝓤 H A at-mem run h n r) $
-        split ! $ heard ! (Answers h n (r .taken)) (λ e. heard ! (Moves h n (r .next)) (λ m. split ! $ drop ! $
+        split ! $ move ! (1 ∷ []) $ use1 W (raw (fact 𝓤 (Answers h n (r .given))) ⊛ (raw (fact 𝓤 (Offsets h n (r .given))) ⊛ raw (fact 𝓤 (Moves h n (r .next))))) (stepped-of 𝓤 H A at-mem run h n r) $
+        split ! $ heard ! (Answers h n (r .given)) (λ e. split ! $ heard ! (Offsets h n (r .given)) (λ f. heard ! (Moves h n (r .next)) (λ m. split ! $ drop ! $
         -- [what a Stepped owns; the state's cell; …]: the result is stored, and its machine value is spelled
         peeks ! S.the-row (Is S.the-row) (shows 𝓤 H A S.the-row) r (v ∷ []) (λ is. drop ! $
         land ! (from ! (stop !)) (init ! 6 refl (LL.lawful S.the-type S′.the-laws 𝓤 H A W .typed r _ is .0)) $ rewrite ! 6 (λ (u : Val). ‵ (fat fullShare S′.mir l₃ 0 u)) (ap only (LL.tells S.the-type S′.the-laws r _ is)) refl $
         -- [the state's cell; the open borrow; obs; auth; _4; …; _3; …; _2; …; _1; …; room for _0; …; …]
         assigns ! (of-opd ! (load ! (from ! (fld ! refl (stop !))) (look-in ! 6 (sub ! 1 refl (whole !))))) (from ! (hop ! (look ! 10 refl) (stop !))) (store-raw ! 0 refl (LL.lawful T.the-type T′.the-laws 𝓤 H A W .typed (r .next) _ (is-next r _ is) .0)) $
-        assigns ! (of-opd ! (load ! (from ! (fld ! refl (stop !))) (look-in ! 6 (sub ! 0 refl (whole !))))) (from ! (stop !)) (init ! 12 refl (EL.lawful N.the-type N′.the-laws 𝓤 H A W tt .typed (r .taken) _ (is-taken r _ is) .0)) $
+        assigns ! (of-opd ! (load ! (from ! (fld ! refl (stop !))) (look-in ! 6 (sub ! 0 refl (whole !))))) (from ! (stop !)) (init ! 12 refl (LL.lawful N.the-type N′.the-laws 𝓤 H A W .typed (r .given) _ (is-given r _ is) .0)) $
         -- the borrow is closed at the new state
         owned ! T.the-row (Is T.the-row) (LL.makes T.the-type T′.the-plain 𝓤 H A) (r .next) _ (is-next r _ is) $ move ! (1 ∷ 0 ∷ []) $ closes ! tt T.the-row (r .next) (state-vals (r .next)) b o $
         -- [obs; the borrow; the token; _4; …; _3; …; _2; …; _1; …; _0; …; …]
         returns ! (look ! 11 refl) $ forget ! 3 refl $ forget ! 5 refl $ forget ! 7 refl $ forget ! 9 refl $ forget ! 11 refl $
         move ! (11 ∷ 12 ∷ []) $ free1 ! $ move ! (9 ∷ 10 ∷ []) $ free1 ! $ move ! (7 ∷ 8 ∷ []) $ free1 ! $ move ! (5 ∷ 6 ∷ []) $ free1 ! $ move ! (3 ∷ 4 ∷ []) $ free1 ! $ free0 ! $
-        keep ! (0 ∷ 1 ∷ 2 ∷ []) $ by ! (exits r e m (is-taken r _ is))))))))))))))
+        keep ! (0 ∷ 1 ∷ 2 ∷ []) $ by ! (exits r e f m (is-given r _ is)))))))))))))))
 
 module _ {M : Type 1} (𝓤 : URA M) (H : Heap 𝓤) (A : Atoms 𝓤) (W : Given 𝓤 H A) (at-mem : Memory → SProp 𝓤) (run : Routine → Fun 𝓤) where
   in-place-walks : (C : Calls 𝓤 H) (Λ : Loops 𝓤 H) → FmC 𝓤 H (W .laws) C → Triple 𝓤 (C #step) (Step 𝓤 H A at-mem run) → Walks 𝓤 H A in-place.ended stayed (WpFn 𝓤 H C Λ code.function) (in-place.clauses 𝓤 H A at-mem run)

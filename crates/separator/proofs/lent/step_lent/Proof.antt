@@ -35,7 +35,6 @@ use denote.Ref.{RefT, MutRef}
 use denote.Steps.{only, owned, peeks, heard, nothing}
 use denote.Struct.Steps.{spelt}
 use denote.Struct.Laws as LL
-use denote.Enum.Laws as EL
 use denote.Triple.Entry.{onEntry}
 use denote.Triple.Spec.{Meets, tripleOf}
 use denote.Triple.Statement.{Contract, Triple}
@@ -46,15 +45,14 @@ use denote.Triple.Walked.{Stays, stay-none, walkOf, goes-none, Walks, ends-at, w
 use denote.Exit.{yes}
 use Rattle.separator.specs.declared.Separator.{Separator}
 use Rattle.separator.specs.declared.Stepped.{Stepped}
-use Rattle.separator.specs.declared.Taken.{Taken}
+use Rattle.separator.specs.declared.Given.{Given as Gave}
 use Rattle.separator.proofs.Separator as T
 use Rattle.separator.proofs.Separator.Laws as T′
 use Rattle.separator.proofs.Stepped as S
 use Rattle.separator.proofs.Stepped.Laws as S′
-use Rattle.separator.proofs.Taken as N
-use Rattle.separator.proofs.Taken.Laws as N′
-use Rattle.basis.proofs.Walks.{says-both}
-use Rattle.separator.proofs.Lending.{state-val, state-vals, taken-vals, Answers, Moves}
+use Rattle.separator.proofs.Given as N
+use Rattle.separator.proofs.Given.Laws as N′
+use Rattle.separator.proofs.Lending.{state-val, state-vals, given-vals, Answers, Offsets, Moves, says-three}
 use Rattle.separator.proofs.lent.step_in_place as in-place
 use Rattle.separator.proofs.lent.step_in_place.Symbol as in-place-def
 use Rattle.separator.proofs.lent.step_in_place.Symbol.{name as #step-in-place}
@@ -85,16 +83,16 @@ module _ {M : Type 1} (𝓤 : URA M) (H : Heap 𝓤) (A : Atoms 𝓤) (W : Given
   was = LL.owes T.the-type T′.the-laws h ((refl, small), tt)
 
   -- the result
-  abbrev res : Taken → Separator → Stepped
-  res a z = record { taken = a; next = z }
+  abbrev res : Gave → Separator → Stepped
+  res a z = record { given = a; next = z }
 
-  is-res : (a : Taken) (z : Separator) → Is N.the-row a (taken-vals a) → Is T.the-row z (state-vals z) → Is S.the-row (res a z) (LL.vals S.the-type S′.the-laws (res a z))
+  is-res : (a : Gave) (z : Separator) → Is N.the-row a (given-vals a) → Is T.the-row z (state-vals z) → Is S.the-row (res a z) (LL.vals S.the-type S′.the-laws (res a z))
   is-res a z ia iz = LL.owes S.the-type S′.the-laws (res a z) (ia, (iz, tt))
 
-  exits : (a : Taken) (z : Separator) → Answers h n a → Moves h n z → Is N.the-row a (taken-vals a) → Is T.the-row z (state-vals z) → ent 𝓤 (⋆ 𝓤 H A []) (Post (LL.val S.the-type S′.the-laws (res a z)))
-  exits a z e m ia iz =
+  exits : (a : Gave) (z : Separator) → Answers h n a → Offsets h n a → Moves h n z → Is N.the-row a (given-vals a) → Is T.the-row z (state-vals z) → ent 𝓤 (⋆ 𝓤 H A []) (Post (LL.val S.the-type S′.the-laws (res a z)))
+  exits a z e f m ia iz =
       qed W [] ∵ suffices ! _ (ends-at 𝓤 H A lent.ended stayed (lent.clauses 𝓤 H A at-mem run) W ((tt, tt, tt, (r₀, (n, tt)), at), tt) (LL.val S.the-type S′.the-laws (res a z)) (res a z) (tt, (tt, tt)) (tt, (tt, tt))) $
-      says-both ! e m $
+      says-three ! e f m $
       owned ! S.the-row (Is S.the-row) (LL.makes S.the-type S′.the-plain 𝓤 H A) (res a z) _ (is-res a z ia iz) $ nothing ! $ owned ! u32 (Is u32) (uint-makes 𝓤 H A W w32) n _ (refl, fits) $ fjoin ! $
       owned ! i32 (Is i32) (sint-makes 𝓤 H A W w32) r₀ _ (refl, small) $ fjoin ! $ nothing ! $ done !
 
@@ -127,11 +125,11 @@ module _ {M : Type 1} (𝓤 : URA M) (H : Heap 𝓤) (A : Atoms 𝓤) (W : Given
         -- [the reference; the lender's part; the token; _6; …; _5; …; _4; …; that _3 dies; _2; …; _1; …; _0; …]
         move ! (2 ∷ 0 ∷ []) $ use2 W (raw (InPlace 𝓤 H A at-mem run .pre (to l₃ ν γ))) (goes l₃ ν γ) $
         calls-at ! fm (InPlace 𝓤 H A at-mem run) known (to l₃ ν γ) (and-then ! (load ! (from ! (stop !)) (look ! 4 refl)) (and-then ! (load ! (from ! (stop !)) (look ! 9 refl)) (no-more !))) (λ v.
-        use1 W (later (some (λ (a : Taken). ((‵ (flft (ν ∷ []) fullShare) ⊛ ‵ ftrue) ⊛ ‵ (N.the-row .own a (v ∷ []))) ⊛ raw (ensured 𝓤 H A in-place.ended (in-place.clauses 𝓤 H A at-mem run) (ν ∷ [], tt) (x l₃ γ, (n, tt)) tt a)))) (id⊢ 𝓤 _) $ await ! tt $ pick ! (λ a.
-        split ! $ move ! (1 ∷ []) $ use1 W (some (λ (ws : Separator × (Unit {0} × Unit {0})). ‵ (lasts in-place.ended (ν ∷ [], tt) (x l₃ γ, (n, tt)) ws) ⊛ (raw (fact 𝓤 (Answers h n a)) ⊛ raw (fact 𝓤 (Moves h n (ws .0)))))) (id⊢ 𝓤 _) $ pick ! (λ ws.
-        split ! $ move ! (1 ∷ []) $ split ! $ heard ! (Answers h n a) (λ e. heard ! (Moves h n (ws .0)) (λ m. fsplit ! $ move ! (2 ∷ []) $ split ! $ move ! (1 ∷ []) $ peeks ! N.the-row (Is N.the-row) (shows 𝓤 H A N.the-row) a (v ∷ []) (λ is. drop ! $
+        use1 W (later (some (λ (a : Gave). ((‵ (flft (ν ∷ []) fullShare) ⊛ ‵ ftrue) ⊛ ‵ (N.the-row .own a (v ∷ []))) ⊛ raw (ensured 𝓤 H A in-place.ended (in-place.clauses 𝓤 H A at-mem run) (ν ∷ [], tt) (x l₃ γ, (n, tt)) tt a)))) (id⊢ 𝓤 _) $ await ! tt $ pick ! (λ a.
+        split ! $ move ! (1 ∷ []) $ use1 W (some (λ (ws : Separator × (Unit {0} × Unit {0})). ‵ (lasts in-place.ended (ν ∷ [], tt) (x l₃ γ, (n, tt)) ws) ⊛ (raw (fact 𝓤 (Answers h n a)) ⊛ (raw (fact 𝓤 (Offsets h n a)) ⊛ raw (fact 𝓤 (Moves h n (ws .0))))))) (id⊢ 𝓤 _) $ pick ! (λ ws.
+        split ! $ move ! (1 ∷ []) $ split ! $ heard ! (Answers h n a) (λ e. split ! $ heard ! (Offsets h n a) (λ f. heard ! (Moves h n (ws .0)) (λ m. fsplit ! $ move ! (2 ∷ []) $ split ! $ move ! (1 ∷ []) $ peeks ! N.the-row (Is N.the-row) (shows 𝓤 H A N.the-row) a (v ∷ []) (λ is. drop ! $
         -- [the token; the last value; …; the lender's part; _6; …; _5; …; _4; …; that _3 dies; _2; …; _1; …; _0; …]
-        land ! (from ! (stop !)) (init ! 8 refl (EL.lawful N.the-type N′.the-laws 𝓤 H A W tt .typed a _ is .0)) $ rewrite ! 8 (λ (u : Val). ‵ (fat fullShare N′.mir l₄ 0 u)) (ap only (EL.tells N.the-type N′.the-laws a _ is)) refl $
+        land ! (from ! (stop !)) (init ! 8 refl (LL.lawful N.the-type N′.the-laws 𝓤 H A W .typed a _ is .0)) $ rewrite ! 8 (λ (u : Val). ‵ (fat fullShare N′.mir l₄ 0 u)) (ap only (LL.tells N.the-type N′.the-laws a _ is)) refl $
         -- the lifetime is ended, and the local is back
         split ! $ lft-end ! tt $ move ! (0 ∷ 4 ∷ 2 ∷ []) $ use3 W (later (‵ (mem T.the-row .lies (ws .0) l₃ 0))) (ref-back 𝓤 H A W T.the-row (ν ∷ []) γ (ws .0) l₃ 0) $ await ! tt $
         fpick ! (λ vs. fsplit ! $ spelt ! T.the-row (Is T.the-row) (shows 𝓤 H A T.the-row) state-vals (LL.tells T.the-type T′.the-laws) fullShare (ws .0) vs l₃ 0 $ move ! (1 ∷ []) $
@@ -142,10 +140,10 @@ module _ {M : Type 1} (𝓤 : URA M) (H : Heap 𝓤) (A : Atoms 𝓤) (W : Given
         (init ! 14 refl (LL.lawful S.the-type S′.the-laws 𝓤 H A W .typed (res a (ws .0)) _ (is-res a (ws .0) (told a v is) iz) .0)) $
         returns ! (look ! 14 refl) $ forget ! 0 refl $ forget ! 3 refl $ forget ! 5 refl $ forget ! 7 refl $ forget ! 10 refl $ forget ! 12 refl $ forget ! 14 refl $
         move ! (14 ∷ 15 ∷ []) $ free1 ! $ move ! (12 ∷ 13 ∷ []) $ free1 ! $ move ! (10 ∷ 11 ∷ []) $ free1 ! $ move ! (0 ∷ 9 ∷ []) $ free1 ! $ move ! (6 ∷ 7 ∷ []) $ free1 ! $ move ! (4 ∷ 5 ∷ []) $ free1 ! $ move ! (2 ∷ 3 ∷ []) $ free1 ! $ free0 ! $
-        keep ! [] $ by ! (exits a (ws .0) e m (told a v is) iz))))))))))))))))))
+        keep ! [] $ by ! (exits a (ws .0) e f m (told a v is) iz)))))))))))))))))))
       where
-        told : (a : Taken) (v : Val) → Is N.the-row a (v ∷ []) → Is N.the-row a (taken-vals a)
-        told a v is = subst (Is N.the-row a) (EL.tells N.the-type N′.the-laws a _ is) is
+        told : (a : Gave) (v : Val) → Is N.the-row a (v ∷ []) → Is N.the-row a (given-vals a)
+        told a v is = subst (Is N.the-row a) (LL.tells N.the-type N′.the-laws a _ is) is
 
 module _ {M : Type 1} (𝓤 : URA M) (H : Heap 𝓤) (A : Atoms 𝓤) (W : Given 𝓤 H A) (at-mem : Memory → SProp 𝓤) (run : Routine → Fun 𝓤) where
   lent-walks : (C : Calls 𝓤 H) (Λ : Loops 𝓤 H) → FmC 𝓤 H (W .laws) C → Triple 𝓤 (C #step-in-place) (InPlace 𝓤 H A at-mem run) → Walks 𝓤 H A lent.ended stayed (WpFn 𝓤 H C Λ code.function) (lent.clauses 𝓤 H A at-mem run)
