@@ -12,6 +12,7 @@ pub const LAWS: &[Law] = &[
         &["decoded-encoded", "calls-round-trip"],
     ),
     ("1.17", "worked_examples/proofs/Table", &["table-holds"]),
+    ("1.20", "mfm/proofs/ByTable", &["by-table"]),
     ("2.4", "worked_examples/proofs/Table", &["table-holds"]),
     ("3.13", "worked_examples/proofs/Table", &["table-holds"]),
     ("3.16", "separator/proofs/Border", &["limits"]),
