@@ -26,7 +26,13 @@ fn check(good: bool) -> &'static str {
 fn print_sector(sector: &Sector) {
     print!("{:6}  {:6}  {:5}  {:7}  ", sector.number, sector.place, check(sector.id_check_good), sector.density);
     if sector.has_data() {
-        println!("{:7}  {:5}  {:5}  {:6}", sector.data_place, check(sector.data_check_good), sector.data_length, sector.end);
+        println!(
+            "{:7}  {:5}  {:5}  {:6}",
+            sector.data_place,
+            check(sector.data_check_good),
+            sector.data_length,
+            sector.end
+        );
     } else {
         println!("no data mark");
     }
