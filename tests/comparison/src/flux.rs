@@ -455,7 +455,7 @@ fn trades(report: &mut Report) {
     group.close(report);
 }
 
-/// Rule 4.15, beyond the limits: without drift a cell is lost as soon as D and J take 1,000 ns, and a border pulse comes at 902; with drift
+/// Beyond the limits (rule 4.15): without drift a cell is lost as soon as D and J take 1,000 ns, and a border pulse comes at 902; with drift
 /// this is so at 1,002 and 904. So no greater limit would hold.
 fn beyond_the_trades(report: &mut Report) {
     let mut group = Group::new("D and J beyond their limits");

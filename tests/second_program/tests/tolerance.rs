@@ -162,7 +162,7 @@ fn every_trade_up_to_998_recovers_the_cells() {
     }
 }
 
-/// Rule 4.15.
+/// The limits are the greatest that hold (rule 4.15).
 #[test]
 fn no_greater_limit_of_a_trade_holds() {
     // Without drift a pulse can be 500 early and the next one 500 late: the timing between
