@@ -5,4 +5,5 @@ pub mod CellsJudged
 pub mod Tolerance
 pub mod Recovery
 pub mod Promise
+pub mod FirstFigures
 pub mod Witness
