@@ -1,6 +1,7 @@
 // What a track of single density (FM) and one of double density (MFM) differ in, as numbers.
 ghost use mathlib.Core.Path.{_≡_};
 ghost use Rattle.layouts.specs.Layouts.{layoutOf};
+ghost use Rattle.layouts.specs.PrivateContracts.{Sound};
 
 // How a track is coded: FM or MFM.
 pub enum Density {
@@ -35,9 +36,10 @@ pub struct Layout {
     pub farthest: usize,
 }
 
-// The layout of a density.
+// The layout of a density. Its second clause follows from the first, and spares callers a proof that their sums fit.
 pub fn layout_of(density: Density) -> Layout
-    ensures { λ r. ⌜ r ≡ layoutOf density ⌝ }
+    ensures layout { λ r. ⌜ r ≡ layoutOf density ⌝ }
+    ensures sound { λ r. ⌜ Sound r ⌝ }
 {
     match density {
         Density::Single => Layout {

@@ -1,7 +1,6 @@
 -- `sector_records::track_sectors` meets its contract. Assumes nothing.
 use borrow.Author.Tests.{lt-ltb, le-ltb}
 use borrow.Author.Needs.{needs}
-use Rattle.layouts.proofs.Soundness.{sound}
 use Rattle.sector_records.proofs.track_sectors.Statement.{statement}
 use Rattle.sector_records.proofs.track_sectors.Tie as tie
 
@@ -15,11 +14,10 @@ layout-of-requires : tie.Need-layout-of-requires
 layout-of-requires c κs = search needs
 
 list-requires : tie.Need-list-requires
-list-requires c κs =
-    (rw (c .layout-of .ensures) (sound (c .before .before .before .args .density)), c .before .if1 .left)
+list-requires c κs = search needs
 
 returns-2 : tie.Need-returns-2
-returns-2 c = rw (le-ltb _ _ (c .before .before .if1 .left), ← c .before .layout-of .ensures) (c .list .ensures)
+returns-2 c = rw (le-ltb _ _ (c .before .before .if1 .left), ← c .before .layout-of .ensures .0) (c .list .ensures)
 
 pub track-sectors-spec : {M : Type 1} → statement M
 track-sectors-spec = tie.close (tie.spec no-sectors-requires returns layout-of-requires list-requires returns-2)

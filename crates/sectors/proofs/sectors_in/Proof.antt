@@ -1,10 +1,11 @@
--- `sectors::sectors_of` meets its contract. Assumes nothing.
+-- `sectors::sectors_in` meets its contract. Assumes nothing.
 use native.Mathlib.Omega.{arith}
 use mathlib.Core.Path.{_≡_, refl, ap, _∙_}
 use mathlib.Core.Bool.{Bool, cond}
 use mathlib.Core.List.{[]}
 use borrow.Author.Tests.{le-ltb}
 use lib.ListN.{length}
+use Rattle.layouts.specs.Layouts.{layoutOf}
 use Rattle.sector_records.specs.Sectors.{sectorsOf, kept}
 use Rattle.sectors.specs.Calls.{sectorsAnswer}
 use Rattle.refusals.specs.RefusedCalls.Answer.{gives}
@@ -12,14 +13,14 @@ use Rattle.sector_records.specs.declared.Sectors.{Sectors}
 use Rattle.sectors.proofs.Calls.{most-cells, refuses-1, refuses-2, refuses-3, track-accepted, refuses-4, count-accepted, list-refused, list-given}
 use Rattle.sector_records.proofs.Kept.{kept-count}
 use borrow.Author.Needs.{needs}
-use Rattle.sectors.proofs.sectors_of.Statement.{statement}
-use Rattle.sectors.proofs.sectors_of.Tie as tie
+use Rattle.sectors.proofs.sectors_in.Statement.{statement}
+use Rattle.sectors.proofs.sectors_in.Tie as tie
 
 -- a track whose number of cells was accepted is looked at
-listed : (s : tie.After-track-sectors) → let a = s .before .before .before .before .before .args in s .track-sectors .result ≡ kept (sectorsOf (a .bytes .now) (a .n))
+listed : (s : tie.After-track-sectors) → let a = s .before .before .before .before .before .args in s .track-sectors .result ≡ kept (sectorsOf (layoutOf (a .density)) (a .bytes .now) (a .n))
 listed s =
     let a = s .before .before .before .before .before .args in
-    s .track-sectors .ensures ∙ ap (λ (b : Bool). kept (cond b [] (sectorsOf (a .bytes .now) (a .n)))) (le-ltb 131072 (a .n) (most-cells (a .n) (s .before .before .if2 .left)))
+    s .track-sectors .ensures ∙ ap (λ (b : Bool). kept (cond b [] (sectorsOf (layoutOf (a .density)) (a .bytes .now) (a .n)))) (le-ltb 131072 (a .n) (most-cells (a .n) (s .before .before .if2 .left)))
 
 no-list-requires : tie.Need-no-list-requires
 no-list-requires c κs = search needs
@@ -56,9 +57,9 @@ unfolding sectorsAnswer
 returns-4 c =
     let s = c .before .before in
     let a = s .before .before .before .before .before .args in
-    let e : s .track-sectors .result .count ≡ length (sectorsOf (a .bytes .now) (a .n)) = ap (λ (x : Sectors). x .count) (listed s) ∙ kept-count (sectorsOf (a .bytes .now) (a .n)) in
+    let e : s .track-sectors .result .count ≡ length (sectorsOf (layoutOf (a .density)) (a .bytes .now) (a .n)) = ap (λ (x : Sectors). x .count) (listed s) ∙ kept-count (sectorsOf (layoutOf (a .density)) (a .bytes .now) (a .n)) in
     list-refused _ _ 4 (s .track-sectors .result .count) (c .no-list4 .ensures .0)
-    (rw e (refuses-4 (length (sectorsOf (a .bytes .now) (a .n))) (gives (length (sectorsOf (a .bytes .now) (a .n)))) (omega (arith, e, c .before .if4 .taken)))
+    (rw e (refuses-4 (length (sectorsOf (layoutOf (a .density)) (a .bytes .now) (a .n))) (gives (length (sectorsOf (layoutOf (a .density)) (a .bytes .now) (a .n)))) (omega (arith, e, c .before .if4 .taken)))
     ∙ track-accepted _ _ _ _ _ (s .before .before .before .if1 .left) (s .before .before .if2 .left) (s .before .if3 .left))
     _ _ (c .no-list4 .ensures .1)
 
@@ -67,14 +68,14 @@ unfolding sectorsAnswer
 returns-5 c =
     let s = c .before in
     let a = s .before .before .before .before .before .args in
-    let e : s .track-sectors .result .count ≡ length (sectorsOf (a .bytes .now) (a .n)) = ap (λ (x : Sectors). x .count) (listed s) ∙ kept-count (sectorsOf (a .bytes .now) (a .n)) in
+    let e : s .track-sectors .result .count ≡ length (sectorsOf (layoutOf (a .density)) (a .bytes .now) (a .n)) = ap (λ (x : Sectors). x .count) (listed s) ∙ kept-count (sectorsOf (layoutOf (a .density)) (a .bytes .now) (a .n)) in
     list-given _ _ (s .track-sectors .result .count) refl
-    (rw e (count-accepted (length (sectorsOf (a .bytes .now) (a .n))) (gives (length (sectorsOf (a .bytes .now) (a .n)))) (omega (arith, e, c .if4 .left)))
+    (rw e (count-accepted (length (sectorsOf (layoutOf (a .density)) (a .bytes .now) (a .n))) (gives (length (sectorsOf (layoutOf (a .density)) (a .bytes .now) (a .n)))) (omega (arith, e, c .if4 .left)))
     ∙ track-accepted _ _ _ _ _ (s .before .before .before .if1 .left) (s .before .before .if2 .left) (s .before .if3 .left))
     _ _ (listed s)
 
-pub sectors-of-spec : {M : Type 1} → statement M
-sectors-of-spec =
+pub sectors-in-spec : {M : Type 1} → statement M
+sectors-in-spec =
     tie.close
     (tie.spec
     no-list-requires

@@ -1,15 +1,16 @@
--- `sectors::read_out` meets its contract. Assumes nothing.
+-- `sectors::read_out_in` meets its contract. Assumes nothing.
 use mathlib.Core.Path.{refl, sym, ap, _∙_}
 use lib.ListN.{length}
 use Rattle.refusals.specs.RefusedCalls.{bufferAfter, countedAnswer}
 use Rattle.mfm.proofs.Calls.{answer-and-buffer}
+use Rattle.layouts.specs.Layouts.{layoutOf}
 use Rattle.sectors.proofs.Calls.{read-follows, read-given}
 use borrow.Author.Needs.{needs}
-use Rattle.sectors.proofs.read_out.Statement.{statement}
-use Rattle.sectors.proofs.read_out.Tie as tie
+use Rattle.sectors.proofs.read_out_in.Statement.{statement}
+use Rattle.sectors.proofs.read_out_in.Tie as tie
 
-sector-by-index-requires : tie.Need-sector-by-index-requires
-sector-by-index-requires c κs = search needs
+sector-in-requires : tie.Need-sector-in-requires
+sector-in-requires c κs = search needs
 
 enum-known-answer : tie.Need-enum-known-answer
 enum-known-answer c = search needs
@@ -26,8 +27,8 @@ returns c =
     let l = c .before .before .before .before in
     let a = l .before .before .before .args in
     let v = c .before .answer .given in
-    let g = sym (ap countedAnswer (v .1)) ∙ l .sector-by-index .ensures .0 in
-    answer-and-buffer _ _ (sym (read-follows (a .bytes .now) (a .n) (a .track) (a .side) (a .index) (length (a .buffer .now)) .refusals _ _ (sym g))) refl
+    let g = sym (ap countedAnswer (v .1)) ∙ l .sector-in .ensures .0 in
+    answer-and-buffer _ _ (sym (read-follows (layoutOf (a .density)) (a .bytes .now) (a .n) (a .track) (a .side) (a .index) (length (a .buffer .now)) .refusals _ _ (sym g))) refl
 
 same-length : tie.Need-same-length
 same-length c = search needs
@@ -37,14 +38,14 @@ returns-2 c =
     let t = c .before .before .before .before in
     let l = t .before .before .before in
     let a = l .before .before .before .args in
-    let g = sym (ap countedAnswer (t .enum-told .given .1)) ∙ l .sector-by-index .ensures .0 in
-    read-given (a .bytes .now) (a .n) (a .track) (a .side) (a .index) _ (a .buffer .now) _ _ _ g (l .sector-by-index .ensures .1) (c .before .before .read-sector .ensures .0) (c .before .before .read-sector .ensures .1)
+    let g = sym (ap countedAnswer (t .enum-told .given .1)) ∙ l .sector-in .ensures .0 in
+    read-given (layoutOf (a .density)) (a .bytes .now) (a .n) (a .track) (a .side) (a .index) _ (a .buffer .now) _ _ _ g (l .sector-in .ensures .1) (c .before .before .read-sector .ensures .0) (c .before .before .read-sector .ensures .1)
 
-pub read-out-spec : {M : Type 1} → statement M
-read-out-spec =
+pub read-out-in-spec : {M : Type 1} → statement M
+read-out-in-spec =
     tie.close
     (tie.spec
-    sector-by-index-requires
+    sector-in-requires
     enum-known-answer
     enum-told
     read-sector-requires
