@@ -10,6 +10,7 @@ use Rattle.findings.specs.Calls.{findingsAnswer}
 use Rattle.finding_list.specs.declared.Finding.{Finding}
 use Rattle.finding_list.proofs.Finding as T
 use Rattle.finding_list.proofs.Finding.Laws as T′
+use Rattle.layouts.specs.declared.Layout.{Layout}
 use Rattle.refusals.specs.RefusedCalls.{countedAnswer}
 use Rattle.refusals.specs.declared.Counted.{Counted}
 use Rattle.refusals.proofs.Counted as N
@@ -26,5 +27,5 @@ abbrev pub counted-vals : Counted → List Val
 counted-vals = EL.vals N.the-type N′.the-laws
 
 -- the promise on the answer of the call, for a list with room for `room` findings
-abbrev pub Answers : List ℕ → (cells track side room : ℕ) → Counted → Type 0
-Answers bytes cells track side room r = countedAnswer r ≡ findingsAnswer bytes cells track side room
+abbrev pub Answers : Layout → List ℕ → (cells track side room : ℕ) → Counted → Type 0
+Answers layout bytes cells track side room r = countedAnswer r ≡ findingsAnswer layout bytes cells track side room
