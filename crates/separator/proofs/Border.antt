@@ -6,7 +6,7 @@ use native.Mathlib.Omega.{arith}
 use lib.Dec.{T}
 use lib.IntN.{ℤ, pos, negsuc}
 use lib.Signed.{leZ}
-use Rattle.separator.specs.Rule.{borderLimit, isBorderBy, borderPulsesBy, doubleHalfWindow, singleHalfWindow}
+use Rattle.separator.specs.Rule.{borderLimit, isBorderBy, borderPulsesAtBy, doubleHalfWindow, singleHalfWindow}
 use Rattle.separator.proofs.Differences.{up, down}
 use Rattle.separator.proofs.Orders.{le-of}
 
@@ -22,8 +22,8 @@ module _ (x y : Bool) where
   border-none l h = rw (l, h)
 
 module _ (half : ℕ) (e : ℤ) where
-  pub border-few : borderPulsesBy half e ≤ 1
-  unfolding borderPulsesBy
+  pub border-few : borderPulsesAtBy half e ≤ 1
+  unfolding borderPulsesAtBy
   border-few = go (isBorderBy half e)
     where
       go : (x : Bool) → cond x 1 0 ≤ 1
@@ -31,8 +31,8 @@ module _ (half : ℕ) (e : ℤ) where
       go false = omega arith
 
 -- for double density an offset from -901 to 901 is that of none
-pub border-near : (e : ℤ) → up e ≤ down e + 901 → down e ≤ up e + 901 → borderPulsesBy doubleHalfWindow e ≡ 0
-unfolding borderPulsesBy isBorderBy
+pub border-near : (e : ℤ) → up e ≤ down e + 901 → down e ≤ up e + 901 → borderPulsesAtBy doubleHalfWindow e ≡ 0
+unfolding borderPulsesAtBy isBorderBy
 border-near e a b = go (leZ e (negsuc 901)) (leZ (pos 902) e) (λ t. omega (arith, le-of e (negsuc 901) t)) (λ t. omega (arith, le-of (pos 902) e t))
   where
     go : (x y : Bool) → (T x → ⊥) → (T y → ⊥) → _≡_ {A = ℕ} (cond (x || y) 1 0) 0
@@ -41,12 +41,12 @@ border-near e a b = go (leZ e (negsuc 901)) (leZ (pos 902) e) (λ t. omega (arit
     go false false f g = refl
 
 -- the limits: -902 and 902 are offsets of a border pulse for double density, -901 and 901 are not; for single density they are twice that
-pub limits : (borderPulsesBy doubleHalfWindow (negsuc 901) ≡ 1) × (borderPulsesBy doubleHalfWindow (negsuc 900) ≡ 0)
-    × (borderPulsesBy doubleHalfWindow (pos 901) ≡ 0) × (borderPulsesBy doubleHalfWindow (pos 902) ≡ 1)
-unfolding borderPulsesBy isBorderBy
+pub limits : (borderPulsesAtBy doubleHalfWindow (negsuc 901) ≡ 1) × (borderPulsesAtBy doubleHalfWindow (negsuc 900) ≡ 0)
+    × (borderPulsesAtBy doubleHalfWindow (pos 901) ≡ 0) × (borderPulsesAtBy doubleHalfWindow (pos 902) ≡ 1)
+unfolding borderPulsesAtBy isBorderBy
 limits = (refl, refl, refl, refl)
 
-pub limits-single : (borderPulsesBy singleHalfWindow (negsuc 1803) ≡ 1) × (borderPulsesBy singleHalfWindow (negsuc 1802) ≡ 0)
-    × (borderPulsesBy singleHalfWindow (pos 1803) ≡ 0) × (borderPulsesBy singleHalfWindow (pos 1804) ≡ 1)
-unfolding borderPulsesBy isBorderBy
+pub limits-single : (borderPulsesAtBy singleHalfWindow (negsuc 1803) ≡ 1) × (borderPulsesAtBy singleHalfWindow (negsuc 1802) ≡ 0)
+    × (borderPulsesAtBy singleHalfWindow (pos 1803) ≡ 0) × (borderPulsesAtBy singleHalfWindow (pos 1804) ≡ 1)
+unfolding borderPulsesAtBy isBorderBy
 limits-single = (refl, refl, refl, refl)

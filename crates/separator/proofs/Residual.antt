@@ -4,11 +4,11 @@ use mathlib.Core.Path.{_≡_, refl, sym, _∙_, ap, subst}
 use mathlib.Core.Bool.{Bool, true, false, cond, _&&_}
 use native.Mathlib.Omega.{arith}
 use lib.Dec.{T}
-use lib.IntN.{ℤ, pos, negℤ, subℕ, _-ℤ_}
+use lib.IntN.{ℤ, pos, negsuc, negℤ, subℕ, _-ℤ_}
 use lib.Signed.{leZ, ltZ}
 use mir.Syntax.{w32}
 use mir.Val.{SFits, toZ}
-use Rattle.separator.specs.Rule.{leastResidual, mostResidual, usable}
+use Rattle.separator.specs.Rule.{doubleHalfWindow, singleHalfWindow, leastResidual, mostResidual, usable}
 use Rattle.separator.proofs.Differences.{up, down, as-sub, pos-sub, neg-sub, minus-sub, sub-parts, sub-same}
 use Rattle.separator.proofs.Orders.{le-of, sub-le, lt-not-le, not-lt-le, mag-sub}
 use Rattle.separator.proofs.MachineStep.{small-is}
@@ -17,6 +17,11 @@ use Rattle.separator.proofs.Lifted.{Kept, kept-none}
 sure : (x : Bool) → T x → x ≡ true
 sure true t = refl
 sure false t = absurd t
+
+-- the residuals that a step can leave: -500 to 499 for double density, and -1000 to 999 for single density
+pub ranges : (leastResidual doubleHalfWindow ≡ negsuc 499) × (mostResidual doubleHalfWindow ≡ pos 499)
+    × (leastResidual singleHalfWindow ≡ negsuc 999) × (mostResidual singleHalfWindow ≡ pos 999)
+ranges = (refl, refl, refl, refl)
 
 module _ (half : ℕ) where
   abbrev least : ℤ
@@ -44,13 +49,14 @@ module _ (half : ℕ) where
   least-fits h = rw least-sub (record { sfits = mag-sub 0 (half / 2) 2147483648 (omega arith) (omega arith) })
 
   module _ (r : ℤ) where
-    pub below-range : ltZ r least ≡ true → pos 0 ≡ usable half r
+    -- by the tests of the code, with l and m for the least and the most
+    pub below-range : {l : ℤ} → l ≡ least → ltZ r l ≡ true → pos 0 ≡ usable half r
     unfolding usable
-    below-range e = rw (lt-not-le r least e)
+    below-range p e = rw (lt-not-le r least (rw p at e))
 
-    pub above-range : ltZ most r ≡ true → pos 0 ≡ usable half r
+    pub above-range : {m : ℤ} → m ≡ most → ltZ m r ≡ true → pos 0 ≡ usable half r
     unfolding usable
-    above-range e = rw (lt-not-le most r e) (go (leZ least r))
+    above-range q e = rw (lt-not-le most r (rw q at e)) (go (leZ least r))
       where
         go : (x : Bool) → pos 0 ≡ cond (x && false) r (pos 0)
         go true = refl
@@ -60,8 +66,8 @@ module _ (half : ℕ) where
     unfolding usable
     within-range e f = rw (e, f)
 
-    pub neither : ltZ r least ≡ false → ltZ most r ≡ false → r ≡ usable half r
-    neither e f = within-range (not-lt-le r least e) (not-lt-le most r f)
+    pub neither : {l m : ℤ} → l ≡ least → m ≡ most → ltZ r l ≡ false → ltZ m r ≡ false → r ≡ usable half r
+    neither p q e f = within-range (not-lt-le r least (rw p at e)) (not-lt-le most r (rw q at f))
 
     -- one that a step leaves is used as it is
     pub kept-usable : Kept half r → usable half r ≡ r

@@ -82,8 +82,8 @@ unfoldable pub isBorderBy : ℕ → ℤ → Bool
 isBorderBy half e = leZ e (negℤ (pos (borderLimit half))) || leZ (pos (borderLimit half)) e
 
 -- 3.16, 3.21: how many border pulses such a pulse is: 1 or 0
-unfoldable pub borderPulsesBy : ℕ → ℤ → ℕ
-borderPulsesBy half e = cond (isBorderBy half e) 1 0
+unfoldable pub borderPulsesAtBy : ℕ → ℤ → ℕ
+borderPulsesAtBy half e = cond (isBorderBy half e) 1 0
 
 -- 3.3, 3.7, 3.8, 3.15: the step of double density: what it answers, leaves and gives beside n
 abbrev pub stepAnswer : ℤ → ℕ → Answer ℕ
@@ -97,4 +97,4 @@ stepOffset r t = stepOffsetBy doubleHalfWindow r t
 
 -- 3.16: the border pulses of double density
 abbrev pub borderPulsesAt : ℤ → ℕ
-borderPulsesAt e = borderPulsesBy doubleHalfWindow e
+borderPulsesAt e = borderPulsesAtBy doubleHalfWindow e

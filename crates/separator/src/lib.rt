@@ -12,7 +12,7 @@ ghost use mathlib.Core.Bool.{cond, _||_};
 ghost use Prim.Native.Nat.{ℕ, _*_, _/_, _%_, _≤_, _<_};
 ghost use lib.IntN.{pos, subℕ};
 ghost use lib.Signed.{leZ};
-ghost use Rattle.separator.specs.Rule.{halved, usable, takenAnswer, stepAnswer, stepOffset, stepResidual, borderPulsesAt, singleHalfWindow, stepAnswerBy, stepOffsetBy, stepResidualBy, borderPulsesBy};
+ghost use Rattle.separator.specs.Rule.{halved, usable, takenAnswer, stepAnswer, stepOffset, stepResidual, borderPulsesAt, singleHalfWindow, stepAnswerBy, stepOffsetBy, stepResidualBy, borderPulsesAtBy};
 
 // The separator's state: the residual, in nanoseconds.
 pub struct Separator {
@@ -101,9 +101,9 @@ impl Separator {
 }
 
 // Half of the window, in nanoseconds, of each density.
-const DOUBLE_HALF_WINDOW: u32 = 1000;
+pub const DOUBLE_HALF_WINDOW: u32 = 1000;
 
-const SINGLE_HALF_WINDOW: u32 = 2000;
+pub const SINGLE_HALF_WINDOW: u32 = 2000;
 
 // The offsets from which on, at either side, a pulse is a border pulse, of each density.
 const DOUBLE_LEAST_BORDER: i32 = -902;
@@ -123,7 +123,7 @@ pub fn border_pulses_at(offset: i32) -> u32
 
 // The same of a track of single density.
 pub fn border_pulses_at_single(offset: i32) -> u32
-    ensures { λ r. ⌜ r ≡ borderPulsesBy singleHalfWindow offset ⌝ }
+    ensures { λ r. ⌜ r ≡ borderPulsesAtBy singleHalfWindow offset ⌝ }
 {
     border_pulses_by(SINGLE_LEAST_BORDER, SINGLE_MOST_BORDER, offset)
 }

@@ -33,7 +33,7 @@ sub-least : tie.Need-sub-least
 sub-least c = fits c
 
 returns : tie.Need-returns
-returns c = below-range _ _ (rw (same (c .before), low (c .before)) at (c .if1 .taken))
+returns c = below-range _ _ (low (c .before)) (rw (same (c .before)) at (c .if1 .taken))
 
 sub-most : tie.Need-sub-most
 sub-most c = search needs
@@ -42,12 +42,12 @@ cast-most : tie.Need-cast-most
 cast-most c = search needs
 
 returns-2 : tie.Need-returns-2
-returns-2 c = above-range _ _ (rw (same (c .before .before), high (c .before .before)) at (c .if2 .taken))
+returns-2 c = above-range _ _ (high (c .before .before)) (rw (same (c .before .before)) at (c .if2 .taken))
 
 returns-3 : tie.Need-returns-3
 returns-3 c =
-    let s = same (c .before .before) in
-    s ∙ neither _ _ (rw (s, low (c .before .before)) at (c .before .if1 .left)) (rw (s, high (c .before .before)) at (c .if2 .left))
+    let s = c .before .before in
+    same s ∙ neither _ _ (low s) (high s) (rw (same s) at (c .before .if1 .left)) (rw (same s) at (c .if2 .left))
 
 pub usable-residual-spec : {M : Type 1} → statement M
 usable-residual-spec = tie.close (tie.spec cast-least sub-least returns sub-most cast-most returns-2 returns-3)
