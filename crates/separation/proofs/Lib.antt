@@ -6,4 +6,5 @@ pub mod Answered
 pub mod Tolerance
 pub mod Recovery
 pub mod Promise
+pub mod FirstFigures
 pub mod Witness

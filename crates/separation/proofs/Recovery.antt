@@ -11,7 +11,7 @@ use Rattle.flux_timings.specs.Timings.{inRange}
 use Rattle.separator.specs.Rule.{cellsAt, offsetAt, residualAfter, doubleHalfWindow, borderPulsesAt}
 use Rattle.separation.specs.Separation.{Window, windowsFrom, cellsIn, borderPulsesIn}
 use Rattle.flux_timings.specs.Timings.{firstOut}
-use Rattle.separation.specs.Demand3.{Reversal, Within, Fair, Track, last, more, Centred, none, also, cellsWritten}
+use Rattle.separation.specs.Demand3.{Reversal, Within, Fair, Track, last, more, Centred, none, also, cellsWritten, Tolerable, taken}
 use Rattle.separator.proofs.Differences.{up, down, sub-parts, minus-parts}
 use Rattle.separator.proofs.Orders.{le-of, abs-le, le-abs}
 use Rattle.separator.proofs.Border.{border-near}
@@ -125,3 +125,7 @@ module _ (D J error : ℕ) (ok : 8 * D + 2 * J ≤ 998) (enough : 8 * D + J ≤ 
   tolerance {p} {q} near track =
       let a = within-apart J q p near in
       followed-from 1000 near (record { low = omega arith; high = omega arith }) track
+
+-- whatever D and J are traded, all timings of such a track are in range: refusal 8 cannot arise
+pub all-in-range : (D J : ℕ) → taken D J ≤ 998 → {p q : ℤ} {vs : List Reversal} {ts : List ℕ} → Tolerable D J p q vs ts → firstOut ts ≡ length ts
+all-in-range D J ok within = tolerance D J (8 * D + J) (omega arith) (omega arith) (within .0) (within .1) .in-range

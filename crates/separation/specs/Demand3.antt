@@ -1,9 +1,10 @@
 -- Section 4 of the specification, demand 3: on a track within the tolerance the separator recovers the cells that were written.
 --
--- A flux transition is called a reversal here. The lengths of a cell, the error of a pulse and the error of a centre are parameters of the
--- records; `Tolerable` and `Demand3` have the specification's figures. The main property is `Demand3`, which the call promises for all
--- timings and every buffer. Its premises can be met (`met`, in proofs/Witness). Assumes nothing.
-use Prim.Native.Nat.{ℕ, _+_, _*_, _≤_}
+-- A flux transition is called a reversal here. D says how far a cell's length may be from 2,000 ns, and J how far a pulse may be off. The main
+-- property is `Demand3`, which the call promises for all timings and every buffer, at every D and J that may be traded for each other. Its
+-- premises can be met up to both ends (proofs/Witness), and at D = 50 and J = 250 it is what was asked first (proofs/FirstFigures). Assumes
+-- nothing.
+use Prim.Native.Nat.{ℕ, _+_, _-_, _*_, _≤_}
 use mathlib.Core.List.{List, [], _∷_, _++_}
 use mathlib.Core.Path.{_≡_}
 use lib.IntN.{ℤ, pos, _-ℤ_, natAbs}
@@ -64,36 +65,32 @@ pub data Centred (error : ℕ) : List Reversal → List Window → Type 0 where
 unfoldable pub refusalTable : ℕ → ℕ → ℕ → Answer ℕ
 refusalTable k n room = numberJudged k (cellsJudged n room)
 
--- 4.8, 4.9, 4.10, 4.11, 4.13: what a call on the timings ts that answers `answer` and takes a buffer from `before` to `after` makes of the
+-- 4.8, 4.9, 4.10, 4.11: what a call on the timings ts that answers `answer` and takes a buffer from `before` to `after` makes of the
 -- transitions vs. It is refused as the table says and not otherwise; where it is accepted the cells written stand packed at the front of
--- the buffer; the centres are near, each by the e of the steps up to it; and no pulse is a border pulse
+-- the buffer; and the centres are near, each by the e of the steps up to it
 pub record Recovered (error : ℕ) (ts : List ℕ) (vs : List Reversal) (answer : Answer ℕ) (before after : List ℕ) : Type 0 where
   pub refusal : answer ≡ refusalTable (length ts) (cellsInAll vs) (length before)
   pub cells : after ≡ bufferAfter answer (packed (cellsWritten vs)) before
   pub centres : Centred error vs (windowsOf ts)
-  pub no-border-pulses : borderPulsesOf ts ≡ 0
 
--- 4.3: the shortest cell of the tolerance and the longest, in nanoseconds
-abbrev pub shortestCell : ℕ
-shortestCell = 1950
+-- 4.1, 4.2, 4.3, 4.4, 4.5: transitions within the tolerance of D and J whose timings are ts: cells of 2000 - D to 2000 + D ns, and pulses
+-- no more than J off. The first transition stands at p, and its pulse, which may be off as well, at q
+abbrev pub Tolerable : (D J : ℕ) → ℤ → ℤ → List Reversal → List ℕ → Type 0
+Tolerable D J p q vs ts = Within J q p × Track (2000 - D) (2000 + D) J p q vs ts
 
-abbrev pub longestCell : ℕ
-longestCell = 2050
+-- 4.14: how much of the window D and J take together, in nanoseconds. So a nanosecond of D costs as much as four of J
+abbrev pub taken : (D J : ℕ) → ℕ
+taken D J = 8 * D + 2 * J
 
--- 4.4: how far a pulse may be off, in nanoseconds
-abbrev pub mostJitter : ℕ
-mostJitter = 250
+-- 4.11: how far a centre is off at most, in nanoseconds
+abbrev pub farthestCentre : (D J : ℕ) → ℕ
+farthestCentre D J = 8 * D + J + 1
 
--- 4.11: how far a centre then is off at most, in nanoseconds
-abbrev pub mostError : ℕ
-mostError = 651
-
--- 4.1, 4.2, 4.3, 4.4, 4.5: transitions within the tolerance whose timings are ts, from a first one at p whose pulse stands at q and may be
--- off as well
-abbrev pub Tolerable : ℤ → ℤ → List Reversal → List ℕ → Type 0
-Tolerable p q vs ts = Within mostJitter q p × Track shortestCell longestCell mostJitter p q vs ts
-
--- 4.7, 4.12: demand 3, one claim of the whole list: whatever the transitions and their pulses are, and whatever room the buffer has, the
--- call on their timings recovers them
+-- 4.7, 4.12, 4.13, 4.14: demand 3, one claim of the whole list. Whatever D and J are, as long as they take no more than 998 ns, and whatever
+-- the transitions within their tolerance, the pulses and the room of the buffer are, the call on the timings recovers the cells. Where D and
+-- J take no more than 900 ns there is no border pulse either
 pub record Demand3 (ts : List ℕ) (answer : Answer ℕ) (before after : List ℕ) : Type 0 where
-  pub recovers : (p q : ℤ) (vs : List Reversal) → Tolerable p q vs ts → Recovered mostError ts vs answer before after
+  pub recovers : (D J : ℕ) → taken D J ≤ 998
+      → (p q : ℤ) (vs : List Reversal) → Tolerable D J p q vs ts → Recovered (farthestCentre D J) ts vs answer before after
+  pub no-border-pulses : (D J : ℕ) → taken D J ≤ 900
+      → (p q : ℤ) (vs : List Reversal) → Tolerable D J p q vs ts → borderPulsesOf ts ≡ 0
