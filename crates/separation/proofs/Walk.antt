@@ -13,7 +13,7 @@ use Rattle.cells.proofs.Zeros.{cells-append, cells-zeros, cells-one}
 use Rattle.refusals.specs.RefusedCalls.{Answer}
 use Rattle.refusals.specs.RefusedCalls.Answer.{gives}
 use Rattle.flux_timings.specs.Timings.{inRange, firstOut}
-use Rattle.separator.specs.Rule.{cellsAt, residualAfter, stepAnswerBy, stepResidualBy}
+use Rattle.separator.specs.Rule.{cellsAt, residualAfter, doubleHalfWindow, stepAnswerBy, stepResidualBy}
 use Rattle.separation.specs.Separation.{cellsFor, windowsFrom, cellsIn, cellsOfBy}
 use Rattle.separation.specs.PrivateContracts.{IsHalfWindow}
 use Rattle.separator.proofs.Lifted.{Kept, kept-none, kept-next}
@@ -41,8 +41,11 @@ pub half-high : {half : ℕ} → IsHalfWindow half → half ≤ 2000
 half-high is = ⊎-elim (λ e. omega (arith, e)) (λ e. omega (arith, e)) is
 
 -- the cells of the timings ts from the residual r on
-abbrev pub cellsFrom : ℕ → ℤ → List ℕ → List ℕ
-cellsFrom half r ts = cellsIn (windowsFrom half r ts)
+abbrev pub cellsFromBy : ℕ → ℤ → List ℕ → List ℕ
+cellsFromBy half r ts = cellsIn (windowsFrom half r ts)
+
+abbrev pub cellsFrom : ℤ → List ℕ → List ℕ
+cellsFrom r ts = cellsFromBy doubleHalfWindow r ts
 
 -- i timings of ts passed: their cells, `at` in all, and the residual r that is left
 pub record Walked (half : ℕ) (ts : List ℕ) (at : ℕ) (r : ℤ) (i : ℕ) : Type 0 where
@@ -52,7 +55,7 @@ pub record Walked (half : ℕ) (ts : List ℕ) (at : ℕ) (r : ℤ) (i : ℕ) : 
   pub within : i ≤ length ts
   pub small : at ≤ 5000 * i
   pub kept : Kept half r
-  pub split : cellsOfBy half ts ≡ passed ++ cellsFrom half r (drop i ts)
+  pub split : cellsOfBy half ts ≡ passed ++ cellsFromBy half r (drop i ts)
 
 pub walk-start : {half : ℕ} → IsHalfWindow half → (ts : List ℕ) {r : ℤ} → r ≡ pos 0 → Walked half ts 0 r 0
 walk-start {half} is-half ts e = record {
@@ -62,7 +65,7 @@ walk-start {half} is-half ts e = record {
   within = omega arith;
   small = omega arith;
   kept = subst (Kept half) (sym e) (kept-none half (omega (arith, half-low is-half)));
-  split = ap (λ (z : ℤ). cellsFrom half z ts) (sym e);
+  split = ap (λ (z : ℤ). cellsFromBy half z ts) (sym e);
 }
 
 pub start-passed : {half : ℕ} (is-half : IsHalfWindow half) (ts : List ℕ) {r : ℤ} (e : r ≡ pos 0) → walk-start is-half ts e .passed ≡ []
@@ -90,7 +93,7 @@ turn half ts i r all h kept answers leaves taken =
 
 -- one timing more, of n cells, that leaves the residual r′
 module _ {half : ℕ} (is-half : IsHalfWindow half) {ts : List ℕ} {at : ℕ} {r : ℤ} {i : ℕ} (w : Walked half ts at r i) {n : ℕ} {r′ : ℤ} (t : Turn half ts i r n r′) where
-  rest : cellsFrom half r (drop i ts) ≡ cellsFor n ++ cellsFrom half r′ (drop (i + 1) ts)
+  rest : cellsFromBy half r (drop i ts) ≡ cellsFor n ++ cellsFromBy half r′ (drop (i + 1) ts)
   unfolding windowsFrom cellsIn
   rest = rw (rest-is ts i (t .here), t .cells, t .residual)
 
@@ -120,7 +123,7 @@ module _ {half : ℕ} (is-half : IsHalfWindow half) {ts : List ℕ} {at : ℕ} {
 -- the cells passed are no more than there are
 pub walk-within : {half : ℕ} {ts : List ℕ} {at : ℕ} {r : ℤ} {i : ℕ} → Walked half ts at r i → at ≤ length (cellsOfBy half ts)
 walk-within {half} {ts} {at} {r} {i} w =
-    omega (arith, ap length (w .split), length-append (w .passed) (cellsFrom half r (drop i ts)), w .long)
+    omega (arith, ap length (w .split), length-append (w .passed) (cellsFromBy half r (drop i ts)), w .long)
 
 -- all timings passed
 pub walk-end : {half : ℕ} {ts : List ℕ} {at : ℕ} {r : ℤ} {i : ℕ} (w : Walked half ts at r i) → length ts ≤ i → cellsOfBy half ts ≡ w .passed
