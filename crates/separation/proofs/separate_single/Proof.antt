@@ -1,12 +1,11 @@
 -- `separation::separate_single` meets its contract. Assumes nothing.
-use mathlib.Core.Path.{refl}
-use mathlib.Core.Logic.{inr}
+use mathlib.Core.Logic.{inl, inr}
 use borrow.Author.Needs.{needs}
 use Rattle.separation.proofs.separate_single.Statement.{statement}
 use Rattle.separation.proofs.separate_single.Tie as tie
 
 separate-by-requires : tie.Need-separate-by-requires
-separate-by-requires c κs = inr refl
+separate-by-requires c κs = search (needs, inl, inr)
 
 same-length : tie.Need-same-length
 same-length c = search needs
