@@ -1,12 +1,12 @@
 -- Border pulses: which offsets are those of one, and how many a pulse counts for. Assumes nothing.
 use Prim.Native.Nat.{ℕ, _+_, _≤_}
-use mathlib.Core.Path.{_≡_, refl, subst}
+use mathlib.Core.Path.{_≡_, refl}
 use mathlib.Core.Bool.{Bool, true, false, cond, _||_}
 use native.Mathlib.Omega.{arith}
 use lib.Dec.{T}
 use lib.IntN.{ℤ, pos, negsuc}
 use lib.Signed.{leZ}
-use Rattle.separator.specs.Rule.{borderLimit, isBorderBy, borderPulsesAtBy, doubleHalfWindow, singleHalfWindow}
+use Rattle.separator.specs.Rule.{isBorderBy, borderPulsesAtBy, doubleHalfWindow, singleHalfWindow}
 use Rattle.separator.proofs.Differences.{up, down}
 use Rattle.separator.proofs.Orders.{le-of}
 

@@ -13,7 +13,7 @@ use mir.Val.{SFits}
 use Rattle.separator.proofs.Differences.{lt-or-le, sub-same, pos-sub, minus-sub, sub-parts}
 use Rattle.separator.proofs.Orders.{le-of, sub-le, lt-not-le, not-lt-le, mag-sub}
 
--- a number below two windows, by the window
+-- how many windows a number below two of them has, and what is left of it
 module _ (half b : ℕ) where
   pub none-below : b < 2 * half → 0 ≡ b / (2 * half)
   none-below h = sym (div-eq-of-lt h)

@@ -29,7 +29,7 @@ half-fits z f = record { sfits = omega (arith, mag-half z, f .sfits) }
 abbrev pub readBack : ℤ → ℤ
 readBack z = toZ w32 (ofZ w32 z)
 
--- a number below 2^31, as the machine has it
+-- below 2^31 the bits of a number are read as the number itself
 pub small-is : (n : ℕ) → n < 2147483648 → toZ w32 n ≡ pos n
 small-is n h = toZ-pos w32 {n = n} h
 

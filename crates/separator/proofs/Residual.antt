@@ -36,7 +36,7 @@ module _ (half : ℕ) where
   most-sub : most ≡ subℕ ((half - 1) / 2) 0
   most-sub = pos-sub ((half - 1) / 2)
 
-  -- the least, as the machine makes it
+  -- the code takes half of the half window from 0
   pub least-made : half ≤ 2000 → pos 0 -ℤ toZ w32 (half / 2) ≡ least
   least-made h =
       ap (λ (z : ℤ). pos 0 -ℤ z) (small-is (half / 2) (omega arith) ∙ pos-sub (half / 2))

@@ -54,7 +54,7 @@ impl Separator {
         self.step_by(DOUBLE_HALF_WINDOW, timing)
     }
 
-    // One timing of a track of single density.
+    // The same on a track of single density.
     pub fn step_single(self, timing: u32) -> Stepped
         ensures answer { λ r. ⌜ takenAnswer (r .given .taken) ≡ stepAnswerBy singleHalfWindow (self .residual) timing ⌝ }
         ensures offset { λ r. ⌜ r .given .offset ≡ stepOffsetBy singleHalfWindow (self .residual) timing ⌝ }
@@ -100,7 +100,7 @@ impl Separator {
     }
 }
 
-// Half of the window, in nanoseconds, of each density.
+// How many nanoseconds half a window has, for each density.
 pub const DOUBLE_HALF_WINDOW: u32 = 1000;
 
 pub const SINGLE_HALF_WINDOW: u32 = 2000;
@@ -140,7 +140,7 @@ fn border_pulses_by(least: i32, most: i32, offset: i32) -> u32
     0
 }
 
-// A residual that no step leaves counts as 0: for double density one outside -500 to 499.
+// The residual that is used: 0 in place of one that no step can have left.
 fn usable_residual(half_window: u32, residual: i32) -> i32
     requires { ⌜ (1000 ≤ «half_window») × («half_window» ≤ 2000) ⌝ }
     ensures { λ r. ⌜ r ≡ usable «half_window» residual ⌝ }

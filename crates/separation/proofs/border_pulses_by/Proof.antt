@@ -1,5 +1,4 @@
 -- `separation::border_pulses_by` meets its contract. Assumes nothing.
-use mathlib.Core.Path.{_≡_}
 use mathlib.Core.Logic.{⊎-elim}
 use mir.Facts.{toZ-ofZ}
 use borrow.Author.Needs.{needs}

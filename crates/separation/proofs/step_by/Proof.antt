@@ -1,5 +1,4 @@
 -- `separation::step_by` meets its contract. Assumes nothing.
-use mathlib.Core.Path.{_≡_}
 use mathlib.Core.Logic.{⊎-elim}
 use borrow.Author.Needs.{needs}
 use Rattle.separation.proofs.step_by.Statement.{statement}

@@ -16,7 +16,7 @@ use Rattle.separator.proofs.usable_residual.Tie as tie
 same : (c : tie.Start) → readBack (c .args .residual) ≡ c .args .residual
 same c = toZ-ofZ (c .fits .residual)
 
--- the bounds, as the machine has them
+-- what the code compares with
 fits : (c : tie.Start) → SFits w32 (pos 0 -ℤ toZ w32 (c .args .half-window / 2))
 fits c = subst (SFits w32) (sym (least-made (c .args .half-window) (c .pre .1))) (least-fits (c .args .half-window) (c .pre .1))
 
