@@ -86,9 +86,9 @@ taken D J = 8 * D + 2 * J
 abbrev pub farthestCentre : (D J : ℕ) → ℕ
 farthestCentre D J = 8 * D + J + 1
 
--- 4.7, 4.12, 4.13, 4.14: demand 3, one claim of the whole list. Whatever D and J are, as long as they take no more than 998 ns, and whatever
--- the transitions within their tolerance, the pulses and the room of the buffer are, the call on the timings recovers the cells. Where D and
--- J take no more than 900 ns there is no border pulse either
+-- 4.7, 4.12, 4.13, 4.14, 4.16: demand 3, one claim of the whole list. Whatever D and J are, as long as they take no more than 998 ns, and
+-- whatever the transitions within their tolerance, the pulses and the room of the buffer are, the call on the timings recovers the cells.
+-- Where D and J take no more than 900 ns, as 50 and 250 do, there is no border pulse either
 pub record Demand3 (ts : List ℕ) (answer : Answer ℕ) (before after : List ℕ) : Type 0 where
   pub recovers : (D J : ℕ) → taken D J ≤ 998
       → (p q : ℤ) (vs : List Reversal) → Tolerable D J p q vs ts → Recovered (farthestCentre D J) ts vs answer before after

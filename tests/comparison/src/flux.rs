@@ -7,8 +7,8 @@ use second_program::cells;
 use second_program::refusal::Refusal;
 use second_program::separator::{self, SeparatorState};
 use test_inputs::flux_inputs::{
-    border_lists, flux_track, flux_track_of, timings_at_the_limits, timings_of_cells, timings_of_steps, Choice, FluxTrack,
-    AROUND_THE_LIMITS,
+    border_lists, flux_track, flux_track_of, flux_track_within, one_sided_track, timings_at_the_limits, timings_of_cells,
+    timings_of_steps, Choice, FluxTrack, Tolerance, AROUND_THE_LIMITS,
 };
 use test_inputs::random::Random;
 use thikbromu::{boundary, separate, Separator};
@@ -367,9 +367,16 @@ fn farthest_centre(track: &FluxTrack) -> i64 {
     farthest
 }
 
-/// Demand 3 at its extremes: tracks of 100,000 cells, of 1,950 and 2,050 ns, with pulses 250 ns off. No cell is lost, no centre lies
-/// farther off than 651 ns, and no pulse is a border pulse.
+/// Demand 3 at its extremes.
 pub fn extremes(report: &mut Report) {
+    first_figures(report);
+    trades(report);
+    beyond_the_trades(report);
+}
+
+/// The figures that were asked first: tracks of 100,000 cells, of 1,950 and 2,050 ns, with pulses 250 ns off. No cell is lost, no centre
+/// lies farther off than 651 ns, and no pulse is a border pulse.
+fn first_figures(report: &mut Report) {
     let mut group = Group::new("demand 3 at its extremes, 1,000 tracks of 100,000 cells");
     let mut random = Random::new(13);
     let mut farthest = 0;
@@ -400,6 +407,81 @@ pub fn extremes(report: &mut Report) {
     }
     group.close(report);
     report.say(format!("    the farthest centre lay {farthest} ns off"));
+}
+
+/// The drifts of the pairs of D and J that are run on long tracks. With 8 D + 2 J = 998 the first has J = 499 and the last J = 3.
+const DRIFTS: [i64; 14] = [0, 1, 12, 25, 37, 50, 62, 75, 87, 100, 110, 118, 123, 124];
+
+/// Demand 3 where D and J take all that they may, 998 ns, and where they take 900 ns, with no border pulse then (rules 4.9, 4.11, 4.13):
+/// long tracks at fourteen pairs, with bounds at random, long drifts, and drift to one side with the pulses at either end; and short ones
+/// at every D.
+fn trades(report: &mut Report) {
+    let mut group = Group::new("demand 3 at the limits of D and J");
+    let mut random = Random::new(17);
+    for taken in [998, 900] {
+        let mut seen = Vec::new();
+        for drift in 0..=taken / 8 {
+            let tolerance = Tolerance::taking(drift, taken).expect("J is 0 or more");
+            let long = DRIFTS.contains(&drift);
+            let timings = if long { 25_000 } else { 500 };
+            let mut tracks = Vec::new();
+            for choice in [Choice::Any, Choice::Bounds, Choice::LongDrift] {
+                tracks.push(flux_track_within(&mut random, tolerance, timings, choice));
+            }
+            for turn in [1, 2, 3, 8, 50] {
+                tracks.push(one_sided_track(tolerance, 1, timings, turn));
+                tracks.push(one_sided_track(tolerance, -1, timings, turn));
+            }
+            let mut farthest = 0;
+            for track in tracks {
+                let packed = cells::pack(&track.cells);
+                let mut buffer = vec![0xFF; packed.len()];
+                let ours = numbers_of(&track.timings, &mut buffer);
+                let quiet = taken > 900 || ours.as_ref().is_ok_and(|numbers| numbers.1 == 0);
+                let distance = farthest_centre(&track);
+                farthest = farthest.max(distance);
+                let near = distance <= tolerance.farthest_centre();
+                let expected = (Ok(track.cells.len()), &packed, true, true);
+                group.same((ours.map(|numbers| numbers.0), &buffer, near, quiet), expected, || {
+                    format!("{tolerance:?}, farthest centre {distance}, timings {:?}", &track.timings[..12])
+                });
+            }
+            if long {
+                seen.push(format!("D {drift} J {} {farthest} of {}", tolerance.shift, tolerance.farthest_centre()));
+            }
+        }
+        report.say(format!("    farthest centres where D and J take {taken} ns, beside their bounds: {}", seen.join(", ")));
+    }
+    group.close(report);
+}
+
+/// Beyond the limits (rule 4.15): without drift a cell is lost as soon as D and J take 1,000 ns, and a border pulse comes at 902; with drift
+/// this is so at 1,002 and 904. So no greater limit would hold.
+fn beyond_the_trades(report: &mut Report) {
+    let mut group = Group::new("D and J beyond their limits");
+    let numbers = |tolerance: Tolerance, sign: i64| {
+        let track = one_sided_track(tolerance, sign, 80, if tolerance.drift == 0 { 1 } else { 40 });
+        let mut buffer = vec![0; 16_384];
+        let ours = numbers_of(&track.timings, &mut buffer).unwrap_or((0, 0));
+        let packed = cells::pack(&track.cells);
+        (ours.0 != track.cells.len() || !buffer.starts_with(&packed), ours.1 > 0)
+    };
+    for drift in 0..=125 {
+        let some = |taken: i64| {
+            let tolerance = Tolerance::taking(drift, taken).expect("J is 0 or more");
+            let (long, short) = (numbers(tolerance, 1), numbers(tolerance, -1));
+            (long.0 || short.0, long.1 || short.1)
+        };
+        group.same((some(1_000).0, some(1_002).0), (drift == 0, true), || format!("a cell is lost, D {drift}"));
+        if drift <= 112 {
+            group.same((some(902).1, some(904).1), (drift == 0, true), || format!("a border pulse, D {drift}"));
+        }
+    }
+    group.close(report);
+    let lost = one_sided_track(Tolerance { drift: 0, shift: 500 }, 1, 1, 1);
+    let mut buffer = [0; 2];
+    let ours = numbers_of(&lost.timings, &mut buffer);
+    report.say(format!("    lost at 8 D + 2 J = 1,000: timings {:?}, cells written {}, cells found {ours:?}", lost.timings, lost.cells.len()));
 }
 
 pub fn limits(report: &mut Report) {

@@ -17,7 +17,14 @@ pub const LAWS: &[Law] = &[
     ("3.13", "worked_examples/proofs/Table", &["table-holds"]),
     ("3.16", "separator/proofs/Border", &["limits"]),
     ("3.18", "worked_examples/proofs/Table", &["table-holds"]),
-    ("4.12", "separation/proofs/Witness", &["met"]),
+    ("4.8", "separation/proofs/Recovery", &["all-in-range"]),
+    (
+        "4.12",
+        "separation/proofs/Witness",
+        &["met", "met-drifting", "met-shaking"],
+    ),
+    ("4.14", "separation/proofs/Witness", &["ends"]),
+    ("4.16", "separation/proofs/FirstFigures", &["at-50-and-250"]),
     ("5.3", "histogram/proofs/Counts", &["counts-sum"]),
     (
         "6.5",

@@ -3,12 +3,43 @@
 
 use crate::random::Random;
 
-/// The least nanoseconds between true places for each cell (rule 4.3).
-const LEAST_FOR_A_CELL: i64 = 1_950;
-/// The most nanoseconds between true places for each cell (rule 4.3).
-const MOST_FOR_A_CELL: i64 = 2_050;
-/// How far a pulse lies at most from its true place (rule 4.4).
-const MOST_SHIFT: i64 = 250;
+/// A tolerance: how far a cell may be from 2,000 nanoseconds (D, rule 4.3), and how far a
+/// pulse from its true place (J, rule 4.4).
+#[derive(Clone, Copy, Debug, PartialEq, Eq)]
+pub struct Tolerance {
+    /// D, in nanoseconds.
+    pub drift: i64,
+    /// J, in nanoseconds.
+    pub shift: i64,
+}
+
+impl Tolerance {
+    /// The figures that were asked first (rule 4.16).
+    pub const FIRST: Tolerance = Tolerance {
+        drift: 50,
+        shift: 250,
+    };
+
+    /// The tolerance of a drift that takes so much of the window; none where the drift
+    /// alone takes more.
+    pub fn taking(drift: i64, taken: i64) -> Option<Tolerance> {
+        let rest = taken - 8 * drift;
+        (rest >= 0).then_some(Tolerance {
+            drift,
+            shift: rest / 2,
+        })
+    }
+
+    /// What both take of the window (rule 4.14).
+    pub fn taken(self) -> i64 {
+        8 * self.drift + 2 * self.shift
+    }
+
+    /// How far a centre is off at most (rule 4.11).
+    pub fn farthest_centre(self) -> i64 {
+        8 * self.drift + self.shift + 1
+    }
+}
 
 /// A list of flux transitions as section 4 of the specification has them.
 #[derive(Clone, Debug, PartialEq, Eq)]
@@ -91,21 +122,52 @@ impl Picker {
     }
 }
 
-/// A random flux track with so many timings.
+/// A random flux track with so many timings, within the tolerance that was asked first.
 pub fn flux_track(random: &mut Random, timings: usize, choice: Choice) -> FluxTrack {
+    flux_track_within(random, Tolerance::FIRST, timings, choice)
+}
+
+/// A random flux track with so many timings, within a tolerance.
+pub fn flux_track_within(
+    random: &mut Random,
+    tolerance: Tolerance,
+    timings: usize,
+    choice: Choice,
+) -> FluxTrack {
+    let Tolerance { drift, shift } = tolerance;
     let high = random.one_in(2);
     let mut distance_picker = Picker { choice, high };
     let high = random.one_in(2);
     let mut shift_picker = Picker { choice, high };
     let mut gaps = Vec::new();
     let mut distances = Vec::new();
-    let mut shifts = vec![shift_picker.pick(random, -MOST_SHIFT, MOST_SHIFT)];
+    let mut shifts = vec![shift_picker.pick(random, -shift, shift)];
     for _ in 0..timings {
         let gap = random.between(2, 4);
         gaps.push(gap as usize);
-        distances.push(distance_picker.pick(random, LEAST_FOR_A_CELL * gap, MOST_FOR_A_CELL * gap));
-        shifts.push(shift_picker.pick(random, -MOST_SHIFT, MOST_SHIFT));
+        let (least, most) = ((2_000 - drift) * gap, (2_000 + drift) * gap);
+        distances.push(distance_picker.pick(random, least, most));
+        shifts.push(shift_picker.pick(random, -shift, shift));
     }
+    flux_track_of(&gaps, &distances, &shifts)
+}
+
+/// A track that drifts to one side, with gaps of four cells: all cells are as long as they
+/// may be, or as short, and all pulses are off against the drift, but for the last of every
+/// `turn` pulses, which is off with it. There the offset is the greatest that was found.
+/// `sign` is 1 for long cells and -1 for short ones.
+pub fn one_sided_track(tolerance: Tolerance, sign: i64, timings: usize, turn: usize) -> FluxTrack {
+    let gaps = vec![4; timings];
+    let distances = vec![8_000 + sign * 4 * tolerance.drift; timings];
+    let shifts: Vec<i64> = (0..=timings)
+        .map(|place| {
+            if place > 0 && place % turn == 0 {
+                sign * tolerance.shift
+            } else {
+                -sign * tolerance.shift
+            }
+        })
+        .collect();
     flux_track_of(&gaps, &distances, &shifts)
 }
 
@@ -252,6 +314,27 @@ mod tests {
                 assert!((pulse - true_place).abs() <= 250);
             }
         }
+    }
+
+    #[test]
+    fn one_sided_tracks_keep_to_their_tolerance() {
+        for (drift, sign) in [(0, 1), (0, -1), (124, 1), (124, -1), (60, 1)] {
+            let tolerance = Tolerance::taking(drift, 998).unwrap();
+            assert_eq!(tolerance.taken(), 998);
+            let track = one_sided_track(tolerance, sign, 60, 20);
+            for places in track.true_places.windows(2) {
+                assert_eq!(places[1] - places[0], 4 * (2_000 + sign * drift));
+            }
+            let mut with_the_drift = 0;
+            for (pulse, true_place) in track.pulses.iter().zip(&track.true_places) {
+                assert_eq!((pulse - true_place).abs(), tolerance.shift);
+                if (pulse - true_place).signum() == sign {
+                    with_the_drift += 1;
+                }
+            }
+            assert_eq!(with_the_drift, 3);
+        }
+        assert_eq!(Tolerance::taking(125, 998), None);
     }
 
     #[test]
