@@ -1,1 +1,2 @@
 mod RevolutionCalls
+pub mod ToldSteps

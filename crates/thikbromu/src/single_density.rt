@@ -1,0 +1,51 @@
+// The separator for tracks of single density (FM): each routine takes, gives and refuses what its namesake without `fm` does. Demand 3 is
+// not claimed.
+use telling::told;
+use telling::told_step;
+ghost use mathlib.Core.Path.{_≡_};
+ghost use lib.ListN.{length};
+ghost use Rattle.separator.specs.Rule.{singleHalfWindow, stepAnswerBy, stepOffsetBy, stepResidualBy};
+ghost use Rattle.separation.specs.Separation.{borderPulsesOfBy, separationBy, separatedCellsBy, borderPulsesAfter};
+ghost use Rattle.telling.specs.Numbers.{numberIn, valueIn, offsetStored};
+
+// One step of the separator, on a state that the caller lends: its residual is advanced in its place, and kept beside a refusal. `value` is
+// the number of cells, and `offset` the offset e, which is kept beside a refusal too.
+#[no_mangle]
+pub extern "C" fn thikbromu_fm_step(
+    residual: &mut i32,
+    timing: u32,
+    offset: &mut i32,
+    value: &mut usize,
+) -> u32
+    ensures number { λ r. ⌜ r ≡ numberIn (stepAnswerBy singleHalfWindow (now (residual .entry)) timing) ⌝ }
+    ensures value { λ _. ⌜ now (value .exit) ≡ valueIn (stepAnswerBy singleHalfWindow (now (residual .entry)) timing) ⌝ }
+    ensures offset { λ _. ⌜ now (offset .exit) ≡ offsetStored (stepAnswerBy singleHalfWindow (now (residual .entry)) timing) (stepOffsetBy singleHalfWindow (now (residual .entry)) timing) (now (offset .entry)) ⌝ }
+    ensures residual { λ _. ⌜ now (residual .exit) ≡ stepResidualBy singleHalfWindow (now (residual .entry)) timing ⌝ }
+{
+    let stepped = separator::step_lent_single(*residual, timing);
+    let next = stepped.next;
+    let advanced = next.residual;
+    *residual = advanced;
+    let given = stepped.given;
+    told_step(given, offset, value)
+}
+
+// The separator on a list of timings; `value` is the number of cells, packed at the front of `cells`, and `border_pulses` the number of
+// border pulses, which is kept beside a refusal.
+#[no_mangle]
+pub extern "C" fn thikbromu_fm_separate(
+    timings: &[u32],
+    cells: &mut [u8],
+    border_pulses: &mut usize,
+    value: &mut usize,
+) -> u32
+    ensures number { λ r. ⌜ r ≡ numberIn (separationBy singleHalfWindow (now (timings .entry)) (length (now (cells .entry)))) ⌝ }
+    ensures value { λ _. ⌜ now (value .exit) ≡ valueIn (separationBy singleHalfWindow (now (timings .entry)) (length (now (cells .entry)))) ⌝ }
+    ensures buffer { λ _. ⌜ now (cells .exit) ≡ separatedCellsBy singleHalfWindow (now (timings .entry)) (now (cells .entry)) ⌝ }
+    ensures border_pulses { λ _. ⌜ now («border_pulses» .exit) ≡ borderPulsesAfter (separationBy singleHalfWindow (now (timings .entry)) (length (now (cells .entry)))) (borderPulsesOfBy singleHalfWindow (now (timings .entry))) (now («border_pulses» .entry)) ⌝ }
+{
+    told(
+        separation::separate_single(timings, cells, border_pulses),
+        value,
+    )
+}
