@@ -31,14 +31,14 @@ array-share-prefix-numbers c =
     let plan = c .before .plan in
     let a = c .before .before .before .before .before .args in
     let p = plan .ensures in
-    numbers-enough (layoutOf (a .density)) (now (a .bytes)) (a .n) (a .track) (a .side) (length (now (a .list)) / 4) (plan .result .count) (plan .last .0) (p .1 .0 .0) (p .1 .1 .0)
+    numbers-enough (layoutOf (a .density)) (now (a .bytes)) (a .n) (a .track) (a .side) (length (now (a .list)) / 4) (plan .result .count) (plan .last .1 .0) (p .1 .0 .0) (p .1 .1 .0)
 
 slice-aggregate-copy-numbers : tie.Need-slice-aggregate-copy-numbers
 slice-aggregate-copy-numbers c =
     let plan = c .before .before .plan in
     let a = c .before .before .before .before .before .before .args in
     let p = plan .ensures in
-    sym (length-take-le _ _ (numbers-enough (layoutOf (a .density)) (now (a .bytes)) (a .n) (a .track) (a .side) (length (now (a .list)) / 4) (plan .result .count) (plan .last .0) (p .1 .0 .0) (p .1 .1 .0)))
+    sym (length-take-le _ _ (numbers-enough (layoutOf (a .density)) (now (a .bytes)) (a .n) (a .track) (a .side) (length (now (a .list)) / 4) (plan .result .count) (plan .last .1 .0) (p .1 .0 .0) (p .1 .1 .0)))
 
 copy-numbers-requires : tie.Need-copy-numbers-requires
 copy-numbers-requires c κs = search needs
@@ -54,10 +54,10 @@ returns c =
     let room = length (now (a .list)) / 4 in
     let copied =
     c .before .before .copy-numbers .ensures
-    ∙ front-copied (plan .last .0) (now (a .list)) (4 * plan .result .count)
-    (numbers-enough (layoutOf (a .density)) (now (a .bytes)) (a .n) (a .track) (a .side) room (plan .result .count) (plan .last .0) (p .1 .0 .0) (p .1 .1 .0))
+    ∙ front-copied (plan .last .1 .0) (now (a .list)) (4 * plan .result .count)
+    (numbers-enough (layoutOf (a .density)) (now (a .bytes)) (a .n) (a .track) (a .side) room (plan .result .count) (plan .last .1 .0) (p .1 .0 .0) (p .1 .1 .0))
     (omega (arith, p .1 .1 .1 .1))
-    ∙ numbers-written (layoutOf (a .density)) (now (a .bytes)) (a .n) (a .track) (a .side) room (plan .result .count) (plan .last .0) (p .1 .0 .0) (p .1 .1 .0) (now (a .list)) in
+    ∙ numbers-written (layoutOf (a .density)) (now (a .bytes)) (a .n) (a .track) (a .side) room (plan .result .count) (plan .last .1 .0) (p .1 .0 .0) (p .1 .1 .0) (now (a .list)) in
     (p .0, (p .1 .0 .1, copied))
 
 pub findings-as-numbers-in-spec : {M : Type 1} → statement M
