@@ -1,4 +1,4 @@
--- `thikbromu::thikbromu_sector` meets its contract. Assumes nothing.
+-- `thikbromu::sector_told` meets its contract. Assumes nothing.
 use Prim.Native.Nat.{ℕ}
 use mathlib.Core.List.{List}
 use mathlib.Core.Path.{ap, _∙_}
@@ -6,11 +6,11 @@ use lib.ListN.{length, take}
 use Rattle.basis.specs.Lists.{writtenOver}
 use Rattle.telling.specs.Numbers.{numberIn, valueIn, sectorNumbers}
 use borrow.Author.Needs.{needs}
-use Rattle.thikbromu.proofs.thikbromu_sector.Statement.{statement}
-use Rattle.thikbromu.proofs.thikbromu_sector.Tie as tie
+use Rattle.thikbromu.proofs.sector_told.Statement.{statement}
+use Rattle.thikbromu.proofs.sector_told.Tie as tie
 
-sector-by-index-requires : tie.Need-sector-by-index-requires
-sector-by-index-requires c κs = search needs
+sector-in-requires : tie.Need-sector-in-requires
+sector-in-requires c κs = search needs
 
 sector-numbers-requires : tie.Need-sector-numbers-requires
 sector-numbers-requires c κs = search needs
@@ -30,7 +30,7 @@ same-length c = search needs
 returns : tie.Need-returns
 returns c =
     let a = c .before .before .before .before .before .before .before .before .before .before .before .before .args in
-    let s = c .before .before .before .before .before .before .before .before .before .sector-by-index .ensures in
+    let s = c .before .before .before .before .before .before .before .before .before .sector-in .ensures in
     let m = c .before .before .before .before .before .before .before .sector-numbers .ensures in
     let t = c .told .ensures in (
       t .0 ∙ ap numberIn (s .0),
@@ -40,11 +40,11 @@ returns c =
       ),
     )
 
-pub thikbromu-sector-spec : {M : Type 1} → statement M
-thikbromu-sector-spec =
+pub sector-told-spec : {M : Type 1} → statement M
+sector-told-spec =
     tie.close
     (tie.spec
-    sector-by-index-requires
+    sector-in-requires
     sector-numbers-requires
     slice-aggregate-copy-numbers
     copy-numbers-requires
