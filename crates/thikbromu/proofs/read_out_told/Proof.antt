@@ -22,6 +22,6 @@ returns c =
     let given = c .before .before .before .before .before .before .before .before .before .args in
     (t .0 ∙ ap numberIn (s .0), (t .1 ∙ ap valueRead (s .0), (t .2 ∙ ap (λ a. checkRead a (now (given .good))) (s .0), s .1)))
 
-pub read-out-in-told-spec : {M : Type 1} → statement M
-read-out-in-told-spec =
+pub read-out-told-spec : {M : Type 1} → statement M
+read-out-told-spec =
     tie.close (tie.spec read-out-in-requires told-read-requires same-length returns)
