@@ -104,9 +104,9 @@ function density = record {
   outlives = [];
   params = 6;
   locals =
-    local half valueLocal ∷ local (sliceTy (tyRef (named 0) imm (tyInt w8))) valueLocal ∷ local word valueLocal ∷ local half valueLocal ∷ local half valueLocal
-    ∷ local (sliceTy (tyRef (named 1) mut (pointee (R .written)))) valueLocal ∷ local (tyRef (named 2) mut word) valueLocal ∷ local N′.mir valueLocal ∷ local D′.mir valueLocal
-    ∷ local (tyRef erased mut (pointee (R .written))) valueLocal ∷ local (sliceTy (tyRef erased mut (pointee (R .written)))) valueLocal ∷ local (tyRef erased mut word) valueLocal ∷ [];
+      local half valueLocal ∷ local (sliceTy (tyRef (named 0) imm (tyInt w8))) valueLocal ∷ local word valueLocal ∷ local half valueLocal ∷ local half valueLocal
+      ∷ local (sliceTy (tyRef (named 1) mut (pointee (R .written)))) valueLocal ∷ local (tyRef (named 2) mut word) valueLocal ∷ local N′.mir valueLocal ∷ local D′.mir valueLocal
+      ∷ local (tyRef erased mut (pointee (R .written))) valueLocal ∷ local (sliceTy (tyRef erased mut (pointee (R .written)))) valueLocal ∷ local (tyRef erased mut word) valueLocal ∷ [];
   body = body density;
 }
 
@@ -142,8 +142,8 @@ clauses 𝓤 density κs a = record {
   ghost = Unit {0};
   requires = λ _. emp 𝓤;
   ensures = λ _ r e. sep 𝓤 (fact 𝓤 (r ≡ numberIn (findingsAnswer (layoutOf density) (a .0 .now) (a .1 .0) (a .1 .1 .0) (a .1 .1 .1 .0) (length (a .1 .1 .1 .1 .0 .now)))))
-    (sep 𝓤 (fact 𝓤 (e .1 .1 .1 .1 .1 .0 .now ≡ valueIn (findingsAnswer (layoutOf density) (a .0 .now) (a .1 .0) (a .1 .1 .0) (a .1 .1 .1 .0) (length (a .1 .1 .1 .1 .0 .now)))))
-    (fact 𝓤 (e .1 .1 .1 .1 .0 .now ≡ listAfter (layoutOf density) (a .0 .now) (a .1 .0) (a .1 .1 .0) (a .1 .1 .1 .0) (a .1 .1 .1 .1 .0 .now))));
+      (sep 𝓤 (fact 𝓤 (e .1 .1 .1 .1 .1 .0 .now ≡ valueIn (findingsAnswer (layoutOf density) (a .0 .now) (a .1 .0) (a .1 .1 .0) (a .1 .1 .1 .0) (length (a .1 .1 .1 .1 .0 .now)))))
+      (fact 𝓤 (e .1 .1 .1 .1 .0 .now ≡ listAfter (layoutOf density) (a .0 .now) (a .1 .0) (a .1 .1 .0) (a .1 .1 .1 .0) (a .1 .1 .1 .1 .0 .now))));
 }
 
 module _ {M : Type 1} (𝓤 : URA M) (H : Heap 𝓤) (A : Atoms 𝓤) (at-mem : Memory → SProp 𝓤) (run : Routine → Fun 𝓤) where
