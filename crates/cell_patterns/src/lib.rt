@@ -28,7 +28,17 @@ pub struct Gaps {
 pub fn find_gaps(density: Density, bytes: &[u8], n: usize) -> Gaps
     ensures { λ r. ⌜ r ≡ gapsOf (layoutOf density) (cell (now (bytes .entry)) n) n ⌝ }
 {
-    gaps_between(fewest_zeros(density), most_zeros(density), bytes, n)
+    match density {
+        Density::Single => {
+            gaps_between(
+                FEWEST_ZEROS_OF_SINGLE_DENSITY,
+                MOST_ZEROS_OF_SINGLE_DENSITY,
+                bytes,
+                n,
+            )
+        }
+        Density::Double => gaps_between(FEWEST_ZEROS, MOST_ZEROS, bytes, n),
+    }
 }
 
 // The same for a density with so many zeros between ones, fewest and most.
@@ -105,25 +115,6 @@ const MOST_ZEROS: usize = 3;
 const FEWEST_ZEROS_OF_SINGLE_DENSITY: usize = 0;
 
 const MOST_ZEROS_OF_SINGLE_DENSITY: usize = 1;
-
-// The fewest and the most zeros between a one and its next one.
-fn fewest_zeros(density: Density) -> usize
-    ensures { λ r. ⌜ r + 1 ≡ layoutOf density .nearest ⌝ }
-{
-    match density {
-        Density::Single => FEWEST_ZEROS_OF_SINGLE_DENSITY,
-        Density::Double => FEWEST_ZEROS,
-    }
-}
-
-fn most_zeros(density: Density) -> usize
-    ensures { λ r. ⌜ r + 1 ≡ layoutOf density .farthest ⌝ }
-{
-    match density {
-        Density::Single => MOST_ZEROS_OF_SINGLE_DENSITY,
-        Density::Double => MOST_ZEROS,
-    }
-}
 
 // Is the next one after so many zeros too near or too far? Double density is a case of its own, with numbers that the compiler knows: it then
 // makes two loops of the one that asks, and the one for double density is as quick as it would be alone.

@@ -1,20 +1,29 @@
--- `cell_patterns::find_gaps` meets its contract. Assumes nothing.
+-- `cell_patterns::find_gaps` meets its contract: each density with its numbers. Assumes nothing.
+use mathlib.Core.Path.{refl}
+use Rattle.layouts.specs.Layouts.{doubleDensity, singleDensity}
 use borrow.Author.Needs.{needs}
-use Rattle.layouts.specs.Layouts.{layoutOf}
 use Rattle.cell_patterns.proofs.find_gaps.Statement.{statement}
 use Rattle.cell_patterns.proofs.find_gaps.Tie as tie
 
-fewest-zeros-requires : tie.Need-fewest-zeros-requires
-fewest-zeros-requires c κs = search needs
-
-most-zeros-requires : tie.Need-most-zeros-requires
-most-zeros-requires c κs = search needs
+enum-told : tie.Need-enum-told
+enum-told c = search needs
 
 gaps-between-requires : tie.Need-gaps-between-requires
 gaps-between-requires c κs = search needs
 
+enum-told-2 : tie.Need-enum-told-2
+enum-told-2 c = search needs
+
+gaps-between-requires-2 : tie.Need-gaps-between-requires-2
+gaps-between-requires-2 c κs = search needs
+
 returns : tie.Need-returns
-returns c = c .gaps-between .ensures (layoutOf (c .before .before .before .before .args .density)) (c .before .before .fewest-zeros .ensures) (c .before .most-zeros .ensures)
+unfolding singleDensity
+returns c = rw (c .before .enum-told .given .1) (c .gaps-between .ensures singleDensity refl refl)
+
+returns-2 : tie.Need-returns-2
+unfolding doubleDensity
+returns-2 c = rw (c .before .enum-told2 .given .1) (c .gaps-between2 .ensures doubleDensity refl refl)
 
 pub find-gaps-spec : {M : Type 1} → statement M
-find-gaps-spec = tie.close (tie.spec fewest-zeros-requires most-zeros-requires gaps-between-requires returns)
+find-gaps-spec = tie.close (tie.spec enum-told gaps-between-requires enum-told-2 gaps-between-requires-2 returns returns-2)
