@@ -58,7 +58,14 @@ pub fn syncs_inside(density: Density, bytes: &[u8], n: usize, s: Sector) -> usiz
     ensures { λ r. ⌜ r ≡ syncsInside (layoutOf density) (cell (now (bytes .entry)) n) s ⌝ }
 {
     let layout = layout_of(density);
-    syncs_in(layout.sync, layout.mark_length, layout.id_length, bytes, n, s)
+    syncs_in(
+        layout.sync,
+        layout.mark_length,
+        layout.id_length,
+        bytes,
+        n,
+        s,
+    )
 }
 
 // The same, for marks of `mark` cells and IDs of `id` cells.

@@ -69,11 +69,12 @@ ssz layout s =
       detail = s .«size_code»;
     }
 
--- 7.11: NSI, non-standard ID mark: not FE, so FC, FD or FF. At p, with the mark byte
+-- 7.11, 7.47: NSI, non-standard ID mark: not FE, so FC, FD or FF, which single density has not. At p, with the mark byte
 abbrev pub nsi : Sector → Row
 nsi s = record { holds = not (eqb (s .mark) 0xFE); place = s .place; detail = s .mark }
 
--- 7.12: NSD, non-standard data mark: the sector has data, and its mark is neither F8 nor FB, so F9 or FA. At p, with the mark byte
+-- 7.12, 7.47: NSD, non-standard data mark: the sector has data, and its mark is neither F8 nor FB, so F9 or FA, which single density has
+-- not. At p, with the mark byte
 abbrev pub nsd : Sector → Row
 nsd s =
     record {

@@ -255,14 +255,7 @@ fn length_of(code: u8) -> u32
 }
 
 // Is there data, and is its check good?
-fn data_good(
-    found: bool,
-    layout: Layout,
-    bytes: &[u8],
-    n: usize,
-    q: usize,
-    length: u32,
-) -> bool
+fn data_good(found: bool, layout: Layout, bytes: &[u8], n: usize, q: usize, length: u32) -> bool
     requires { ⌜ Sound layout × (q < 200000) × (length ≤ 1024) ⌝ }
     ensures { λ r. ⌜ r ≡ (found && checkGood layout (cell (now (bytes .entry)) n) q length) ⌝ }
 {

@@ -193,13 +193,7 @@ fn read_sector(
         return ReadOut::Refused(Refusal::NoRoomForBytes(size));
     }
     let mark = mark_length(density);
-    write_data(
-        bytes,
-        n,
-        sector.data_place as usize + mark,
-        size,
-        buffer,
-    );
+    write_data(bytes, n, sector.data_place as usize + mark, size, buffer);
     ReadOut::Data(size, sector.data_check_good)
 }
 

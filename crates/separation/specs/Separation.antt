@@ -55,7 +55,7 @@ borderPulsesOfBy half ts = borderPulsesIn half (windowsOfBy half ts)
 unfoldable pub cellsJudged : ℕ → ℕ → Answer ℕ
 cellsJudged n room = cond (ltb 131072 n) (refused 9 n) (cond (ltb room (bytesFor n)) (refused 10 (bytesFor n)) (gives n))
 
--- 3.22, 9.6, 9.21: the call's answer. The timings are judged by 6, 7 and 8, and then all cells are counted and judged by 9 and 10
+-- 3.22, 9.6, 9.21, 9.48: the call's answer. The timings are judged by 6, 7 and 8, and then all cells are counted and judged by 9 and 10
 abbrev pub separationBy : ℕ → List ℕ → ℕ → Answer ℕ
 separationBy half ts room = timingsJudged ts (cellsJudged (length (cellsOfBy half ts)) room)
 

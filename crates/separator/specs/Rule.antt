@@ -60,7 +60,7 @@ abbrev pub takenAnswer : Taken → Answer ℕ
 takenAnswer (Cells count) = gives count
 takenAnswer (Refused refusal) = refusedWith refusal
 
--- 3.7, 3.8, 3.9, 3.22, 8.8, 9.5: the answer of a step, by value and lent: n, or 8 with index 0 where the timing is out of range
+-- 3.7, 3.8, 3.9, 3.22, 8.8, 9.5, 9.47: the answer of a step, by value and lent: n, or 8 with index 0 where the timing is out of range
 unfoldable pub stepAnswerBy : ℕ → ℤ → ℕ → Answer ℕ
 stepAnswerBy half r t = cond (inRange t) (gives (cellsAt half (usable half r) t)) (refused 8 0)
 

@@ -205,7 +205,16 @@ pub extern "C" fn thikbromu_sector(
     ensures value { λ _. ⌜ now (value .exit) ≡ valueIn (indexAnswer doubleDensity (now (bytes .entry)) n track side index) ⌝ }
     ensures numbers { λ _. ⌜ now (numbers .exit) ≡ recordLent doubleDensity (now (bytes .entry)) n track side index (now (numbers .entry)) ⌝ }
 {
-    sector_told(Density::Double, bytes, n, track, side, index, numbers, value)
+    sector_told(
+        Density::Double,
+        bytes,
+        n,
+        track,
+        side,
+        index,
+        numbers,
+        value,
+    )
 }
 
 // Reads out sector `index` of a track to the front of `buffer`; `value` is the number of bytes, and `good` is 1 where their
@@ -226,7 +235,17 @@ pub extern "C" fn thikbromu_read_out(
     ensures good { λ _. ⌜ now (good .exit) ≡ checkRead (dataAnswer doubleDensity (now (bytes .entry)) n track side index (length (now (buffer .entry)))) (now (good .entry)) ⌝ }
     ensures buffer { λ _. ⌜ now (buffer .exit) ≡ dataAfter doubleDensity (now (bytes .entry)) n track side index (now (buffer .entry)) ⌝ }
 {
-    read_out_told(Density::Double, bytes, n, track, side, index, buffer, good, value)
+    read_out_told(
+        Density::Double,
+        bytes,
+        n,
+        track,
+        side,
+        index,
+        buffer,
+        good,
+        value,
+    )
 }
 
 // The findings of a track, at the front of the list: four numbers for each, its kind, level, place and detail; `value` is the number of
@@ -262,7 +281,10 @@ pub extern "C" fn thikbromu_finding_records(
     ensures value { λ _. ⌜ now (value .exit) ≡ valueIn (findingsAnswer doubleDensity (now (bytes .entry)) n track side (length (now (list .entry)))) ⌝ }
     ensures list { λ _. ⌜ now (list .exit) ≡ listAfter doubleDensity (now (bytes .entry)) n track side (now (list .entry)) ⌝ }
 {
-    told(findings::findings(Density::Double, bytes, n, track, side, list), value)
+    told(
+        findings::findings(Density::Double, bytes, n, track, side, list),
+        value,
+    )
 }
 
 // Sector `index` of a track of either density, told to C.

@@ -73,7 +73,16 @@ pub extern "C" fn thikbromu_fm_sector(
     ensures value { λ _. ⌜ now (value .exit) ≡ valueIn (indexAnswer singleDensity (now (bytes .entry)) n track side index) ⌝ }
     ensures numbers { λ _. ⌜ now (numbers .exit) ≡ recordLent singleDensity (now (bytes .entry)) n track side index (now (numbers .entry)) ⌝ }
 {
-    sector_told(Density::Single, bytes, n, track, side, index, numbers, value)
+    sector_told(
+        Density::Single,
+        bytes,
+        n,
+        track,
+        side,
+        index,
+        numbers,
+        value,
+    )
 }
 
 // As thikbromu_read_out, on a track of single density.
@@ -93,7 +102,17 @@ pub extern "C" fn thikbromu_fm_read_out(
     ensures good { λ _. ⌜ now (good .exit) ≡ checkRead (dataAnswer singleDensity (now (bytes .entry)) n track side index (length (now (buffer .entry)))) (now (good .entry)) ⌝ }
     ensures buffer { λ _. ⌜ now (buffer .exit) ≡ dataAfter singleDensity (now (bytes .entry)) n track side index (now (buffer .entry)) ⌝ }
 {
-    read_out_told(Density::Single, bytes, n, track, side, index, buffer, good, value)
+    read_out_told(
+        Density::Single,
+        bytes,
+        n,
+        track,
+        side,
+        index,
+        buffer,
+        good,
+        value,
+    )
 }
 
 // As thikbromu_findings, on a track of single density.
