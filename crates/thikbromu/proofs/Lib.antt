@@ -1,2 +1,3 @@
+pub mod HandingOn
 mod RevolutionCalls
 pub mod ToldSteps

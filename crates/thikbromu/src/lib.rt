@@ -18,6 +18,7 @@ pub use files::thikbromu_file_listing;
 pub use files::thikbromu_listing;
 use findings::Finding;
 use layouts::Density;
+pub use single_density::thikbromu_fm_finding_records;
 pub use single_density::thikbromu_fm_findings;
 pub use single_density::thikbromu_fm_read_out;
 pub use single_density::thikbromu_fm_sector;

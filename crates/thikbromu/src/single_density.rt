@@ -2,6 +2,7 @@
 use crate::findings_told;
 use crate::read_out_told;
 use crate::sector_told;
+use findings::Finding;
 use layouts::Density;
 use telling::told;
 use telling::told_step;
@@ -12,7 +13,7 @@ ghost use Rattle.layouts.specs.Layouts.{singleDensity};
 ghost use Rattle.separator.specs.Rule.{singleHalfWindow, stepAnswerBy, stepOffsetBy, stepResidualBy};
 ghost use Rattle.separation.specs.Separation.{borderPulsesOfBy, separationBy, separatedCellsBy, borderPulsesAfter};
 ghost use Rattle.sectors.specs.Calls.{indexAnswer, dataAnswer, dataAfter};
-ghost use Rattle.findings.specs.Calls.{findingsAnswer, numbersAfter};
+ghost use Rattle.findings.specs.Calls.{findingsAnswer, listAfter, numbersAfter};
 ghost use Rattle.telling.specs.Numbers.{numberIn, valueIn, offsetStored, valueRead, checkRead};
 ghost use Rattle.thikbromu.specs.Lent.{recordLent};
 
@@ -130,4 +131,21 @@ pub extern "C" fn thikbromu_fm_findings(
     ensures list { λ _. ⌜ now (list .exit) ≡ numbersAfter singleDensity (now (bytes .entry)) n track side (now (list .entry)) ⌝ }
 {
     findings_told(Density::Single, bytes, n, track, side, list, value)
+}
+
+// As thikbromu_finding_records, on a track of single density.
+#[no_mangle]
+pub extern "C" fn thikbromu_fm_finding_records(
+    bytes: &[u8],
+    n: usize,
+    track: u32,
+    side: u32,
+    list: &mut [Finding],
+    value: &mut usize,
+) -> u32
+    ensures number { λ r. ⌜ r ≡ numberIn (findingsAnswer singleDensity (now (bytes .entry)) n track side (length (now (list .entry)))) ⌝ }
+    ensures value { λ _. ⌜ now (value .exit) ≡ valueIn (findingsAnswer singleDensity (now (bytes .entry)) n track side (length (now (list .entry)))) ⌝ }
+    ensures list { λ _. ⌜ now (list .exit) ≡ listAfter singleDensity (now (bytes .entry)) n track side (now (list .entry)) ⌝ }
+{
+    told(findings::findings(Density::Single, bytes, n, track, side, list), value)
 }
