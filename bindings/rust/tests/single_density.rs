@@ -248,27 +248,6 @@ fn the_same_cells_in_double_density() {
 }
 
 #[test]
-fn long_and_short_tracks() {
-    // The standard track, cut in its last gap or with ones behind it.
-    let mut packed = standard();
-    packed.resize(6_500, 0xFF);
-    let kinds = |cells| {
-        let findings = single(&packed, cells).findings().unwrap();
-        findings.iter().map(|finding| (finding.kind, finding.detail)).collect::<Vec<_>>()
-    };
-    assert_eq!(kinds(51_501), [(Kind::Lgt, 51_501)]);
-    assert_eq!(kinds(51_500), []);
-    // The last sector does not end before 49,408, so that eighteen sectors have no room in 48,500 cells.
-    let short = track_of(17, |_| {});
-    let kinds = |cells| {
-        let findings = single(&short, cells).findings().unwrap();
-        findings.iter().map(|finding| (finding.kind, finding.detail)).collect::<Vec<_>>()
-    };
-    assert_eq!(short.len() * 8, 47_264);
-    assert_eq!(kinds(47_264), [(Kind::Sht, 47_264), (Kind::Nos, 17)]);
-}
-
-#[test]
 fn the_limits_of_the_cells() {
     // Ones alone, which are the bytes FF, at track 80.
     let ones = [0xFF; 6_500];
@@ -284,12 +263,18 @@ fn the_limits_of_the_cells() {
 
 #[test]
 fn numbers_of_sectors() {
-    for (count, cells) in [(17, 48_500), (19, 51_500)] {
+    // Nineteen sectors have no room on a track that is not long.
+    for (count, cells, long) in [(17, 48_500, false), (18, 50_000, false), (19, 52_500, true)] {
         let mut packed = track_of(count, |_| {});
-        packed.resize(6_500, 0xFF);
-        let findings = single(&packed, cells).findings().unwrap();
-        // Nineteen sectors end before 51,500 cells do.
-        assert_eq!(findings, [Finding { kind: Kind::Nos, place: 0, detail: count.into() }]);
+        packed.resize(6_563, 0xFF);
+        let mut expected = Vec::new();
+        if long {
+            expected.push(Finding { kind: Kind::Lgt, place: 0, detail: cells as u32 });
+        }
+        if count != 18 {
+            expected.push(Finding { kind: Kind::Nos, place: 0, detail: count.into() });
+        }
+        assert_eq!(single(&packed, cells).findings(), Ok(expected));
     }
 }
 
@@ -325,13 +310,11 @@ fn size_codes() {
     assert_eq!(found(&packed), expected);
     let sector = single(&packed, 50_000).sector(8).unwrap();
     assert_eq!((sector.data_length, sector.end), (256, place + 384 + 16 + 4_096 + 32));
-    // A track of one sector of 1,024 bytes, whose code is 7.
-    let packed = track_of(1, |plan| (plan.id[3], plan.data) = (7, vec![0x11; 1_024]));
-    let track = single(&packed, 8 * packed.len());
-    assert_eq!(track.sector_count(), Ok(1));
-    let refusal = Refusal::CellCount(8 * packed.len());
-    assert!(8 * packed.len() >= FEWEST_CELLS, "{refusal}");
-    assert_eq!(track.read_out_to_vec(0), Ok(SectorData { bytes: vec![0x11; 1_024], check_good: true }));
+    // A sector of 1,024 bytes, whose code is 7.
+    let mut packed = track_of(1, |plan| (plan.id[3], plan.data) = (7, vec![0x11; 1_024]));
+    packed.resize(2_500, 0xFF);
+    let data = single(&packed, FEWEST_CELLS).read_out_to_vec(0);
+    assert_eq!(data, Ok(SectorData { bytes: vec![0x11; 1_024], check_good: true }));
 }
 
 #[test]
