@@ -248,7 +248,7 @@ uint32_t thikbromu_finding_records(const uint8_t *bytes, size_t length, size_t n
  *   a data mark is looked for from there to p + 576. A check begins with the mark's own byte;
  * - LGT has more than 51,500 cells and SHT less than 48,500, NOS other than 18 sectors, SSZ a size code other than 0, which is that of 128
  *   bytes. SID counts the word F57E, and MTV the distances other than 1 and 2. NSI and NSD do not occur.
- * The listings of tracks, files and blocks are those of double density alone.
+ * Listings are those of double density alone, and so are the cells that thikbromu_file_cells and thikbromu_revolution_cells make of timings.
  */
 
 /* As thikbromu_step. */

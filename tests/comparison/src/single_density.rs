@@ -73,7 +73,7 @@ pub fn standard(report: &mut Report) {
         }
         packed_track(&SINGLE, &mut group, &mut seen, (&track.bytes, track.n), (3, 1));
     }
-    // The data goes over the index at every place of it but its first cell, and lies behind the index at every place before it.
+    // The data mark is at or behind the index at 384 of its places, and the 2,096 cells of the data go over it at all but one.
     group.same((seen[16], seen[17]), (2_095, 384), || "how often DOI and DBI were reached".to_string());
     group.close(report);
 }
