@@ -9,7 +9,7 @@ use native.Mathlib.Omega.{arith}
 use lib.Dec.{eqb, ltb, leb}
 use borrow.Author.Tests.{eq-eqb, ne-eqb, lt-ltb, le-ltb, ltb-true, ltb-false, leb-true, leb-false}
 use Rattle.basis.specs.Search.{least, count, most}
-use Rattle.basis.proofs.Search.{least-low, least-high, least-grows, least-longer, least-round, most-above}
+use Rattle.basis.proofs.Search.{least-low, least-high, least-same, least-grows, least-longer, least-round, most-above}
 use Rattle.cells.specs.CellsAndBytes.{cellAt, cell}
 use Rattle.cells.proofs.Places.{cell-low, cell-round}
 use Rattle.layouts.specs.declared.Layout.{Layout}
@@ -166,6 +166,46 @@ module _ (layout : Layout) (f : ℕ → ℕ) (n : ℕ) where
       let v : violations ≡ count (violation layout f n) n 0 = rw (e, k) at (r .violations-are) in
       let o : first ≡ least (violation layout f n) n 0 = rw (e, k) at (r .first-is) in
       rw (l, s, v, o)
+
+-- some layout with so many zeros between ones: of a layout, gaps take nothing else
+abbrev pub between : (fewest most : ℕ) → Layout
+between fewest most =
+    record {
+      density = 0;
+      «mark_length» = 0;
+      «byte_place» = 0;
+      «id_length» = 0;
+      reach = 0;
+      «check_start» = 0;
+      sync = 0;
+      «fewest_cells» = 0;
+      «most_cells» = 0;
+      «fewest_sectors» = 0;
+      «most_sectors» = 0;
+      «size_code» = 0;
+      «other_size_code» = 0;
+      nearest = fewest + 1;
+      farthest = most + 1;
+    }
+
+-- two tests that agree count the same
+count-same : (test other : ℕ → Bool) → ((q : ℕ) → test q ≡ other q) → (k p : ℕ) → count test k p ≡ count other k p
+unfolding count
+count-same test other same zero p = refl
+count-same test other same (suc k) p = rw (same p, count-same test other same k (p + 1))
+
+module _ (fewest most : ℕ) (layout : Layout) (near : fewest + 1 ≡ layout .nearest) (far : most + 1 ≡ layout .farthest) (f : ℕ → ℕ) (n : ℕ) where
+  same-violation : (p : ℕ) → violation (between fewest most) f n p ≡ violation layout f n p
+  unfolding violation
+  same-violation p = rw (← near, ← far)
+
+  pub same-gaps : gapsOf (between fewest most) f n ≡ gapsOf layout f n
+  unfolding gapsOf
+  same-gaps =
+      rw (
+        least-same (violation (between fewest most) f n) (violation layout f n) same-violation n 0,
+        count-same (violation (between fewest most) f n) (violation layout f n) same-violation n 0,
+      )
 
 one-again : (bytes : List ℕ) (n p : ℕ) → isOne (cell bytes n) (p + n) ≡ isOne (cell bytes n) p
 unfolding isOne

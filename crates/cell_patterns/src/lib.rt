@@ -11,6 +11,7 @@ ghost use lib.Dec.{ltb};
 ghost use Rattle.basis.specs.Search.{least};
 ghost use Rattle.cells.specs.CellsAndBytes.{cell};
 ghost use Rattle.layouts.specs.Layouts.{layoutOf};
+ghost use Rattle.layouts.specs.declared.Layout.{Layout};
 ghost use Rattle.sector_records.specs.Sectors.{hasData};
 ghost use Rattle.cell_patterns.specs.Cells.{isOne, gapsOf, syncsBetween, syncsInside};
 
@@ -27,6 +28,13 @@ pub struct Gaps {
 pub fn find_gaps(density: Density, bytes: &[u8], n: usize) -> Gaps
     ensures { λ r. ⌜ r ≡ gapsOf (layoutOf density) (cell (now (bytes .entry)) n) n ⌝ }
 {
+    gaps_between(fewest_zeros(density), most_zeros(density), bytes, n)
+}
+
+// The same for a density with so many zeros between ones, fewest and most.
+fn gaps_between(fewest: usize, most: usize, bytes: &[u8], n: usize) -> Gaps
+    ensures { λ r. ⌜ ((layout : Layout) → fewest + 1 ≡ layout .nearest → most + 1 ≡ layout .farthest → r ≡ gapsOf layout (cell (now (bytes .entry)) n) n) ⌝ }
+{
     let mut zeros = zeros_at_start(bytes, n);
     let mut violations: usize = 0;
     let mut first = n;
@@ -36,7 +44,7 @@ pub fn find_gaps(density: Density, bytes: &[u8], n: usize) -> Gaps
     while 0 < p {
         p -= 1;
         let one = cells::cell_at(bytes, p) == 1;
-        let violation = one & unlawful(density, zeros);
+        let violation = one & unlawful(fewest, most, zeros);
         violations += one_if(violation);
         first = chosen(violation, p, first);
         let more = zeros + one_if(zeros < n);
@@ -89,22 +97,45 @@ fn wide(place: u32) -> usize
 }
 
 // In double density a next one 2, 3 or 4 cells on leaves 1 to 3 zeros between the two; in single density one that is 1 or 2 cells on leaves
-// 1 at most.
+// 0 or 1.
 const FEWEST_ZEROS: usize = 1;
 
 const MOST_ZEROS: usize = 3;
 
+const FEWEST_ZEROS_OF_SINGLE_DENSITY: usize = 0;
+
 const MOST_ZEROS_OF_SINGLE_DENSITY: usize = 1;
 
-// Is the next one after so many zeros too near or too far? Each density has its numbers here, so that the compiler knows them in the loop
-// that asks.
-fn unlawful(density: Density, zeros: usize) -> bool
-    ensures { λ r. ⌜ r ≡ (ltb (zeros + 1) (layoutOf density .nearest) || ltb (layoutOf density .farthest) (zeros + 1)) ⌝ }
+// The fewest and the most zeros between a one and its next one.
+fn fewest_zeros(density: Density) -> usize
+    ensures { λ r. ⌜ r + 1 ≡ layoutOf density .nearest ⌝ }
 {
     match density {
-        Density::Single => MOST_ZEROS_OF_SINGLE_DENSITY < zeros,
-        Density::Double => (zeros < FEWEST_ZEROS) | (MOST_ZEROS < zeros),
+        Density::Single => FEWEST_ZEROS_OF_SINGLE_DENSITY,
+        Density::Double => FEWEST_ZEROS,
     }
+}
+
+fn most_zeros(density: Density) -> usize
+    ensures { λ r. ⌜ r + 1 ≡ layoutOf density .farthest ⌝ }
+{
+    match density {
+        Density::Single => MOST_ZEROS_OF_SINGLE_DENSITY,
+        Density::Double => MOST_ZEROS,
+    }
+}
+
+// Is the next one after so many zeros too near or too far? Double density is a case of its own, with numbers that the compiler knows: it then
+// makes two loops of the one that asks, and the one for double density is as quick as it would be alone.
+fn unlawful(fewest: usize, most: usize, zeros: usize) -> bool
+    ensures { λ r. ⌜ r ≡ (ltb (zeros + 1) (fewest + 1) || ltb (most + 1) (zeros + 1)) ⌝ }
+{
+    if fewest == FEWEST_ZEROS {
+        if most == MOST_ZEROS {
+            return (zeros < FEWEST_ZEROS) | (MOST_ZEROS < zeros);
+        }
+    }
+    (zeros < fewest) | (most < zeros)
 }
 
 // One of two numbers, without a branch in the loop that asks.

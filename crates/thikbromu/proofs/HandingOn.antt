@@ -1,7 +1,7 @@
 -- What the exports of finding records share: their signature, their contract and their MIR over the density, and a walk of that MIR, by hand. The density is made. The list's borrow is handed to `findings` for good, and the value's to `told`, each at its own lifetime, share and ghost name: what the callee says of the last value is said of the caller's.
 -- All that the proof knows of `findings` and of `told` is that each meets its contract. An export's own proof says only that its code and its contract are these, at its density.
 -- Assumes nothing.
-use mathlib.Core.Path.{_≡_, refl, _∙_, ap}
+use mathlib.Core.Path.{_≡_, refl, sym, _∙_, ap, subst}
 use Prim.Native.Nat.{ℕ, _<_, _^_}
 use mathlib.Core.List.{[], _∷_, List}
 use lib.Dec.{T as Holds, ltb, lit<}
@@ -104,9 +104,9 @@ function density = record {
   outlives = [];
   params = 6;
   locals =
-    local half valueLocal ∷ local (sliceTy (tyRef (named 0) imm (tyInt w8))) valueLocal ∷ local word valueLocal ∷ local half valueLocal ∷ local half valueLocal
-    ∷ local (sliceTy (tyRef (named 1) mut (pointee (R .written)))) valueLocal ∷ local (tyRef (named 2) mut word) valueLocal ∷ local N′.mir valueLocal ∷ local D′.mir valueLocal
-    ∷ local (tyRef erased mut (pointee (R .written))) valueLocal ∷ local (sliceTy (tyRef erased mut (pointee (R .written)))) valueLocal ∷ local (tyRef erased mut word) valueLocal ∷ [];
+      local half valueLocal ∷ local (sliceTy (tyRef (named 0) imm (tyInt w8))) valueLocal ∷ local word valueLocal ∷ local half valueLocal ∷ local half valueLocal
+      ∷ local (sliceTy (tyRef (named 1) mut (pointee (R .written)))) valueLocal ∷ local (tyRef (named 2) mut word) valueLocal ∷ local N′.mir valueLocal ∷ local D′.mir valueLocal
+      ∷ local (tyRef erased mut (pointee (R .written))) valueLocal ∷ local (sliceTy (tyRef erased mut (pointee (R .written)))) valueLocal ∷ local (tyRef erased mut word) valueLocal ∷ [];
   body = body density;
 }
 
@@ -138,13 +138,14 @@ says-three {𝓤 = 𝓤} t {φ} {ψ} {χ} {P} x y z =
 
 -- ---- the contract
 abbrev pub clauses : {M : Type 1} (𝓤 : URA M) → Density → Clauses 𝓤 ended
-clauses 𝓤 density κs a = record {
-  ghost = Unit {0};
-  requires = λ _. emp 𝓤;
-  ensures = λ _ r e. sep 𝓤 (fact 𝓤 (r ≡ numberIn (findingsAnswer (layoutOf density) (a .0 .now) (a .1 .0) (a .1 .1 .0) (a .1 .1 .1 .0) (length (a .1 .1 .1 .1 .0 .now)))))
-    (sep 𝓤 (fact 𝓤 (e .1 .1 .1 .1 .1 .0 .now ≡ valueIn (findingsAnswer (layoutOf density) (a .0 .now) (a .1 .0) (a .1 .1 .0) (a .1 .1 .1 .0) (length (a .1 .1 .1 .1 .0 .now)))))
-    (fact 𝓤 (e .1 .1 .1 .1 .0 .now ≡ listAfter (layoutOf density) (a .0 .now) (a .1 .0) (a .1 .1 .0) (a .1 .1 .1 .0) (a .1 .1 .1 .1 .0 .now))));
-}
+clauses 𝓤 density κs a =
+    let answer = findingsAnswer (layoutOf density) (a .0 .now) (a .1 .0) (a .1 .1 .0) (a .1 .1 .1 .0) (length (a .1 .1 .1 .1 .0 .now)) in
+    record {
+      ghost = Unit {0};
+      requires = λ _. emp 𝓤;
+      ensures = λ _ r e. sep 𝓤 (fact 𝓤 (r ≡ numberIn answer)) (sep 𝓤 (fact 𝓤 (e .1 .1 .1 .1 .1 .0 .now ≡ valueIn answer))
+          (fact 𝓤 (e .1 .1 .1 .1 .0 .now ≡ listAfter (layoutOf density) (a .0 .now) (a .1 .0) (a .1 .1 .0) (a .1 .1 .1 .0) (a .1 .1 .1 .1 .0 .now))));
+    }
 
 module _ {M : Type 1} (𝓤 : URA M) (H : Heap 𝓤) (A : Atoms 𝓤) (at-mem : Memory → SProp 𝓤) (run : Routine → Fun 𝓤) where
   -- the contracts that the proof cites
@@ -309,11 +310,17 @@ module _ {M : Type 1} (𝓤 : URA M) (H : Heap 𝓤) (A : Atoms 𝓤) (W : Given
       walk-meets 𝓤 H A ended stayed W goes (clauses 𝓤 density) (WpFn 𝓤 H (𝓣 .C) (𝓣 .Λ) (function density)) (WpFn-mono 𝓤 H (W .laws) 𝓣 (function density))
       (records-walk (𝓣 .C) (𝓣 .Λ) (fmOf 𝓤 H (W .laws) 𝓣) known-findings known-told)
 
--- in a program that has `findings` and `told`, the code at a density meets the contract at that density
-pub handed-on : {M : Type 1} (𝓤 : URA M) (H : Heap 𝓤) (𝓜 : Model 𝓤 H) (𝓖 : GhostRules 𝓤 H) (𝓡 : Running 𝓤 H 𝓜) (density : Density) (env : Env) → env #findings ≡ findings-def.routine → env #told ≡ told-def.routine
-    → Meets 𝓤 H (𝓖 .A) (ended .signature) (WpFn 𝓤 H (tables 𝓤 H 𝓜 𝓡 env .C) (tables 𝓤 H 𝓜 𝓡 env .Λ) (function density)) (closing 𝓤 H (𝓖 .A) ended (clauses 𝓤 density))
-unfolding tablesOf
-handed-on 𝓤 H 𝓜 𝓖 𝓡 density env calls-findings calls-told =
-    records-meet 𝓤 H (𝓖 .A) (givenOf 𝓤 H 𝓜 𝓖) (𝓜 .mem) (𝓡 .run) density (tablesOf 𝓤 H 𝓜 (tables 𝓤 H 𝓜 𝓡 env))
-    (cited 𝓤 H (Findings 𝓤 H (𝓖 .A) (𝓜 .mem) (𝓡 .run)) 𝓜 𝓡 env #findings findings-def.routine calls-findings (findings-thm.met 𝓤 H 𝓜 𝓖 𝓡))
-    (cited 𝓤 H (Told 𝓤 H (𝓖 .A) (𝓜 .mem) (𝓡 .run)) 𝓜 𝓡 env #told told-def.routine calls-told (told-thm.met 𝓤 H 𝓜 𝓖 𝓡))
+-- an export whose code and whose contract are these at a density meets its contract, in a program that has `findings` and `told`
+module _ {M : Type 1} (𝓤 : URA M) (H : Heap 𝓤) (𝓜 : Model 𝓤 H) (𝓖 : GhostRules 𝓤 H) (𝓡 : Running 𝓤 H 𝓜) (env : Env) (calls-findings : env #findings ≡ findings-def.routine) (calls-told : env #told ≡ told-def.routine) where
+  abbrev Met : Fn → Clauses 𝓤 ended → Type 1
+  Met f c = Meets 𝓤 H (𝓖 .A) (ended .signature) (WpFn 𝓤 H (tables 𝓤 H 𝓜 𝓡 env .C) (tables 𝓤 H 𝓜 𝓡 env .Λ) f) (closing 𝓤 H (𝓖 .A) ended c)
+
+  met : (density : Density) → Met (function density) (clauses 𝓤 density)
+  unfolding tablesOf
+  met density =
+      records-meet 𝓤 H (𝓖 .A) (givenOf 𝓤 H 𝓜 𝓖) (𝓜 .mem) (𝓡 .run) density (tablesOf 𝓤 H 𝓜 (tables 𝓤 H 𝓜 𝓡 env))
+      (cited 𝓤 H (Findings 𝓤 H (𝓖 .A) (𝓜 .mem) (𝓡 .run)) 𝓜 𝓡 env #findings findings-def.routine calls-findings (findings-thm.met 𝓤 H 𝓜 𝓖 𝓡))
+      (cited 𝓤 H (Told 𝓤 H (𝓖 .A) (𝓜 .mem) (𝓡 .run)) 𝓜 𝓡 env #told told-def.routine calls-told (told-thm.met 𝓤 H 𝓜 𝓖 𝓡))
+
+  pub handed-on : (density : Density) (f : Fn) → f ≡ function density → (c : Clauses 𝓤 ended) → c ≡ clauses 𝓤 density → Met f c
+  handed-on density f coded c promised = subst (λ g. Met g c) (sym coded) (subst (Met (function density)) (sym promised) (met density))

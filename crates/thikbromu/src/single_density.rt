@@ -147,5 +147,8 @@ pub extern "C" fn thikbromu_fm_finding_records(
     ensures value { λ _. ⌜ now (value .exit) ≡ valueIn (findingsAnswer singleDensity (now (bytes .entry)) n track side (length (now (list .entry)))) ⌝ }
     ensures list { λ _. ⌜ now (list .exit) ≡ listAfter singleDensity (now (bytes .entry)) n track side (now (list .entry)) ⌝ }
 {
-    told(findings::findings(Density::Single, bytes, n, track, side, list), value)
+    told(
+        findings::findings(Density::Single, bytes, n, track, side, list),
+        value,
+    )
 }
