@@ -73,7 +73,8 @@ enum thikbromu_refusal {
 };
 
 /* The kinds of findings by their numbers, with their levels: rule 7.K is that of kind K. T is the track of the drive, N how many cells
- * there are, p the place of a sector, q that of its data mark. The finding's place is 0 for kinds 1 to 5 and p for kinds 6 to 19. */
+ * there are, p the place of a sector, q that of its data mark. The finding's place is 0 for kinds 1 to 5 and p for kinds 6 to 19. The
+ * numbers of LGT, SHT, NOS, SSZ, SID and MTV are those of double density; the routines of single density below have others. */
 enum thikbromu_kind {
     THIKBROMU_KIND_LGT = 1,   /* level 1: N is more than 103,000; detail: N */
     THIKBROMU_KIND_SHT = 2,   /* level 1: N is less than 97,000; detail: N */
@@ -110,18 +111,18 @@ struct thikbromu_finding {
 /* Where what stands among the thirteen numbers of a sector's record (rules 6.16 and 9.34). */
 enum thikbromu_sector_number {
     THIKBROMU_SECTOR_PLACE = 0,            /* p, the cell of the ID mark, 0 to N-1 */
-    THIKBROMU_SECTOR_MARK = 1,             /* the byte of the ID mark, FC to FF */
+    THIKBROMU_SECTOR_MARK = 1,             /* the byte of the ID mark, FC to FF; in single density FE */
     THIKBROMU_SECTOR_TRACK = 2,            /* the ID's track, */
     THIKBROMU_SECTOR_SIDE = 3,             /* side, */
     THIKBROMU_SECTOR_NUMBER = 4,           /* number */
     THIKBROMU_SECTOR_SIZE_CODE = 5,        /* and size code */
     THIKBROMU_SECTOR_ID_CHECK_GOOD = 6,    /* 1 where the ID check is good, else 0 */
     THIKBROMU_SECTOR_DATA_PLACE = 7,       /* q, the cell of the data mark, perhaps N or more; 0 where none is found */
-    THIKBROMU_SECTOR_DATA_MARK = 8,        /* the byte of the data mark, F8 to FB; 0 where none is found */
+    THIKBROMU_SECTOR_DATA_MARK = 8,        /* the byte of the data mark, F8 to FB, in single density FB or F8; 0 where none is found */
     THIKBROMU_SECTOR_DATA_LENGTH = 9,      /* L, how many data bytes; 0 where there is no data */
     THIKBROMU_SECTOR_DATA_CHECK_GOOD = 10, /* 1 where the data check is good; 0 where it is bad or there is no data */
     THIKBROMU_SECTOR_END = 11,             /* the cell where the data with its check bytes ends, perhaps N or more; 0 where there is no data */
-    THIKBROMU_SECTOR_DENSITY = 12          /* 2, which is MFM */
+    THIKBROMU_SECTOR_DENSITY = 12          /* 1 for single density, FM; 2 for double density, MFM */
 };
 
 /*
@@ -160,8 +161,8 @@ uint32_t thikbromu_encode(const uint8_t *bytes, size_t length, bool before, uint
 uint32_t thikbromu_decode(const uint8_t *cells, size_t length, uint8_t *bytes, size_t room, size_t *value);
 
 /*
- * The separator, from timings in nanoseconds to cells (rules 3.1 to 3.14). Its state is the residual r, which is 0 before the first timing.
- * An r below -500 or above 499 counts as 0.
+ * The separator of double density, from timings in nanoseconds to cells (rules 3.1 to 3.14). Its state is the residual r, which is 0 before
+ * the first timing. An r below -500 or above 499 counts as 0.
  */
 
 /* One step (rules 9.5 and 9.37) on a residual that the caller lends: it becomes the next one. Gives the number of cells, of which the last is
@@ -214,7 +215,8 @@ uint32_t thikbromu_revolution_cells(const uint8_t *block, size_t length, uint32_
                                     size_t room, size_t *border_pulses, size_t *value);
 
 /*
- * A track: n cells in `bytes`; `track` and `side` are the drive's, T and H. Bytes after those that the cells need are not looked at.
+ * A track of double density, MFM: n cells in `bytes`; `track` and `side` are the drive's, T and H. Bytes after those that the cells need are
+ * not looked at.
  */
 
 /* A sector (rules 6.5 and 9.2). `index` counts from 0, in the order of their places. Its record goes to the front of `numbers`, thirteen as
@@ -236,6 +238,40 @@ uint32_t thikbromu_findings(const uint8_t *bytes, size_t length, size_t n, uint3
 /* The same in records; `room` counts records. */
 uint32_t thikbromu_finding_records(const uint8_t *bytes, size_t length, size_t n, uint32_t track, uint32_t side,
                                    struct thikbromu_finding *list, size_t room, size_t *value);
+
+/*
+ * Single density, FM, as 8-bit Atari drives write it (rules 3.19 to 3.22, 6.20 to 6.26, 7.44 to 7.47 and 9.41 to 9.48). Each routine takes,
+ * gives and refuses what the routine without `fm` in its name does; the same cells may be read by both. What differs:
+ * - a cell has 4,000 ns. The residual is -1000 to 999, and another counts as 0. A border pulse has an offset of -1804 or less or of 1804 or
+ *   more. The tolerance of section 4 is not claimed;
+ * - a mark is one word of 16 cells: F57E for an ID, F56F for data (its byte is FB), F56A for deleted data (F8). The ID ends at p + 112, and
+ *   a data mark is looked for from there to p + 576. A check begins with the mark's own byte;
+ * - LGT has more than 51,500 cells and SHT less than 48,500, NOS other than 18 sectors, SSZ a size code other than 0, which is that of 128
+ *   bytes. SID counts the word F57E, and MTV the distances other than 1 and 2. NSI and NSD do not occur.
+ * Listings are those of double density alone, and so are the cells that thikbromu_file_cells and thikbromu_revolution_cells make of timings.
+ */
+
+/* As thikbromu_step. */
+uint32_t thikbromu_fm_step(int32_t *residual, uint32_t timing, int32_t *offset, size_t *value);
+
+/* As thikbromu_separate. */
+uint32_t thikbromu_fm_separate(const uint32_t *timings, size_t length, uint8_t *cells, size_t room, size_t *border_pulses, size_t *value);
+
+/* As thikbromu_sector; the density in the record is 1. */
+uint32_t thikbromu_fm_sector(const uint8_t *bytes, size_t length, size_t n, uint32_t track, uint32_t side, size_t index, uint32_t *numbers,
+                             size_t room, size_t *value);
+
+/* As thikbromu_read_out. */
+uint32_t thikbromu_fm_read_out(const uint8_t *bytes, size_t length, size_t n, uint32_t track, uint32_t side, size_t index, uint8_t *buffer,
+                               size_t room, uint32_t *good, size_t *value);
+
+/* As thikbromu_findings. */
+uint32_t thikbromu_fm_findings(const uint8_t *bytes, size_t length, size_t n, uint32_t track, uint32_t side, uint32_t *list, size_t room,
+                               size_t *value);
+
+/* As thikbromu_finding_records. */
+uint32_t thikbromu_fm_finding_records(const uint8_t *bytes, size_t length, size_t n, uint32_t track, uint32_t side,
+                                      struct thikbromu_finding *list, size_t room, size_t *value);
 
 /*
  * A track file, whole in memory (rules 10.1 to 10.3): the number 2, the track and the side; how many cells there are, and these, packed; how

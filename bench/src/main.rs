@@ -16,6 +16,7 @@ use second_program::check_word;
 use second_program::findings;
 use second_program::listing::listing;
 use second_program::separator::{self, SeparatorState};
+use second_program::single_density;
 use second_program::track_block;
 use second_program::track_file;
 use second_program::{cells, mfm, sectors};
@@ -29,6 +30,8 @@ use test_inputs::block_inputs::standard_track_block;
 use test_inputs::file_inputs::{file_of_cells, file_of_timings};
 use test_inputs::flux_inputs::{flux_track, timings_of_cells, Choice};
 use test_inputs::random::Random;
+use test_inputs::single_density_flux::fm_timings_of_cells;
+use test_inputs::single_density_tracks::standard_fm_track;
 use test_inputs::track_builder::{standard_track, SectorPlan, TrackBuilder};
 use thikbromu::boundary::{self, FINDING_NUMBERS, PLACE_NUMBERS, SECTOR_NUMBERS};
 use thikbromu::{
@@ -273,6 +276,39 @@ fn listing_sectors(name: &str, bytes: &[u8], n: usize) {
     );
 }
 
+/// The standard track of single density: from its timings to cells, its sectors, its findings.
+fn tracks_of_single_density() {
+    let track_cells = standard_fm_track(0, 0, 0xE5);
+    let (bytes, n) = (cells::pack(&track_cells), track_cells.len());
+    let timings = fm_timings_of_cells(&track_cells);
+    let count = timings.len();
+    let mut packed = vec![0; MOST_CELL_BYTES];
+    let mut border_pulses = 0;
+    row(
+        &format!("separator of single density, {count} timings in one call"),
+        (21, 10),
+        Some((count, "timings")),
+        || boundary::fm_separate(black_box(&timings), &mut packed, &mut border_pulses),
+        || single_density::separate(black_box(&timings), MOST_CELL_BYTES),
+    );
+    let mut numbers = [0; SECTOR_NUMBERS];
+    row(
+        &format!("sector list of single density, 18 sectors, {n} cells"),
+        (21, 10),
+        Some((1, "tracks")),
+        || boundary::fm_sector(black_box(&bytes), n, 0, 0, 0, &mut numbers),
+        || single_density::list(black_box(&bytes), n),
+    );
+    let mut list = [0; FINDING_NUMBERS * MOST_FINDINGS];
+    row(
+        &format!("findings of single density, 18 sectors, {n} cells"),
+        (21, 10),
+        Some((1, "tracks")),
+        || boundary::fm_findings(black_box(&bytes), n, 0, 0, &mut list),
+        || single_density::findings(0, 0, black_box(&bytes), n, MOST_FINDINGS),
+    );
+}
+
 /// The cells and the listing of a whole file that is in memory, without a process of its own.
 fn file_in_memory(name: &str, file: &[u8]) {
     let mut packed = [0; MOST_CELL_BYTES];
@@ -384,6 +420,7 @@ fn main() {
     }
     let any: Vec<u8> = (0..12_500).map(|_| random.byte()).collect();
     listing_sectors("random cells", &any, 100_000);
+    tracks_of_single_density();
     whole_files();
     whole_block();
 }

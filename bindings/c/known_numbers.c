@@ -1,6 +1,6 @@
 /*
- * The numbers that docs/SPECIFICATION.md gives to know (rules 1.17, 2.4, 3.13, 3.14, 6.19 and 11.10), and a small track block, through
- * include/thikbromu.h: every routine is called, and every refusal is given.
+ * The numbers that docs/SPECIFICATION.md gives to know (rules 1.17, 2.4, 3.13, 3.14, 6.19 and 11.10), a small track block, and a track of
+ * single density, through include/thikbromu.h: every routine is called, and every refusal is given.
  * The argument is samples/standard.track. It compiles as C99 and as C++.
  */
 #include "thikbromu.h"
@@ -387,6 +387,203 @@ static void test_too_many_sectors(void)
     REFUSES(thikbromu_findings(room, 65 * 40, 65 * 320, 0, 0, numbers, 4, &value), TOO_MANY_SECTORS, 65);
 }
 
+/* The standard track of single density has 50,000 cells: 20 bytes FF, 18 sectors, 27 bytes FF. */
+#define SINGLE_CELLS 50000
+#define SINGLE_BYTES 6250
+/* Where its first sector stands, from one to the next, and from a sector to its data mark. */
+#define SINGLE_FIRST 416
+#define SINGLE_RECORD 2736
+#define SINGLE_TO_DATA 384
+
+/* Writes bytes in FM, with a clock of 1 before each bit, and gives where the next go. */
+static uint8_t *write_fm(uint8_t *to, const uint8_t *bytes, size_t count)
+{
+    for (size_t i = 0; i < count; i++) {
+        uint32_t cells = 0xAAAA;
+        for (unsigned bit = 0; bit < 8; bit++) {
+            cells |= ((uint32_t)bytes[i] >> bit & 1) << 2 * bit;
+        }
+        *to++ = (uint8_t)(cells >> 8);
+        *to++ = (uint8_t)(cells & 0xFF);
+    }
+    return to;
+}
+
+/* The same byte, so many times. */
+static uint8_t *repeat_fm(uint8_t *to, uint8_t byte, size_t count)
+{
+    for (size_t i = 0; i < count; i++) {
+        to = write_fm(to, &byte, 1);
+    }
+    return to;
+}
+
+/* A mark by its cells, and what follows its byte, which stands first in `bytes`; then the check of all. */
+static uint8_t *write_marked(uint8_t *to, uint32_t mark, const uint8_t *bytes, size_t count)
+{
+    uint16_t check = thikbromu_check_word(bytes, count);
+    const uint8_t check_bytes[2] = {(uint8_t)(check >> 8), (uint8_t)(check & 0xFF)};
+    *to++ = (uint8_t)(mark >> 8);
+    *to++ = (uint8_t)(mark & 0xFF);
+    to = write_fm(to, bytes + 1, count - 1);
+    return write_fm(to, check_bytes, 2);
+}
+
+/* The standard track, at track 2 and side 0, with every data byte 11. The data of its fourth sector is marked as deleted. */
+static void write_single_track(uint8_t *cells)
+{
+    uint8_t *to = repeat_fm(cells, 0xFF, 20);
+    for (uint8_t number = 1; number <= 18; number++) {
+        const uint8_t id[5] = {0xFE, 2, 0, number, 0};
+        uint8_t data[129];
+        memset(data, 0x11, sizeof data);
+        data[0] = number == 4 ? 0xF8 : 0xFB;
+        to = repeat_fm(to, 0x00, 6);
+        to = write_marked(to, 0xF57E, id, sizeof id);
+        to = repeat_fm(to, 0xFF, 11);
+        to = repeat_fm(to, 0x00, 6);
+        to = write_marked(to, number == 4 ? 0xF56A : 0xF56F, data, sizeof data);
+        to = repeat_fm(to, 0xFF, 10);
+    }
+    to = repeat_fm(to, 0xFF, 27);
+    EXPECT(to == cells + SINGLE_BYTES);
+}
+
+/* A step of single density: its cells, its offset, and the next residual. */
+static void test_single_step(int32_t residual, uint32_t timing, size_t cells, int32_t e, int32_t after)
+{
+    int32_t offset = 7;
+    GIVES(thikbromu_fm_step(&residual, timing, &offset, &value), cells);
+    EXPECT(offset == e);
+    EXPECT(residual == after);
+}
+
+static void test_single_separator(void)
+{
+    test_single_step(0, 9800, 2, 1800, 900);
+    test_single_step(900, 8000, 2, 900, 450);
+    test_single_step(0, 9999, 2, 1999, 999);
+    test_single_step(0, 10000, 3, -2000, -1000);
+    test_single_step(-1000, 10000, 2, 1000, 500);
+    test_single_step(0, 10001, 3, -1999, -999);
+    test_single_step(0, 1000, 0, 1000, 500);
+    test_single_step(500, 7000, 2, -500, -250);
+    test_single_step(0, 10000000, 2500, 0, 0);
+    test_single_step(999, 8000, 2, 999, 499);
+    test_single_step(1000, 9800, 2, 1800, 900);
+    test_single_step(-1001, 9800, 2, 1800, 900);
+    int32_t residual = 3;
+    int32_t offset = 7;
+    REFUSES(thikbromu_fm_step(&residual, 0, &offset, &value), TIMING_OUT_OF_RANGE, 0);
+    EXPECT(residual == 3 && offset == 7);
+
+    /* A window's border, an offset of 1804 ns at the end of a window and at its beginning, and just within both. */
+    const uint32_t two[2] = {10000, 10000};
+    const uint32_t late[2] = {9804, 8902};
+    const uint32_t early[1] = {10196};
+    const uint32_t within[2] = {9803, 9294};
+    uint8_t cells[2] = {7, 7};
+    size_t border_pulses = 7;
+    GIVES(thikbromu_fm_separate(two, 2, cells, 2, &border_pulses, &value), 5);
+    EXPECT(border_pulses == 1 && cells[0] == 0x28 && cells[1] == 7);
+    GIVES(thikbromu_fm_separate(late, 2, cells, 2, &border_pulses, &value), 4);
+    EXPECT(border_pulses == 2 && cells[0] == 0x50 && cells[1] == 7);
+    GIVES(thikbromu_fm_separate(early, 1, cells, 2, &border_pulses, &value), 3);
+    EXPECT(border_pulses == 1 && cells[0] == 0x20);
+    /* The second offset is 9294 + 901 - 3 * 4000, which is -1805. */
+    GIVES(thikbromu_fm_separate(within, 2, cells, 2, &border_pulses, &value), 5);
+    EXPECT(border_pulses == 1 && cells[0] == 0x48);
+    GIVES(thikbromu_fm_separate(within, 1, cells, 2, &border_pulses, &value), 2);
+    EXPECT(border_pulses == 0);
+    border_pulses = 7;
+    cells[0] = 7;
+    REFUSES(thikbromu_fm_separate(two, 0, cells, 2, &border_pulses, &value), NO_TIMINGS, 0);
+    REFUSES(thikbromu_fm_separate(two, 2, cells, 0, &border_pulses, &value), NO_ROOM, 1);
+    EXPECT(border_pulses == 7 && cells[0] == 7);
+}
+
+static void test_single_track(void)
+{
+    uint32_t sector[THIKBROMU_SECTOR_NUMBERS];
+    write_single_track(room);
+    for (size_t index = 0; index < 18; index++) {
+        uint32_t place = SINGLE_FIRST + SINGLE_RECORD * (uint32_t)index;
+        uint32_t data_place = place + SINGLE_TO_DATA;
+        const uint32_t expected[THIKBROMU_SECTOR_NUMBERS] = {
+            place, 0xFE, 2, 0, (uint32_t)index + 1, 0, 1, data_place, index == 3 ? 0xF8u : 0xFBu, 128, 1, data_place + 16 + 16 * 128 + 32, 1};
+        GIVES(thikbromu_fm_sector(room, SINGLE_BYTES, SINGLE_CELLS, 2, 0, index, sector, THIKBROMU_SECTOR_NUMBERS, &value), 18);
+        EXPECT(memcmp(sector, expected, sizeof expected) == 0);
+    }
+    const uint32_t zeros[THIKBROMU_SECTOR_NUMBERS] = {0};
+    REFUSES(thikbromu_fm_sector(room, SINGLE_BYTES, SINGLE_CELLS, 2, 0, 18, sector, THIKBROMU_SECTOR_NUMBERS, &value),
+            NO_SUCH_SECTOR, 18);
+    EXPECT(memcmp(sector, zeros, sizeof zeros) == 0);
+    /* In double density there is no sector. */
+    REFUSES(thikbromu_sector(room, SINGLE_BYTES, SINGLE_CELLS, 2, 0, 0, sector, THIKBROMU_SECTOR_NUMBERS, &value), NO_SUCH_SECTOR, 0);
+
+    uint8_t data[129];
+    uint8_t expected[129];
+    uint32_t good = 77;
+    memset(data, 7, sizeof data);
+    memset(expected, 0x11, 128);
+    expected[128] = 7;
+    GIVES(thikbromu_fm_read_out(room, SINGLE_BYTES, SINGLE_CELLS, 2, 0, 17, data, sizeof data, &good, &value), 128);
+    EXPECT(good == 1 && memcmp(data, expected, sizeof expected) == 0);
+    good = 77;
+    REFUSES(thikbromu_fm_read_out(room, SINGLE_BYTES, SINGLE_CELLS, 2, 0, 17, data, 127, &good, &value), NO_ROOM_FOR_BYTES, 128);
+    EXPECT(good == 77);
+}
+
+static void test_single_findings(void)
+{
+    struct thikbromu_finding records[3];
+    uint32_t numbers[3][THIKBROMU_FINDING_NUMBERS];
+    write_single_track(room);
+    /* The deleted data is no finding. */
+    GIVES(thikbromu_fm_findings(room, SINGLE_BYTES, SINGLE_CELLS, 2, 0, numbers[0], 0, &value), 0);
+    GIVES(thikbromu_fm_finding_records(room, SINGLE_BYTES, SINGLE_CELLS, 2, 0, records, 0, &value), 0);
+
+    /* Another cell in the data mark of the second sector, and a clock missing in the bytes 00 before the third, so that two ones are 4 apart:
+     * no data, and a violation. */
+    room[(SINGLE_FIRST + SINGLE_RECORD + SINGLE_TO_DATA) / 8 + 1] = 0x6E;
+    room[(SINGLE_FIRST + 2 * SINGLE_RECORD) / 8 - 6] = 0x8A;
+    const uint32_t expected[2][THIKBROMU_FINDING_NUMBERS] = {
+        {THIKBROMU_KIND_SND, 1, SINGLE_FIRST + SINGLE_RECORD, 2},
+        {THIKBROMU_KIND_MTV, 3, SINGLE_FIRST + 2 * SINGLE_RECORD - 48, 1}};
+    GIVES(thikbromu_fm_findings(room, SINGLE_BYTES, SINGLE_CELLS, 2, 0, numbers[0], 8, &value), 2);
+    EXPECT(memcmp(numbers, expected, sizeof expected) == 0);
+    GIVES(thikbromu_fm_finding_records(room, SINGLE_BYTES, SINGLE_CELLS, 2, 0, records, 3, &value), 2);
+    for (size_t i = 0; i < 2; i++) {
+        EXPECT(records[i].kind == expected[i][0] && records[i].level == expected[i][1]);
+        EXPECT(records[i].place == expected[i][2] && records[i].detail == expected[i][3]);
+    }
+    uint32_t good = 77;
+    uint8_t data[128];
+    REFUSES(thikbromu_fm_read_out(room, SINGLE_BYTES, SINGLE_CELLS, 2, 0, 1, data, sizeof data, &good, &value), NO_DATA, 0);
+    REFUSES(thikbromu_fm_findings(room, SINGLE_BYTES, SINGLE_CELLS, 2, 0, numbers[0], 7, &value), LIST_TOO_SHORT, 2);
+    REFUSES(thikbromu_fm_finding_records(room, SINGLE_BYTES, SINGLE_CELLS, 2, 0, records, 1, &value), LIST_TOO_SHORT, 2);
+
+    /* Ones alone, at track 80, at each end of the usual numbers of cells. */
+    memset(room, 0xFF, sizeof room);
+    GIVES(thikbromu_fm_findings(room, sizeof room, 48500, 80, 0, numbers[0], 12, &value), 1);
+    EXPECT(numbers[0][0] == THIKBROMU_KIND_NOS && numbers[0][3] == 0);
+    GIVES(thikbromu_fm_findings(room, sizeof room, 51500, 80, 0, numbers[0], 12, &value), 1);
+    GIVES(thikbromu_fm_findings(room, sizeof room, 48499, 80, 0, numbers[0], 12, &value), 2);
+    EXPECT(numbers[0][0] == THIKBROMU_KIND_SHT && numbers[0][3] == 48499);
+    GIVES(thikbromu_fm_finding_records(room, sizeof room, 51501, 80, 0, records, 3, &value), 2);
+    EXPECT(records[0].kind == THIKBROMU_KIND_LGT && records[0].detail == 51501);
+
+    REFUSES(thikbromu_fm_findings(room, 0, 0, 84, 0, numbers[0], 0, &value), TRACK_OR_SIDE, 0);
+    REFUSES(thikbromu_fm_finding_records(room, 0, 19999, 83, 1, records, 0, &value), CELL_COUNT, 19999);
+    REFUSES(thikbromu_fm_findings(room, 2499, 20000, 83, 1, numbers[0], 0, &value), TOO_FEW_BYTES, 2500);
+    /* An ID mark every 40 bytes of cells, 65 in all. */
+    for (size_t i = 0; i < 65; i++) {
+        room[40 * i] = 0xF5;
+        room[40 * i + 1] = 0x7E;
+    }
+    REFUSES(thikbromu_fm_findings(room, 65 * 40, 65 * 320, 0, 0, numbers[0], 12, &value), TOO_MANY_SECTORS, 65);
+}
+
 /* What a refused file leaves as it was: the cells and the place. */
 #define KEPT() (room[0] == 7 && room[TRACK_BYTES - 1] == 7 && room[sizeof room - 1] == 7 && place[0] == 77 && place[1] == 77)
 
@@ -477,6 +674,9 @@ int main(int count, char **arguments)
     test_findings(file + BEFORE_CELLS);
     test_records(file + BEFORE_CELLS);
     test_too_many_sectors();
+    test_single_separator();
+    test_single_track();
+    test_single_findings();
     test_file_cells(file, sizeof file);
     test_listings(file, sizeof file);
     printf("%d passed, %d failed\n", passed, failed);

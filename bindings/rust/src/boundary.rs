@@ -6,6 +6,9 @@
 //! `side` are the drive's. A cell for which there is no byte is 0, and so are all cells of a track of none. A place may lie behind the
 //! index (rule 1.2).
 //!
+//! The functions on a track and on timings are those of double density (MFM). Those whose name begins with `fm` are of single density: each
+//! takes, gives and refuses what its namesake does, by the rules of that density (rule 9.41).
+//!
 //! A refused call writes nothing, except that it sets the numbers of a record or the counts of a histogram to 0 (rules 8.31 and 8.32).
 //!
 //! ```
@@ -153,6 +156,58 @@ extern "C" {
         value: *mut usize,
     ) -> u32;
     fn thikbromu_finding_records(
+        bytes: *const u8,
+        length: usize,
+        n: usize,
+        track: u32,
+        side: u32,
+        list: *mut FindingRecord,
+        room: usize,
+        value: *mut usize,
+    ) -> u32;
+    fn thikbromu_fm_step(residual: *mut i32, timing: u32, offset: *mut i32, value: *mut usize) -> u32;
+    fn thikbromu_fm_separate(
+        timings: *const u32,
+        length: usize,
+        cells: *mut u8,
+        room: usize,
+        border_pulses: *mut usize,
+        value: *mut usize,
+    ) -> u32;
+    fn thikbromu_fm_sector(
+        bytes: *const u8,
+        length: usize,
+        n: usize,
+        track: u32,
+        side: u32,
+        index: usize,
+        numbers: *mut u32,
+        room: usize,
+        value: *mut usize,
+    ) -> u32;
+    fn thikbromu_fm_read_out(
+        bytes: *const u8,
+        length: usize,
+        n: usize,
+        track: u32,
+        side: u32,
+        index: usize,
+        buffer: *mut u8,
+        room: usize,
+        good: *mut u32,
+        value: *mut usize,
+    ) -> u32;
+    fn thikbromu_fm_findings(
+        bytes: *const u8,
+        length: usize,
+        n: usize,
+        track: u32,
+        side: u32,
+        list: *mut u32,
+        room: usize,
+        value: *mut usize,
+    ) -> u32;
+    fn thikbromu_fm_finding_records(
         bytes: *const u8,
         length: usize,
         n: usize,
@@ -485,6 +540,116 @@ pub fn finding_records(
     // `list` and `value` are lent to this call alone.
     answer(|value| unsafe {
         thikbromu_finding_records(
+            packed.as_ptr(),
+            packed.len(),
+            cells,
+            track,
+            side,
+            list.as_mut_ptr(),
+            list.len(),
+            value,
+        )
+    })
+}
+
+/// As [`step`], in single density (rules 3.19 to 3.22): a cell has 4,000 ns, and a residual below -1,000 or above 999 counts as 0.
+///
+/// ```
+/// let (mut residual, mut offset) = (0, 0);
+/// assert_eq!(thikbromu::boundary::fm_step(&mut residual, 9_800, &mut offset), Ok(2));
+/// assert_eq!((residual, offset), (900, 1_800));
+/// ```
+#[inline]
+pub fn fm_step(residual: &mut i32, timing: u32, offset: &mut i32) -> Result<usize, Refusal> {
+    // SAFETY: `residual`, `offset` and `value` are lent to this call alone.
+    answer(|value| unsafe { thikbromu_fm_step(residual, timing, offset, value) })
+}
+
+/// As [`separate`], in single density: cells of 4,000 ns, and border pulses from an offset of 1,804 ns on, early or late.
+#[inline]
+pub fn fm_separate(timings: &[u32], cells: &mut [u8], border_pulses: &mut usize) -> Result<usize, Refusal> {
+    // SAFETY: each address and length are those of one slice; `cells`, `border_pulses` and `value` are lent to this call alone.
+    answer(|value| unsafe {
+        thikbromu_fm_separate(timings.as_ptr(), timings.len(), cells.as_mut_ptr(), cells.len(), border_pulses, value)
+    })
+}
+
+/// As [`sector`], of a track of single density (rules 6.20 to 6.26).
+#[inline]
+pub fn fm_sector(
+    packed: &[u8],
+    cells: usize,
+    track: u32,
+    side: u32,
+    index: usize,
+    numbers: &mut [u32],
+) -> Result<usize, Refusal> {
+    // SAFETY: each address and length are those of one slice; `numbers` and `value` are lent to this call alone.
+    answer(|value| unsafe {
+        thikbromu_fm_sector(
+            packed.as_ptr(),
+            packed.len(),
+            cells,
+            track,
+            side,
+            index,
+            numbers.as_mut_ptr(),
+            numbers.len(),
+            value,
+        )
+    })
+}
+
+/// As [`read_out`], of a track of single density.
+#[inline]
+pub fn fm_read_out(
+    packed: &[u8],
+    cells: usize,
+    track: u32,
+    side: u32,
+    index: usize,
+    buffer: &mut [u8],
+    good: &mut u32,
+) -> Result<usize, Refusal> {
+    // SAFETY: each address and length are those of one slice; `buffer`, `good` and `value` are lent to this call alone.
+    answer(|value| unsafe {
+        thikbromu_fm_read_out(
+            packed.as_ptr(),
+            packed.len(),
+            cells,
+            track,
+            side,
+            index,
+            buffer.as_mut_ptr(),
+            buffer.len(),
+            good,
+            value,
+        )
+    })
+}
+
+/// As [`findings`], of a track of single density (rules 7.44 to 7.47).
+#[inline]
+pub fn fm_findings(packed: &[u8], cells: usize, track: u32, side: u32, list: &mut [u32]) -> Result<usize, Refusal> {
+    // SAFETY: each address and length are those of one slice; `list` and `value` are lent to this call alone.
+    answer(|value| unsafe {
+        thikbromu_fm_findings(packed.as_ptr(), packed.len(), cells, track, side, list.as_mut_ptr(), list.len(), value)
+    })
+}
+
+/// As [`finding_records`], of a track of single density.
+#[inline]
+pub fn fm_finding_records(
+    packed: &[u8],
+    cells: usize,
+    track: u32,
+    side: u32,
+    list: &mut [FindingRecord],
+) -> Result<usize, Refusal> {
+    // SAFETY: each address and length are those of one slice, and a record has C's layout, all contents of which are values of its type;
+    // `list` and `value` are lent to this call alone.
+    answer(|value| unsafe {
+        thikbromu_fm_finding_records(
             packed.as_ptr(),
             packed.len(),
             cells,

@@ -7,15 +7,16 @@ use std::fmt;
 /// The most findings of a track: 64 sectors bring no more (rule 7.35).
 pub const MOST_FINDINGS: usize = 901;
 
-/// The kinds of findings, in the order of their numbers: rule 7.K is that of kind K.
+/// The kinds of findings, in the order of their numbers: rule 7.K is that of kind K. Where a kind has other numbers in single density, they
+/// are named after those of double density (rules 7.44 to 7.46).
 #[derive(Clone, Copy, Debug, PartialEq, Eq, PartialOrd, Ord, Hash)]
 #[repr(u8)]
 pub enum Kind {
-    /// More than 103,000 cells. Detail: the cells.
+    /// More than 103,000 cells; in single density 51,500. Detail: the cells.
     Lgt = 1,
-    /// Less than 97,000 cells. Detail: the cells.
+    /// Less than 97,000 cells; in single density 48,500. Detail: the cells.
     Sht = 2,
-    /// Less than 9 sectors, or more than 10. Detail: the sectors.
+    /// Less than 9 sectors, or more than 10; in single density other than 18. Detail: the sectors.
     Nos = 3,
     /// There are no sectors, and the drive's track is 79 or less.
     Tnf = 4,
@@ -29,11 +30,11 @@ pub enum Kind {
     Itn = 8,
     /// The ID has a track from 84 on, a side from 2 on, or a size code from 4 on. Detail: the ID's side.
     Iif = 9,
-    /// The size code is not 2 and not 3. Detail: the size code.
+    /// The size code is not 2 and not 3; in single density not 0. Detail: the size code.
     Ssz = 10,
-    /// The ID mark is FC, FD or FF. Detail: the mark.
+    /// The ID mark is FC, FD or FF, which does not occur in single density. Detail: the mark.
     Nsi = 11,
-    /// The data mark is F9 or FA. Detail: the data mark.
+    /// The data mark is F9 or FA, which does not occur in single density. Detail: the data mark.
     Nsd = 12,
     /// The ID check is bad. Detail: the number.
     Sbi = 13,
@@ -47,9 +48,10 @@ pub enum Kind {
     Dbi = 17,
     /// The data of another sector covers this one's place (rule 7.37). Detail: the number.
     Sws = 18,
-    /// Syncs stand in the ID or in the data (rule 7.38). Detail: how many.
+    /// Syncs stand in the ID or in the data (rule 7.38); in single density ID marks, F57E (rule 7.45). Detail: how many.
     Sid = 19,
-    /// Ones with a distance of 1, or of 5 or more, to the next one. Place: the first of them. Detail: how many.
+    /// Ones with a distance of 1, or of 5 or more, to the next one; in single density of 3 or more. Place: the first of them. Detail: how
+    /// many.
     Mtv = 20,
     /// A run of 1,000 zeros or more. Place: the start of the longest. Detail: its length.
     Nfa = 21,

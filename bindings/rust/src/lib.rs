@@ -1,5 +1,6 @@
 //! Reads one track of an Atari ST floppy disk, as flux timings, as MFM cells or as a track block of a SuperCard Pro image: its cells, its
-//! sectors with their check results, and a list of copy-protection findings.
+//! sectors with their check results, and a list of copy-protection findings. Tracks of 8-bit Atari disks, whose cells are FM, are read by
+//! naming their [`Density`].
 //!
 //! This is a thin, safe layer over the verified library. The numbers of rules in these pages are those of `docs/SPECIFICATION.md`. Each
 //! function gives what its rules say, or one of the [refusals](Refusal), judged in the order in which the function names them. Nothing is
@@ -27,6 +28,7 @@
 #[allow(unsafe_code)]
 pub mod boundary;
 mod coding;
+mod density;
 mod finding;
 mod flux;
 mod refusal;
@@ -38,13 +40,16 @@ mod track_file;
 #[doc(inline)]
 pub use boundary::{check_word, check_word_from, clear, decode, encode, put_one};
 pub use coding::{decode_to_vec, encode_to_vec, MOST_BYTES_TO_CODE, MOST_BYTES_TO_DECODE};
+pub use density::Density;
 pub use finding::{Finding, Kind, NotAKind, MOST_FINDINGS};
 pub use flux::{
-    histogram, separate, separate_to_vec, Cells, Separation, Separator, Step, Stepped, HISTOGRAM_COUNTS,
-    LONGEST_TIMING, MOST_TIMINGS, SHORTEST_TIMING,
+    histogram, separate, separate_in_density, separate_in_density_to_vec, separate_to_vec, Cells, Separation,
+    Separator, Step, Stepped, HISTOGRAM_COUNTS, LONGEST_TIMING, MOST_TIMINGS, SHORTEST_TIMING,
 };
 pub use refusal::{NotARefusal, Refusal};
 pub use sector::{ReadOut, Sector, SectorData, Sectors, LONGEST_SECTOR};
-pub use track::{Track, FEWEST_CELLS, HIGHEST_SIDE, HIGHEST_TRACK, MOST_CELLS, MOST_CELL_BYTES, MOST_SECTORS};
+pub use track::{
+    Track, TrackInDensity, FEWEST_CELLS, HIGHEST_SIDE, HIGHEST_TRACK, MOST_CELLS, MOST_CELL_BYTES, MOST_SECTORS,
+};
 pub use track_block::{RevolutionReader, TakenPortion, TrackBlock};
 pub use track_file::{TrackCells, TrackFile, LONGEST_FILE, LONGEST_LISTING};

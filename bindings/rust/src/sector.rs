@@ -1,7 +1,7 @@
 //! The sectors of a track.
 
 use crate::boundary::SECTOR_NUMBERS;
-use crate::track::Track;
+use crate::track::TrackInDensity;
 
 /// The longest data of a sector, in bytes.
 pub const LONGEST_SECTOR: usize = 1_024;
@@ -11,7 +11,7 @@ pub const LONGEST_SECTOR: usize = 1_024;
 pub struct Sector {
     /// The cell of the ID mark.
     pub place: u32,
-    /// The byte of the ID mark, FC to FF.
+    /// The byte of the ID mark, FC to FF; in single density FE.
     pub mark: u8,
     /// The track that the ID names.
     pub track: u8,
@@ -25,7 +25,7 @@ pub struct Sector {
     pub id_check_good: bool,
     /// The cell of the data mark, counted on where it lies behind the index; 0 where there is none.
     pub data_place: u32,
-    /// The byte of the data mark, F8 to FB; 0 where there is none.
+    /// The byte of the data mark, F8 to FB, in single density FB or F8; 0 where there is none.
     pub data_mark: u8,
     /// How many data bytes there are; 0 where there is no data.
     pub data_length: usize,
@@ -33,7 +33,7 @@ pub struct Sector {
     pub data_check_good: bool,
     /// The cell where the data with its check bytes ends, counted on where that is behind the index; 0 where there is no data (rule 6.14).
     pub end: u32,
-    /// The density: 2, which is MFM (rule 6.20).
+    /// The number of the [`Density`](crate::Density) that the track was read in: 1 or 2 (rule 6.20).
     pub density: u8,
 }
 
@@ -70,13 +70,13 @@ impl Sector {
 /// Each is looked up by its index, for which the library goes over the whole track.
 #[derive(Clone, Debug)]
 pub struct Sectors<'a> {
-    track: Track<'a>,
+    track: TrackInDensity<'a>,
     next: usize,
     count: usize,
 }
 
 impl<'a> Sectors<'a> {
-    pub(crate) fn new(track: Track<'a>, count: usize) -> Sectors<'a> {
+    pub(crate) fn new(track: TrackInDensity<'a>, count: usize) -> Sectors<'a> {
         Sectors { track, next: 0, count }
     }
 }

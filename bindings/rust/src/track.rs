@@ -1,6 +1,7 @@
 //! A track of packed cells.
 
 use crate::boundary::{self, FindingRecord, SECTOR_NUMBERS};
+use crate::density::Density;
 use crate::finding::{Finding, MOST_FINDINGS};
 use crate::refusal::Refusal;
 use crate::sector::{ReadOut, Sector, SectorData, Sectors, LONGEST_SECTOR};
@@ -24,7 +25,8 @@ pub const MOST_CELL_BYTES: usize = MOST_CELLS / 8;
 pub const MOST_SECTORS: usize = 64;
 
 /// A track: packed cells, and the track and side of the drive. A byte holds eight cells, the first as its highest bit. The cells form a
-/// ring: after the last comes cell 0, which stands at the index (rules 1.1 to 1.3).
+/// ring: after the last comes cell 0, which stands at the index (rules 1.1 to 1.3). It is read in double density;
+/// [`in_density`](Track::in_density) reads the same cells in another.
 ///
 /// Nothing is judged when it is made. The calls on sectors and findings judge it, and each refuses
 /// [`TrackOrSide`](Refusal::TrackOrSide), [`CellCount`](Refusal::CellCount), [`TooFewBytes`](Refusal::TooFewBytes) and
@@ -80,24 +82,39 @@ impl<'a> Track<'a> {
         (place < to).then_some(place)
     }
 
+    /// The same track, read in this density.
+    ///
+    /// ```
+    /// use thikbromu::{Density, Track};
+    ///
+    /// // 50,000 ones: in single density the bytes FF, in double density no code.
+    /// let track = Track::new(&[0xFF; 6_250], 50_000, 80, 0);
+    /// let lines: Vec<String> = track.in_density(Density::Single).findings()?.iter().map(|finding| finding.to_string()).collect();
+    /// assert_eq!(lines, ["3 NOS level 3 place 0 detail 0"]);
+    /// assert_eq!(track.findings()?.len(), 3); // SHT, NOS and MTV
+    /// # Ok::<(), thikbromu::Refusal>(())
+    /// ```
+    pub const fn in_density(self, density: Density) -> TrackInDensity<'a> {
+        TrackInDensity { track: self, density }
+    }
+
+    const fn in_double_density(self) -> TrackInDensity<'a> {
+        self.in_density(Density::Double)
+    }
+
     /// The sector of an index, which counts from 0, in the order of their places. Refuses [`NoSuchSector`](Refusal::NoSuchSector).
     pub fn sector(&self, index: usize) -> Result<Sector, Refusal> {
-        let mut numbers = [0; SECTOR_NUMBERS];
-        boundary::sector(self.packed, self.cells, self.track, self.side, index, &mut numbers)?;
-        Ok(Sector::from_numbers(numbers))
+        self.in_double_density().sector(index)
     }
 
     /// The number of sectors.
     pub fn sector_count(&self) -> Result<usize, Refusal> {
-        match boundary::sector(self.packed, self.cells, self.track, self.side, 0, &mut []) {
-            Ok(sectors) | Err(Refusal::NoSuchSector(sectors)) => Ok(sectors),
-            Err(refusal) => Err(refusal),
-        }
+        self.in_double_density().sector_count()
     }
 
     /// The sectors, in the order of their places.
     pub fn sectors(&self) -> Result<Sectors<'a>, Refusal> {
-        Ok(Sectors::new(*self, self.sector_count()?))
+        self.in_double_density().sectors()
     }
 
     /// Reads out the sector of an index to the front of `buffer`. A bad check does not refuse the call.
@@ -105,12 +122,89 @@ impl<'a> Track<'a> {
     /// Refuses [`NoSuchSector`](Refusal::NoSuchSector), [`NoData`](Refusal::NoData),
     /// [`NoRoomForBytes`](Refusal::NoRoomForBytes).
     pub fn read_out(&self, index: usize, buffer: &mut [u8]) -> Result<ReadOut, Refusal> {
-        let mut good = 0;
-        let length = boundary::read_out(self.packed, self.cells, self.track, self.side, index, buffer, &mut good)?;
-        Ok(ReadOut { length, check_good: good == 1 })
+        self.in_double_density().read_out(index, buffer)
     }
 
     /// As [`read_out`](Track::read_out), into a vector that has room for the longest sector.
+    pub fn read_out_to_vec(&self, index: usize) -> Result<SectorData, Refusal> {
+        self.in_double_density().read_out_to_vec(index)
+    }
+
+    /// The findings, in the order of their kinds, those of one kind by their places (rule 7.32). The list has room for all that a track can
+    /// bring, so that [`ListTooShort`](Refusal::ListTooShort) is never given.
+    pub fn findings(&self) -> Result<Vec<Finding>, Refusal> {
+        self.in_double_density().findings()
+    }
+
+    /// The listing (section 11 of the specification): a header and a line for each finding, or the word `refused` and a number. It is in
+    /// double density; the library has none of single density.
+    pub fn listing(&self) -> String {
+        crate::track_file::listing_of(|out| boundary::listing(self.packed, self.cells, self.track, self.side, out))
+    }
+}
+
+/// A track as it reads in a density, which [`Track::in_density`] gives. Its calls give and refuse what those of [`Track`] do, by the rules
+/// of the density (rule 9.41). It has no listing, as the library lists double density alone.
+#[derive(Clone, Copy, Debug)]
+pub struct TrackInDensity<'a> {
+    track: Track<'a>,
+    density: Density,
+}
+
+impl<'a> TrackInDensity<'a> {
+    /// The track, whose own calls read it in double density.
+    pub const fn track(&self) -> Track<'a> {
+        self.track
+    }
+
+    /// The density.
+    pub const fn density(&self) -> Density {
+        self.density
+    }
+
+    /// Stores the numbers of a sector's record, as many as there is room for, and gives the number of sectors.
+    fn sector_numbers(&self, index: usize, numbers: &mut [u32]) -> Result<usize, Refusal> {
+        let Track { packed, cells, track, side } = self.track;
+        let sector = match self.density {
+            Density::Single => boundary::fm_sector,
+            Density::Double => boundary::sector,
+        };
+        sector(packed, cells, track, side, index, numbers)
+    }
+
+    /// As [`Track::sector`].
+    pub fn sector(&self, index: usize) -> Result<Sector, Refusal> {
+        let mut numbers = [0; SECTOR_NUMBERS];
+        self.sector_numbers(index, &mut numbers)?;
+        Ok(Sector::from_numbers(numbers))
+    }
+
+    /// As [`Track::sector_count`].
+    pub fn sector_count(&self) -> Result<usize, Refusal> {
+        match self.sector_numbers(0, &mut []) {
+            Ok(sectors) | Err(Refusal::NoSuchSector(sectors)) => Ok(sectors),
+            Err(refusal) => Err(refusal),
+        }
+    }
+
+    /// As [`Track::sectors`].
+    pub fn sectors(&self) -> Result<Sectors<'a>, Refusal> {
+        Ok(Sectors::new(*self, self.sector_count()?))
+    }
+
+    /// As [`Track::read_out`].
+    pub fn read_out(&self, index: usize, buffer: &mut [u8]) -> Result<ReadOut, Refusal> {
+        let Track { packed, cells, track, side } = self.track;
+        let read_out = match self.density {
+            Density::Single => boundary::fm_read_out,
+            Density::Double => boundary::read_out,
+        };
+        let mut good = 0;
+        let length = read_out(packed, cells, track, side, index, buffer, &mut good)?;
+        Ok(ReadOut { length, check_good: good == 1 })
+    }
+
+    /// As [`Track::read_out_to_vec`].
     pub fn read_out_to_vec(&self, index: usize) -> Result<SectorData, Refusal> {
         let mut bytes = vec![0; LONGEST_SECTOR];
         let ReadOut { length, check_good } = self.read_out(index, &mut bytes)?;
@@ -118,18 +212,17 @@ impl<'a> Track<'a> {
         Ok(SectorData { bytes, check_good })
     }
 
-    /// The findings, in the order of their kinds, those of one kind by their places (rule 7.32). The list has room for all that a track can
-    /// bring, so that [`ListTooShort`](Refusal::ListTooShort) is never given.
+    /// As [`Track::findings`].
     pub fn findings(&self) -> Result<Vec<Finding>, Refusal> {
+        let Track { packed, cells, track, side } = self.track;
+        let finding_records = match self.density {
+            Density::Single => boundary::fm_finding_records,
+            Density::Double => boundary::finding_records,
+        };
         let mut records = vec![FindingRecord::default(); MOST_FINDINGS];
-        let count = boundary::finding_records(self.packed, self.cells, self.track, self.side, &mut records)?;
+        let count = finding_records(packed, cells, track, side, &mut records)?;
         let findings = records[..count].iter().map(|&record| Finding::try_from(record));
         Ok(findings.collect::<Result<_, _>>().expect("the library gives kinds 1 to 21 alone"))
-    }
-
-    /// The listing (section 11 of the specification): a header and a line for each finding, or the word `refused` and a number.
-    pub fn listing(&self) -> String {
-        crate::track_file::listing_of(|out| boundary::listing(self.packed, self.cells, self.track, self.side, out))
     }
 }
 

@@ -66,8 +66,10 @@ impl<'a> TrackBlock<'a> {
         Ok(timings)
     }
 
-    /// The cells that the separator makes of a revolution's timings; [`Cells::track`] makes a track of them. There is room for the most
-    /// cells, so that [`NoRoom`](Refusal::NoRoom) is never given. Refuses [`TooManyCells`](Refusal::TooManyCells).
+    /// The cells that the separator makes of a revolution's timings, in double density; [`Cells::track`] makes a track of them. There is
+    /// room for the most cells, so that [`NoRoom`](Refusal::NoRoom) is never given. Refuses [`TooManyCells`](Refusal::TooManyCells). Cells
+    /// of single density come of the [timings](TrackBlock::timings) by
+    /// [`separate_in_density_to_vec`](crate::separate_in_density_to_vec).
     pub fn cells(&self, revolution: u32) -> Result<Cells, Refusal> {
         let mut packed = vec![0; MOST_CELL_BYTES];
         let mut border_pulses = 0;

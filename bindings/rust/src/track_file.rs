@@ -71,7 +71,8 @@ impl<'a> TrackFile<'a> {
         &self.bytes
     }
 
-    /// The cells, with their track and side. There is room for the most cells, so that [`NoRoom`](Refusal::NoRoom) is never given.
+    /// The cells, with their track and side; those of timings are made in double density. There is room for the most cells, so that
+    /// [`NoRoom`](Refusal::NoRoom) is never given.
     ///
     /// Refuses at once, whatever follows (rule 10.4), [`NotATrackFile`](Refusal::NotATrackFile) where the place's count is not 2,
     /// [`CellCount`](Refusal::CellCount) where there are more than 131,072 cells, [`TooManyTimings`](Refusal::TooManyTimings) where there

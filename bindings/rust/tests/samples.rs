@@ -3,7 +3,7 @@
 mod common;
 
 use common::samples;
-use thikbromu::{separate_to_vec, Cells, Track};
+use thikbromu::{separate_to_vec, Cells, Density, Track};
 
 fn number_at(file: &[u8], place: usize) -> usize {
     u32::from_le_bytes(file[place..place + 4].try_into().unwrap()) as usize
@@ -19,10 +19,10 @@ fn cells_of(file: &[u8]) -> Cells {
     separate_to_vec(&timings).unwrap()
 }
 
-fn listing_of(file: &[u8]) -> String {
+fn listing_of(file: &[u8], density: Density) -> String {
     let cells = cells_of(file);
     let (track, side) = (file[4], file[5]);
-    let read = Track::new(&cells.packed, cells.count, track.into(), side.into());
+    let read = Track::new(&cells.packed, cells.count, track.into(), side.into()).in_density(density);
     let findings = read.findings().unwrap();
     let sectors = read.sector_count().unwrap();
     let mut listing =
@@ -42,7 +42,14 @@ fn every_sample() {
     for sample in samples() {
         // What is no track file has no cells to list.
         if sample.listing != "refused 15\n" {
-            assert_eq!(listing_of(&sample.file), sample.listing, "{}", sample.name);
+            assert_eq!(listing_of(&sample.file, Density::Double), sample.listing, "{}", sample.name);
         }
     }
+}
+
+#[test]
+fn the_sample_of_single_density() {
+    let file = include_bytes!("../../../samples/single-density.track");
+    let listing = include_str!("../../../samples/single-density.fm-listing");
+    assert_eq!(listing_of(file, Density::Single), listing);
 }

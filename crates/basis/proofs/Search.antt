@@ -1,7 +1,7 @@
 -- What `least`, `count` and `most` mean, and a turn of a loop that looks for them. Assumes nothing.
 use Prim.Native.Nat.{ℕ, zero, suc, _+_, _-_, _*_, _/_, _%_, _≤_, _<_}
 use mathlib.Core.Path.{_≡_, refl, sym, ap, _∙_}
-use mathlib.Core.Bool.{Bool, true, false, cond}
+use mathlib.Core.Bool.{Bool, true, false, cond, _||_}
 use mathlib.Core.Logic.{⊎-elim}
 use native.Mathlib.Nat.{eq-or-lt-of-le, zero-add, add-zero, add-mul, mod-lt, div-add-mod', le-trans, le-max-left, le-max-right}
 use native.Mathlib.Numerals.{add-one}
@@ -120,6 +120,18 @@ least-skip wider test narrower (suc k) p to e = go (wider p) refl (least-skip wi
         → least test (to - cond b p (least wider k (p + 1))) (cond b p (least wider k (p + 1))) ≡ least test (to - p) p
     go true w more = refl
     go false w more = more ∙ sym (least-step test p to (omega arith) (narrower p w))
+
+-- two searches, the second no farther than where the first one ended, find the least place that passes one test or the other
+pub least-either : (first second : ℕ → Bool) (k p : ℕ) → least second (least first k p - p) p ≡ least (λ q. first q || second q) k p
+unfolding least
+least-either first second zero p = let e : p - p ≡ 0 = omega arith in rw e
+least-either first second (suc k) p = go (first p) (second p) refl (least-either first second k (p + 1))
+  where
+    go : (x y : Bool) → second p ≡ y → least second (least first k (p + 1) - (p + 1)) (p + 1) ≡ least (λ q. first q || second q) k (p + 1)
+        → least second (cond x p (least first k (p + 1)) - p) p ≡ cond (x || y) p (least (λ q. first q || second q) k (p + 1))
+    go true y e more = let n : p - p ≡ 0 = omega arith in rw n
+    go false true e more = least-hit second p (least first k (p + 1)) (omega (arith, least-low first k (p + 1))) e
+    go false false e more = least-step second p (least first k (p + 1)) (omega (arith, least-low first k (p + 1))) e ∙ more
 
 -- in a longer range the least is not less
 pub least-grows : (test : ℕ → Bool) (k p : ℕ) → least test k p ≤ least test (suc k) p

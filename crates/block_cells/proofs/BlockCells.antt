@@ -13,6 +13,7 @@ use Rattle.basis.specs.Lists.{writtenOver}
 use Rattle.cells.specs.CellsAndBytes.{packed}
 use Rattle.separation.specs.Separation.{cellsOf, borderPulsesOf, cellsJudged, separation, separatedCells, borderPulsesAfter}
 use Rattle.flux_timings.specs.Timings.{firstOut, timingsJudged}
+use Rattle.separator.specs.Rule.{doubleHalfWindow}
 use Rattle.separation.proofs.BorderPulses.{border-pulses-few}
 use Rattle.separation.proofs.Promise.{promised}
 use Rattle.refusals.specs.RefusedCalls.{Answer, bufferAfter}
@@ -146,4 +147,4 @@ module _ (block : List ℕ) (revolutions k : ℕ) where
   pulses-few room before {count} e =
       let p = chain-passes bad (ltb k revolutions) (eqb (length ts) 0) (ltb 65536 (length ts)) (ltb (firstOut ts) (length ts)) (length ts) (firstOut ts)
       (cellsJudged (length (cellsOf ts)) room) count e in
-      rw e (omega (arith, border-pulses-few ts (pos 0), ltb-false 65536 (length ts) (p .few)))
+      rw e (omega (arith, border-pulses-few doubleHalfWindow ts (pos 0), ltb-false 65536 (length ts) (p .few)))

@@ -9,7 +9,9 @@ use Rattle.basis.proofs.Search.{least-high, count-few}
 use Rattle.cell_patterns.specs.Cells.{violation, zerosFrom, runFrom, longestRun, longestStart, gapsOf, syncsBetween, syncsInside}
 use Rattle.cell_patterns.proofs.Runs.{zeros-few}
 use Rattle.cell_patterns.proofs.Syncs.{syncs-few}
-use Rattle.sector_records.specs.Sectors.{markLength, idLength, hasData}
+use Rattle.layouts.specs.declared.Layout.{Layout}
+use Rattle.layouts.specs.PrivateContracts.{Sound}
+use Rattle.sector_records.specs.Sectors.{hasData}
 use Rattle.sector_records.specs.declared.Sector.{Sector}
 
 most-few : (g : ℕ → ℕ) (b : ℕ) → ((q : ℕ) → g q ≤ b) → (k p : ℕ) → most g k p ≤ b
@@ -26,15 +28,16 @@ unfolding longestStart
 start-few f n = omega (arith, least-high (runFrom f n (longestRun f n)) n 0)
 
 -- no more than the cells
-pub gaps-few : (f : ℕ → ℕ) (n : ℕ) → (gapsOf f n .first ≤ n) × (gapsOf f n .violations ≤ n) × (gapsOf f n .start ≤ n) × (gapsOf f n .longest ≤ n)
+pub gaps-few : (layout : Layout) (f : ℕ → ℕ) (n : ℕ) → (gapsOf layout f n .first ≤ n) × (gapsOf layout f n .violations ≤ n) × (gapsOf layout f n .start ≤ n) × (gapsOf layout f n .longest ≤ n)
 unfolding gapsOf
-gaps-few f n = (omega (arith, least-high (violation f n) n 0), count-few (violation f n) n 0, start-few f n, run-few f n)
+gaps-few layout f n = (omega (arith, least-high (violation layout f n) n 0), count-few (violation layout f n) n 0, start-few f n, run-few f n)
 
 -- no more than the cells of the ID and of the data
-pub inside-few : (f : ℕ → ℕ) (s : Sector) → syncsInside f s ≤ 96 + s .«data_end»
+pub inside-few : (layout : Layout) → Sound layout → (f : ℕ → ℕ) (s : Sector) → syncsInside layout f s ≤ 160 + s .«data_end»
 unfolding syncsInside
-inside-few f s = omega (arith, syncs-few f (s .place + markLength) (s .place + idLength), go (hasData s))
+inside-few layout sound f s =
+    omega (arith, sound .id, syncs-few (layout .sync) f (s .place + layout .«mark_length») (s .place + layout .«id_length»), go (hasData s))
   where
-    go : (b : Bool) → cond b (syncsBetween f (s .«data_place» + markLength) (s .«data_end»)) 0 ≤ s .«data_end»
-    go true = omega (arith, syncs-few f (s .«data_place» + markLength) (s .«data_end»))
+    go : (b : Bool) → cond b (syncsBetween (layout .sync) f (s .«data_place» + layout .«mark_length») (s .«data_end»)) 0 ≤ s .«data_end»
+    go true = omega (arith, syncs-few (layout .sync) f (s .«data_place» + layout .«mark_length») (s .«data_end»))
     go false = omega arith

@@ -9,9 +9,10 @@ use native.Mathlib.Omega.{arith}
 use lib.Dec.{eqb, ltb, leb}
 use borrow.Author.Tests.{eq-eqb, ne-eqb, lt-ltb, le-ltb, ltb-true, ltb-false, leb-true, leb-false}
 use Rattle.basis.specs.Search.{least, count, most}
-use Rattle.basis.proofs.Search.{least-low, least-high, least-grows, least-longer, least-round, most-above}
+use Rattle.basis.proofs.Search.{least-low, least-high, least-same, least-grows, least-longer, least-round, most-above}
 use Rattle.cells.specs.CellsAndBytes.{cellAt, cell}
 use Rattle.cells.proofs.Places.{cell-low, cell-round}
+use Rattle.layouts.specs.declared.Layout.{Layout}
 use Rattle.cell_patterns.specs.Cells.{isOne, nextOne, violation, zerosFrom, longestRun, runFrom, longestStart, gapsOf}
 
 -- a is the least of m places from p + 1, b that of one place more
@@ -61,29 +62,14 @@ module _ (f : ℕ → ℕ) where
       go true y = sym (zeros-at-one n p h y)
       go false y = sym (zeros-at-zero n p h y)
 
--- the zeros between a one and its next one, by how far on that is
-distance-one : (z : ℕ) → eqb (z + 1) 1 ≡ ltb z 1
-distance-one z = go (ltb z 1) refl
-  where
-    go : (x : Bool) → ltb z 1 ≡ x → eqb (z + 1) 1 ≡ x
-    go true e = eq-eqb (z + 1) 1 (omega (arith, ltb-true z 1 e))
-    go false e = ne-eqb (z + 1) 1 (λ h. absurd (omega (arith, ltb-false z 1 e)))
-
-distance-far : (z : ℕ) → ltb 4 (z + 1) ≡ ltb 3 z
-distance-far z = go (ltb 3 z) refl
-  where
-    go : (x : Bool) → ltb 3 z ≡ x → ltb 4 (z + 1) ≡ x
-    go true e = lt-ltb 4 (z + 1) (omega (arith, ltb-true 3 z e))
-    go false e = le-ltb 4 (z + 1) (omega (arith, ltb-false 3 z e))
-
-module _ (f : ℕ → ℕ) (n p : ℕ) where
+module _ (layout : Layout) (f : ℕ → ℕ) (n p : ℕ) where
   distance-is : nextOne f n p - p ≡ zerosFrom f n (p + 1) + 1
   unfolding nextOne zerosFrom
   distance-is = omega (arith, least-low (isOne f) n (p + 1))
 
-  violation-is : (zeros : ℕ) (one : Bool) → one ≡ isOne f p → zeros ≡ zerosFrom f n (p + 1) → (one && (ltb zeros 1 || ltb 3 zeros)) ≡ violation f n p
+  violation-is : (zeros : ℕ) (one : Bool) → one ≡ isOne f p → zeros ≡ zerosFrom f n (p + 1) → (one && (ltb (zeros + 1) (layout .nearest) || ltb (layout .farthest) (zeros + 1))) ≡ violation layout f n p
   unfolding violation
-  violation-is zeros one e g = rw (distance-is, distance-one, distance-far, e, g)
+  violation-is zeros one e g = rw (distance-is, e, g)
 
 -- the code's choice of the larger
 larger-is : (a b : ℕ) → cond (leb a b) b a ≡ max b a
@@ -105,17 +91,17 @@ one-more-fits z n h = go (ltb z n) refl
     go false e = omega arith
 
 -- what the pass knows at p, of the cells from p to the track's end
-pub record Seen (f : ℕ → ℕ) (n p zeros violations first longest start : ℕ) : Type 0 where
+pub record Seen (layout : Layout) (f : ℕ → ℕ) (n p zeros violations first longest start : ℕ) : Type 0 where
   pub inside : p ≤ n
   pub few : violations + p ≤ n
   pub zeros-are : zeros ≡ zerosFrom f n p
-  pub violations-are : violations ≡ count (violation f n) (n - p) p
-  pub first-is : first ≡ least (violation f n) (n - p) p
+  pub violations-are : violations ≡ count (violation layout f n) (n - p) p
+  pub first-is : first ≡ least (violation layout f n) (n - p) p
   pub longest-is : longest ≡ most (zerosFrom f n) (n - p) p
   pub start-is : start ≡ least (runFrom f n longest) (n - p) p
 
-module _ (f : ℕ → ℕ) (n : ℕ) where
-  pub seen-none : (zeros : ℕ) → zeros ≡ zerosFrom f n n → Seen f n n zeros 0 n 0 n
+module _ (layout : Layout) (f : ℕ → ℕ) (n : ℕ) where
+  pub seen-none : (zeros : ℕ) → zeros ≡ zerosFrom f n n → Seen layout f n n zeros 0 n 0 n
   unfolding count least most
   seen-none zeros e =
       let k : n - n ≡ 0 = omega arith in
@@ -140,20 +126,20 @@ module _ (f : ℕ → ℕ) (n : ℕ) where
 
   -- one cell nearer the front
   seen-more : (p p′ zeros violations first longest start : ℕ) (one bad : Bool) (zeros′ : ℕ) → p′ ≡ p + 1
-      → Seen f n p′ zeros violations first longest start → one ≡ isOne f p
-      → bad ≡ (one && (ltb zeros 1 || ltb 3 zeros)) → zeros′ ≡ cond one 0 (zeros + cond (ltb zeros n) 1 0)
-      → Seen f n p zeros′ (violations + cond bad 1 0) (cond bad p first) (cond (leb longest zeros′) zeros′ longest) (cond (leb longest zeros′) p start)
+      → Seen layout f n p′ zeros violations first longest start → one ≡ isOne f p
+      → bad ≡ (one && (ltb (zeros + 1) (layout .nearest) || ltb (layout .farthest) (zeros + 1))) → zeros′ ≡ cond one 0 (zeros + cond (ltb zeros n) 1 0)
+      → Seen layout f n p zeros′ (violations + cond bad 1 0) (cond bad p first) (cond (leb longest zeros′) zeros′ longest) (cond (leb longest zeros′) p start)
   unfolding count least most
   seen-more p p′ zeros violations first longest start one bad zeros′ s r o b g =
       let h : 0 < n = omega (arith, r .inside) in
       let left : n - p ≡ suc (n - p′) = omega (arith, r .inside) in
       let zs : zeros′ ≡ zerosFrom f n p = g ∙ zeros-back f n p zeros one h o (rw s at (r .zeros-are)) in
-      let vs : bad ≡ violation f n p = b ∙ violation-is f n p zeros one o (rw s at (r .zeros-are)) in
+      let vs : bad ≡ violation layout f n p = b ∙ violation-is layout f n p zeros one o (rw s at (r .zeros-are)) in
       record {
         inside = omega (arith, r .inside);
         few = omega (arith, r .few, one-or-none bad);
         zeros-are = zs;
-        violations-are = rw (left, vs, r .violations-are, s) (add-comm (count (violation f n) (n - (p + 1)) (p + 1)) (cond (violation f n p) 1 0));
+        violations-are = rw (left, vs, r .violations-are, s) (add-comm (count (violation layout f n) (n - (p + 1)) (p + 1)) (cond (violation layout f n p) 1 0));
         first-is = rw (left, vs, r .first-is, s);
         longest-is = rw (left, larger-is longest zeros′, zs, r .longest-is, s);
         start-is = rw (left, s) (start-back (n - (p + 1)) p zeros′ longest start zs (rw s at (r .start-is)));
@@ -161,25 +147,65 @@ module _ (f : ℕ → ℕ) (n : ℕ) where
 
   -- the same, of what the calls of a turn gave
   pub seen-turn : (p p′ zeros violations first longest start : ℕ) (one bad : Bool) (more first′ longer zeros′ longest′ start′ : ℕ) → p′ ≡ p + 1
-      → Seen f n p′ zeros violations first longest start → one ≡ isOne f p
-      → bad ≡ (one && (ltb zeros 1 || ltb 3 zeros)) → more ≡ cond bad 1 0 → first′ ≡ cond bad p first
+      → Seen layout f n p′ zeros violations first longest start → one ≡ isOne f p
+      → bad ≡ (one && (ltb (zeros + 1) (layout .nearest) || ltb (layout .farthest) (zeros + 1))) → more ≡ cond bad 1 0 → first′ ≡ cond bad p first
       → longer ≡ cond (ltb zeros n) 1 0 → zeros′ ≡ cond one 0 (zeros + longer)
       → longest′ ≡ cond (leb longest zeros′) zeros′ longest → start′ ≡ cond (leb longest zeros′) p start
-      → Seen f n p zeros′ (violations + more) first′ longest′ start′
+      → Seen layout f n p zeros′ (violations + more) first′ longest′ start′
   seen-turn p p′ zeros violations first longest start one bad more first′ longer zeros′ longest′ start′ s r o b e₁ e₂ e₃ e₄ e₅ e₆ =
       rw (e₁, e₂, e₅, e₆) (seen-more p p′ zeros violations first longest start one bad zeros′ s r o b (rw e₃ at e₄))
 
   -- at the first cell all is known
-  pub seen-all : (p zeros violations first longest start : ℕ) → p ≡ 0 → Seen f n p zeros violations first longest start
-      → record { first = first; violations = violations; start = start; longest = longest } ≡ gapsOf f n
+  pub seen-all : (p zeros violations first longest start : ℕ) → p ≡ 0 → Seen layout f n p zeros violations first longest start
+      → record { first = first; violations = violations; start = start; longest = longest } ≡ gapsOf layout f n
   unfolding gapsOf longestStart longestRun
   seen-all p zeros violations first longest start e r =
       let k : n - 0 ≡ n = omega arith in
       let l : longest ≡ most (zerosFrom f n) n 0 = rw (e, k) at (r .longest-is) in
       let s : start ≡ least (runFrom f n (most (zerosFrom f n) n 0)) n 0 = rw (e, k, l) at (r .start-is) in
-      let v : violations ≡ count (violation f n) n 0 = rw (e, k) at (r .violations-are) in
-      let o : first ≡ least (violation f n) n 0 = rw (e, k) at (r .first-is) in
+      let v : violations ≡ count (violation layout f n) n 0 = rw (e, k) at (r .violations-are) in
+      let o : first ≡ least (violation layout f n) n 0 = rw (e, k) at (r .first-is) in
       rw (l, s, v, o)
+
+-- some layout with so many zeros between ones: of a layout, gaps take nothing else
+abbrev pub between : (fewest most : ℕ) → Layout
+between fewest most =
+    record {
+      density = 0;
+      «mark_length» = 0;
+      «byte_place» = 0;
+      «id_length» = 0;
+      reach = 0;
+      «check_start» = 0;
+      sync = 0;
+      «fewest_cells» = 0;
+      «most_cells» = 0;
+      «fewest_sectors» = 0;
+      «most_sectors» = 0;
+      «size_code» = 0;
+      «other_size_code» = 0;
+      nearest = fewest + 1;
+      farthest = most + 1;
+    }
+
+-- two tests that agree count the same
+count-same : (test other : ℕ → Bool) → ((q : ℕ) → test q ≡ other q) → (k p : ℕ) → count test k p ≡ count other k p
+unfolding count
+count-same test other same zero p = refl
+count-same test other same (suc k) p = rw (same p, count-same test other same k (p + 1))
+
+module _ (fewest most : ℕ) (layout : Layout) (near : fewest + 1 ≡ layout .nearest) (far : most + 1 ≡ layout .farthest) (f : ℕ → ℕ) (n : ℕ) where
+  same-violation : (p : ℕ) → violation (between fewest most) f n p ≡ violation layout f n p
+  unfolding violation
+  same-violation p = rw (← near, ← far)
+
+  pub same-gaps : gapsOf (between fewest most) f n ≡ gapsOf layout f n
+  unfolding gapsOf
+  same-gaps =
+      rw (
+        least-same (violation (between fewest most) f n) (violation layout f n) same-violation n 0,
+        count-same (violation (between fewest most) f n) (violation layout f n) same-violation n 0,
+      )
 
 one-again : (bytes : List ℕ) (n p : ℕ) → isOne (cell bytes n) (p + n) ≡ isOne (cell bytes n) p
 unfolding isOne

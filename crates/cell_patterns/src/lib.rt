@@ -1,15 +1,18 @@
-// What the kinds MTV, NFA and SID count on the cells of a track (rules 7.38 to 7.42): ones too near or too far, the longest run of zeros,
-// and sync words.
+// What the kinds MTV, NFA and SID count on the cells of a track (rules 7.38 to 7.42, 7.45, 7.46): ones too near or too far, the longest run
+// of zeros, and sync words.
+use layouts::Density;
+use layouts::layout_of;
 use sector_records::BYTE_LENGTH;
-use sector_records::ID_LENGTH;
-use sector_records::MARK_LENGTH;
-use sector_records::SYNC;
 use sector_records::Sector;
 ghost use mathlib.Core.Path.{_≡_};
-ghost use mathlib.Core.Bool.{cond};
-ghost use Prim.Native.Nat.{_<_, _≤_};
+ghost use mathlib.Core.Bool.{cond, _||_};
+ghost use Prim.Native.Nat.{_+_, _<_, _≤_};
+ghost use lib.Dec.{ltb};
 ghost use Rattle.basis.specs.Search.{least};
 ghost use Rattle.cells.specs.CellsAndBytes.{cell};
+ghost use Rattle.layouts.specs.Layouts.{layoutOf};
+ghost use Rattle.layouts.specs.declared.Layout.{Layout};
+ghost use Rattle.sector_records.specs.Sectors.{hasData};
 ghost use Rattle.cell_patterns.specs.Cells.{isOne, gapsOf, syncsBetween, syncsInside};
 
 // What MTV and NFA look at: the first one whose next one is too near or too far, n where there is none, and how many there
@@ -22,8 +25,25 @@ pub struct Gaps {
 }
 
 // MTV and NFA in one pass from the last cell to the first: the zeros after a cell are then known when it is reached.
-pub fn find_gaps(bytes: &[u8], n: usize) -> Gaps
-    ensures { λ r. ⌜ r ≡ gapsOf (cell (now (bytes .entry)) n) n ⌝ }
+pub fn find_gaps(density: Density, bytes: &[u8], n: usize) -> Gaps
+    ensures { λ r. ⌜ r ≡ gapsOf (layoutOf density) (cell (now (bytes .entry)) n) n ⌝ }
+{
+    match density {
+        Density::Single => {
+            gaps_between(
+                FEWEST_ZEROS_OF_SINGLE_DENSITY,
+                MOST_ZEROS_OF_SINGLE_DENSITY,
+                bytes,
+                n,
+            )
+        }
+        Density::Double => gaps_between(FEWEST_ZEROS, MOST_ZEROS, bytes, n),
+    }
+}
+
+// The same for a density with so many zeros between ones, fewest and most.
+fn gaps_between(fewest: usize, most: usize, bytes: &[u8], n: usize) -> Gaps
+    ensures { λ r. ⌜ ((layout : Layout) → fewest + 1 ≡ layout .nearest → most + 1 ≡ layout .farthest → r ≡ gapsOf layout (cell (now (bytes .entry)) n) n) ⌝ }
 {
     let mut zeros = zeros_at_start(bytes, n);
     let mut violations: usize = 0;
@@ -34,7 +54,7 @@ pub fn find_gaps(bytes: &[u8], n: usize) -> Gaps
     while 0 < p {
         p -= 1;
         let one = cells::cell_at(bytes, p) == 1;
-        let violation = one & ((zeros < FEWEST_ZEROS) | (MOST_ZEROS < zeros));
+        let violation = one & unlawful(fewest, most, zeros);
         violations += one_if(violation);
         first = chosen(violation, p, first);
         let more = zeros + one_if(zeros < n);
@@ -52,16 +72,32 @@ pub fn find_gaps(bytes: &[u8], n: usize) -> Gaps
 }
 
 // SID: how many sync words stand within a sector's ID and its data.
-pub fn syncs_inside(bytes: &[u8], n: usize, s: Sector) -> usize
-    ensures { λ r. ⌜ r ≡ syncsInside (cell (now (bytes .entry)) n) s ⌝ }
+pub fn syncs_inside(density: Density, bytes: &[u8], n: usize, s: Sector) -> usize
+    ensures { λ r. ⌜ r ≡ syncsInside (layoutOf density) (cell (now (bytes .entry)) n) s ⌝ }
+{
+    let layout = layout_of(density);
+    syncs_in(
+        layout.sync,
+        layout.mark_length,
+        layout.id_length,
+        bytes,
+        n,
+        s,
+    )
+}
+
+// The same, for marks of `mark` cells and IDs of `id` cells.
+fn syncs_in(sync: u64, mark: usize, id: usize, bytes: &[u8], n: usize, s: Sector) -> usize
+    requires { ⌜ (mark ≤ 64) × (id ≤ 160) ⌝ }
+    ensures { λ r. ⌜ r ≡ syncsBetween sync (cell (now (bytes .entry)) n) (s .place + mark) (s .place + id) + cond (hasData s) (syncsBetween sync (cell (now (bytes .entry)) n) (s .«data_place» + mark) (s .«data_end»)) 0 ⌝ }
 {
     let p = s.place as usize;
-    let id = syncs_between(bytes, n, p + MARK_LENGTH, p + ID_LENGTH);
+    let syncs = syncs_between(sync, bytes, n, p + mark, p + id);
     if s.data_mark == 0 {
-        return id;
+        return syncs;
     }
-    let data = s.data_place as usize + MARK_LENGTH;
-    id + syncs_between(bytes, n, data, wide(s.data_end))
+    let data = s.data_place as usize + mark;
+    syncs + syncs_between(sync, bytes, n, data, wide(s.data_end))
 }
 
 fn wide(place: u32) -> usize
@@ -70,10 +106,28 @@ fn wide(place: u32) -> usize
     place as usize
 }
 
-// A next one 2, 3 or 4 cells on leaves 1 to 3 zeros between the two.
+// In double density a next one 2, 3 or 4 cells on leaves 1 to 3 zeros between the two; in single density one that is 1 or 2 cells on leaves
+// 0 or 1.
 const FEWEST_ZEROS: usize = 1;
 
 const MOST_ZEROS: usize = 3;
+
+const FEWEST_ZEROS_OF_SINGLE_DENSITY: usize = 0;
+
+const MOST_ZEROS_OF_SINGLE_DENSITY: usize = 1;
+
+// Is the next one after so many zeros too near or too far? Double density is a case of its own, with numbers that the compiler knows: it then
+// makes two loops of the one that asks, and the one for double density is as quick as it would be alone.
+fn unlawful(fewest: usize, most: usize, zeros: usize) -> bool
+    ensures { λ r. ⌜ r ≡ (ltb (zeros + 1) (fewest + 1) || ltb (most + 1) (zeros + 1)) ⌝ }
+{
+    if fewest == FEWEST_ZEROS {
+        if most == MOST_ZEROS {
+            return (zeros < FEWEST_ZEROS) | (MOST_ZEROS < zeros);
+        }
+    }
+    (zeros < fewest) | (most < zeros)
+}
 
 // One of two numbers, without a branch in the loop that asks.
 fn chosen(first: bool, a: usize, b: usize) -> usize
@@ -103,9 +157,9 @@ fn zeros_at_start(bytes: &[u8], n: usize) -> usize
     n
 }
 
-// How often the sync stands wholly between two places, in any phase.
-fn syncs_between(bytes: &[u8], n: usize, from: usize, to: usize) -> usize
-    ensures { λ r. ⌜ r ≡ syncsBetween (cell (now (bytes .entry)) n) from to ⌝ }
+// How often a sync stands wholly between two places, in any phase.
+fn syncs_between(sync: u64, bytes: &[u8], n: usize, from: usize, to: usize) -> usize
+    ensures { λ r. ⌜ r ≡ syncsBetween sync (cell (now (bytes .entry)) n) from to ⌝ }
 {
     if to < BYTE_LENGTH {
         return 0;
@@ -115,7 +169,7 @@ fn syncs_between(bytes: &[u8], n: usize, from: usize, to: usize) -> usize
     let mut syncs: usize = 0;
     let mut p = from;
     while p < end {
-        let at = cells::find_word(bytes, n, SYNC, BYTE_LENGTH, p, end);
+        let at = cells::find_word(bytes, n, sync, BYTE_LENGTH, p, end);
         syncs += one_if(at < end);
         p = at + 1;
     }

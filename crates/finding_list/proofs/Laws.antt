@@ -28,6 +28,7 @@ use Rattle.finding_list.specs.Findings.{kinds, levels, looks, rowAt, fou
 use Rattle.finding_list.specs.declared.Finding.{Finding}
 use Rattle.finding_list.proofs.Looks.{looks-first, looks-sectors, looks-last, sector-place}
 use Rattle.finding_list.proofs.Members.{joined-from, joined-has, no-members, Ordered, ordered-joined, ordered-at}
+use Rattle.layouts.specs.declared.Layout.{Layout}
 use Rattle.sector_records.specs.Sectors.{sectorsOf}
 use Rattle.sector_records.specs.declared.Sector.{Sector}
 use Rattle.sector_records.proofs.Places.{sectors-ordered}
@@ -37,33 +38,33 @@ abbrev pub finding : (kind place detail : ℕ) → Finding
 finding kind place detail = record { kind = kind; level = getD levels (kind - 1) 0; place = place; detail = detail }
 
 -- it stands in the list
-abbrev pub Stands : List ℕ → (N T kind place detail : ℕ) → Type 0
-Stands bytes N T kind place detail = List·Memᴰ (finding kind place detail) (findingsOf bytes N T)
+abbrev pub Stands : Layout → List ℕ → (N T kind place detail : ℕ) → Type 0
+Stands layout bytes N T kind place detail = List·Memᴰ (finding kind place detail) (findingsOf layout bytes N T)
 
 -- the row of a kind at a look
-abbrev pub rowOf : List ℕ → (N T kind look : ℕ) → Row
-rowOf bytes N T kind look = rowAt (cell bytes N) N T (sectorsOf bytes N) (kind - 1) look
+abbrev pub rowOf : Layout → List ℕ → (N T kind look : ℕ) → Row
+rowOf layout bytes N T kind look = rowAt layout (cell bytes N) N T (sectorsOf layout bytes N) (kind - 1) look
 
 -- the rule of a kind holds at one of its looks, with this place and detail
-pub record Holds (bytes : List ℕ) (N T kind place detail : ℕ) : Type 0 where
+pub record Holds (layout : Layout) (bytes : List ℕ) (N T kind place detail : ℕ) : Type 0 where
   pub look : ℕ
-  pub below : look < looks (sectorsOf bytes N) (kind - 1)
-  pub holds : rowOf bytes N T kind look .holds ≡ true
-  pub place-is : place ≡ rowOf bytes N T kind look .place
-  pub detail-is : detail ≡ rowOf bytes N T kind look .detail
+  pub below : look < looks (sectorsOf layout bytes N) (kind - 1)
+  pub holds : rowOf layout bytes N T kind look .holds ≡ true
+  pub place-is : place ≡ rowOf layout bytes N T kind look .place
+  pub detail-is : detail ≡ rowOf layout bytes N T kind look .detail
 
 -- no rule holds at any look
-abbrev pub NoRule : List ℕ → (N T : ℕ) → Type 0
-NoRule bytes N T = (kind look : ℕ) → 1 ≤ kind → kind ≤ kinds → look < looks (sectorsOf bytes N) (kind - 1) → rowOf bytes N T kind look .holds ≡ false
+abbrev pub NoRule : Layout → List ℕ → (N T : ℕ) → Type 0
+NoRule layout bytes N T = (kind look : ℕ) → 1 ≤ kind → kind ≤ kinds → look < looks (sectorsOf layout bytes N) (kind - 1) → rowOf layout bytes N T kind look .holds ≡ false
 
 -- x stands before y
 abbrev pub Before : Finding → Finding → Type 0
 Before x y = (x .kind < y .kind) ⊎ ((x .kind ≡ y .kind) × (x .place < y .place))
 
 -- there are as many levels as kinds, and as many rows in the table
-pub levels-all : (f : ℕ → ℕ) (N T : ℕ) (ss : List Sector) (i : ℕ) → (length levels ≡ kinds) × (length (rows f N T ss i) ≡ kinds)
+pub levels-all : (layout : Layout) (f : ℕ → ℕ) (N T : ℕ) (ss : List Sector) (i : ℕ) → (length levels ≡ kinds) × (length (rows layout f N T ss i) ≡ kinds)
 unfolding levels rows trackRows sectorRows idRows dataRows gapRows
-levels-all f N T ss i = (refl, refl)
+levels-all layout f N T ss i = (refl, refl)
 
 -- a test that does not pass fails
 fails : (test : Bool) → (test ≡ true → ⊥) → test ≡ false
@@ -102,24 +103,24 @@ module _ (k : ℕ) (row : Row) where
       go true = (λ y m. absurd (List·Memᴰ·not-nil m), tt)
       go false = tt
 
-module _ (bytes : List ℕ) (N T : ℕ) where
+module _ (layout : Layout) (bytes : List ℕ) (N T : ℕ) where
   abbrev ss : List Sector
-  ss = sectorsOf bytes N
+  ss = sectorsOf layout bytes N
 
   abbrev row : (k i : ℕ) → Row
-  row = rowAt (cell bytes N) N T (sectorsOf bytes N)
+  row = rowAt layout (cell bytes N) N T (sectorsOf layout bytes N)
 
   -- a finding of a kind comes from one of its looks
   pub record ComesAt (k : ℕ) (x : Finding) : Type 0 where
     pub look : ℕ
-    pub below : look < looks (sectorsOf bytes N) k
-    pub holds : rowAt (cell bytes N) N T (sectorsOf bytes N) k look .holds ≡ true
-    pub is : x ≡ findingBy k (rowAt (cell bytes N) N T (sectorsOf bytes N) k look)
+    pub below : look < looks (sectorsOf layout bytes N) k
+    pub holds : rowAt layout (cell bytes N) N T (sectorsOf layout bytes N) k look .holds ≡ true
+    pub is : x ≡ findingBy k (rowAt layout (cell bytes N) N T (sectorsOf layout bytes N) k look)
 
-  comes-at : (k : ℕ) (x : Finding) → List·Memᴰ x (ofKind (cell bytes N) N T ss k) → ComesAt k x
+  comes-at : (k : ℕ) (x : Finding) → List·Memᴰ x (ofKind layout (cell bytes N) N T ss k) → ComesAt k x
   unfolding ofKind foundAt
   comes-at k x m =
-      let j = joined-from (foundAt (cell bytes N) N T ss k) (looks ss k) x m in
+      let j = joined-from (foundAt layout (cell bytes N) N T ss k) (looks ss k) x m in
       let o = found-only k (row k (j .place)) x (j .member) in
       record { look = j .place; below = j .below; holds = o .0; is = o .1 }
 
@@ -129,14 +130,14 @@ module _ (bytes : List ℕ) (N T : ℕ) where
     low : kind < kinds
     at : ComesAt kind x
 
-  comes : (x : Finding) → List·Memᴰ x (findingsOf bytes N T) → Comes x
+  comes : (x : Finding) → List·Memᴰ x (findingsOf layout bytes N T) → Comes x
   unfolding findingsOf
   comes x m =
-      let j = joined-from (ofKind (cell bytes N) N T ss) kinds x m in
+      let j = joined-from (ofKind layout (cell bytes N) N T ss) kinds x m in
       record { kind = j .place; low = j .below; at = comes-at (j .place) x (j .member) }
 
   -- kinds are 1 to 21, and each has its level
-  pub kinds-in-range : (x : Finding) → List·Memᴰ x (findingsOf bytes N T) → (1 ≤ x .kind) × (x .kind ≤ kinds) × (x .level ≡ getD levels (x .kind - 1) 0)
+  pub kinds-in-range : (x : Finding) → List·Memᴰ x (findingsOf layout bytes N T) → (1 ≤ x .kind) × (x .kind ≤ kinds) × (x .level ≡ getD levels (x .kind - 1) 0)
   kinds-in-range x m =
       let c = comes x m in
       let k : c .kind + 1 - 1 ≡ c .kind = omega arith in
@@ -144,14 +145,14 @@ module _ (bytes : List ℕ) (N T : ℕ) where
 
   -- a finding stands in the list exactly when the rule of its kind holds at one of its looks, with its place and detail
   module _ (kind p d : ℕ) (low : 1 ≤ kind) (high : kind ≤ kinds) where
-    held : Stands bytes N T kind p d → Holds bytes N T kind p d
+    held : Stands layout bytes N T kind p d → Holds layout bytes N T kind p d
     held m =
         let c = comes (finding kind p d) m in
         let n : kind ≡ c .kind + 1 = ap (λ (x : Finding). x .kind) (c .at .is) in
         let e : c .kind ≡ kind - 1 = omega arith in
         at-kind (c .kind) e (c .at)
       where
-        at-kind : (k : ℕ) → k ≡ kind - 1 → ComesAt k (finding kind p d) → Holds bytes N T kind p d
+        at-kind : (k : ℕ) → k ≡ kind - 1 → ComesAt k (finding kind p d) → Holds layout bytes N T kind p d
         at-kind k e c =
             record {
               look = c .look;
@@ -161,34 +162,34 @@ module _ (bytes : List ℕ) (N T : ℕ) where
               detail-is = rw e at (ap (λ (x : Finding). x .detail) (c .is));
             }
 
-    stands : Holds bytes N T kind p d → Stands bytes N T kind p d
+    stands : Holds layout bytes N T kind p d → Stands layout bytes N T kind p d
     unfolding findingsOf ofKind foundAt
     stands w =
         let e : kind - 1 + 1 ≡ kind = omega arith in
         let is : finding kind p d ≡ findingBy (kind - 1) (row (kind - 1) (w .look)) = rw (e, w .place-is, w .detail-is) in
         Memᴰ·cast is
-        (joined-has (ofKind (cell bytes N) N T ss) kinds (kind - 1) _ (omega arith)
-        (joined-has (foundAt (cell bytes N) N T ss (kind - 1)) (looks ss (kind - 1)) (w .look) _ (w .below) (found-has (kind - 1) (row (kind - 1) (w .look)) (w .holds))))
+        (joined-has (ofKind layout (cell bytes N) N T ss) kinds (kind - 1) _ (omega arith)
+        (joined-has (foundAt layout (cell bytes N) N T ss (kind - 1)) (looks ss (kind - 1)) (w .look) _ (w .below) (found-has (kind - 1) (row (kind - 1) (w .look)) (w .holds))))
 
-    pub stands-exactly : Stands bytes N T kind p d ↔ Holds bytes N T kind p d
+    pub stands-exactly : Stands layout bytes N T kind p d ↔ Holds layout bytes N T kind p d
     stands-exactly = (held, stands)
 
   -- an empty list means that no rule holds, and the other way round
-  pub empty-means-none : (findingsOf bytes N T ≡ []) ↔ NoRule bytes N T
+  pub empty-means-none : (findingsOf layout bytes N T ≡ []) ↔ NoRule layout bytes N T
   empty-means-none = (none, empty)
     where
-      none : findingsOf bytes N T ≡ [] → NoRule bytes N T
+      none : findingsOf layout bytes N T ≡ [] → NoRule layout bytes N T
       none e kind look low high below =
           fails _
           (λ t. List·Memᴰ·not-nil (rw e at (stands kind _ _ low high (record { look = look; below = below; holds = t; place-is = refl; detail-is = refl }))))
 
-      at-none : NoRule bytes N T → (x : Finding) (kind k : ℕ) → kind - 1 ≡ k → 1 ≤ kind → kind ≤ kinds → ComesAt k x → ⊥
+      at-none : NoRule layout bytes N T → (x : Finding) (kind k : ℕ) → kind - 1 ≡ k → 1 ≤ kind → kind ≤ kinds → ComesAt k x → ⊥
       at-none none x kind k e low high c =
           clash (row k (c .look) .holds) (c .holds) (rw e at (none kind (c .look) low high (rw e (c .below))))
 
-      empty : NoRule bytes N T → findingsOf bytes N T ≡ []
+      empty : NoRule layout bytes N T → findingsOf layout bytes N T ≡ []
       empty none =
-          no-members (findingsOf bytes N T)
+          no-members (findingsOf layout bytes N T)
           (λ x m. (let c = comes x m in at-none none x (c .kind + 1) (c .kind) (omega arith) (omega arith) (omega (arith, c .low)) (c .at)))
 
   -- the list is ordered by kind, then place, strictly
@@ -200,31 +201,31 @@ module _ (bytes : List ℕ) (N T : ℕ) where
       go (yes a) (yes b) = absurd (omega (arith, looks-last ss k b))
       go (yes a) (no b) =
           let c = lt-of-not-le b in
-          rw (sector-place (cell bytes N) N T ss k i a c, sector-place (cell bytes N) N T ss k j a c)
-          (sectors-ordered bytes N i j h (omega (arith, looks-sectors ss k a c)))
+          rw (sector-place layout (cell bytes N) N T ss k i a c, sector-place layout (cell bytes N) N T ss k j a c)
+          (sectors-ordered layout bytes N i j h (omega (arith, looks-sectors ss k a c)))
 
-  kind-ordered : (k : ℕ) → Ordered Before (ofKind (cell bytes N) N T ss k)
+  kind-ordered : (k : ℕ) → Ordered Before (ofKind layout (cell bytes N) N T ss k)
   unfolding ofKind foundAt
   kind-ordered k =
-      ordered-joined Before (foundAt (cell bytes N) N T ss k) (looks ss k) (λ i h. found-ordered k (row k i))
+      ordered-joined Before (foundAt layout (cell bytes N) N T ss k) (looks ss k) (λ i h. found-ordered k (row k i))
       (λ i j x y h l a b. rw (found-only k (row k i) x a .1, found-only k (row k j) y b .1) (inr (refl, rises k i j h l)))
 
-  pub strictly-ordered : (i j : ℕ) → i < j → j < length (findingsOf bytes N T)
-      → Before (getD (findingsOf bytes N T) i (finding 0 0 0)) (getD (findingsOf bytes N T) j (finding 0 0 0))
+  pub strictly-ordered : (i j : ℕ) → i < j → j < length (findingsOf layout bytes N T)
+      → Before (getD (findingsOf layout bytes N T) i (finding 0 0 0)) (getD (findingsOf layout bytes N T) j (finding 0 0 0))
   unfolding findingsOf
-  strictly-ordered i j h l = ordered-at Before (finding 0 0 0) (findingsOf bytes N T) i j all h l
+  strictly-ordered i j h l = ordered-at Before (finding 0 0 0) (findingsOf layout bytes N T) i j all h l
     where
-      all : Ordered Before (findingsOf bytes N T)
+      all : Ordered Before (findingsOf layout bytes N T)
       all =
-          ordered-joined Before (ofKind (cell bytes N) N T ss) kinds (λ k h. kind-ordered k)
+          ordered-joined Before (ofKind layout (cell bytes N) N T ss) kinds (λ k h. kind-ordered k)
           (λ j k x y h l a b. rw (comes-at j x a .is, comes-at k y b .is) (inl (omega arith)))
 
   -- kind 4 stands only with level 2, place 0, detail 0, and T at most 79
-  pub tnf-only : (x : Finding) → List·Memᴰ x (findingsOf bytes N T) → x .kind ≡ 4 → (x .level ≡ 2) × (x .place ≡ 0) × (x .detail ≡ 0) × (T ≤ 79)
+  pub tnf-only : (x : Finding) → List·Memᴰ x (findingsOf layout bytes N T) → x .kind ≡ 4 → (x .level ≡ 2) × (x .place ≡ 0) × (x .detail ≡ 0) × (T ≤ 79)
   unfolding levels rowAt rows trackRows
   tnf-only x m e =
       let level = kinds-in-range x m .2 in
       let is : finding (x .kind) (x .place) (x .detail) ≡ x = rw (← level) in
-      let s : Stands bytes N T 4 (x .place) (x .detail) = rw e at (Memᴰ·cast is m) in
+      let s : Stands layout bytes N T 4 (x .place) (x .detail) = rw e at (Memᴰ·cast is m) in
       let t = held 4 (x .place) (x .detail) (omega arith) (omega arith) s in
       (rw e at level, t .place-is, t .detail-is, leb-true T 79 (second-passes (eqb (length ss) 0) (leb T 79) (t .holds)))

@@ -6,3 +6,4 @@ pub mod Members
 pub mod Numbers
 pub mod Others
 pub mod Outcome
+pub mod SingleDensity

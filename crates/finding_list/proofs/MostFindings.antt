@@ -16,6 +16,8 @@ use Rattle.finding_list.specs.Findings.{kinds, looks, rowAt, foundBy, fo
 use Rattle.finding_list.specs.Calls.{mostFindings}
 use Rattle.finding_list.specs.declared.Finding.{Finding}
 use Rattle.finding_list.proofs.Looks.{looks-sectors, looks-last}
+use Rattle.layouts.specs.declared.Layout.{Layout}
+use Rattle.layouts.specs.PrivateContracts.{Sound}
 use Rattle.sector_records.specs.declared.Sector.{Sector}
 
 -- g 0 + g 1 + .. + g (n - 1)
@@ -52,15 +54,15 @@ sum-few g b m (suc n) h =
     rw (e, suc-mul n b) (omega (arith, h n (omega arith), sum-few g b m n (λ k l. h k (omega arith))))
 
 -- a track is not both too long and too short, nor both without a sector and with one
-long-or-short : (N : ℕ) → one-if (lgt N .holds) + one-if (sht N .holds) ≤ 1
+long-or-short : (layout : Layout) → Sound layout → (N : ℕ) → one-if (lgt layout N .holds) + one-if (sht layout N .holds) ≤ 1
 unfolding one-if
-long-or-short N = go (decLe N 103000)
+long-or-short layout sound N = go (decLe N (layout .«most_cells»))
   where
-    go : Dec (N ≤ 103000) → one-if (lgt N .holds) + one-if (sht N .holds) ≤ 1
-    go (yes h) = rw (le-ltb 103000 N h) (omega (arith, at-most-one (ltb N 97000)))
+    go : Dec (N ≤ layout .«most_cells») → one-if (lgt layout N .holds) + one-if (sht layout N .holds) ≤ 1
+    go (yes h) = rw (le-ltb (layout .«most_cells») N h) (omega (arith, at-most-one (ltb N (layout .«fewest_cells»))))
     go (no h) =
         let l = lt-of-not-le h in
-        rw (le-ltb N 97000 (omega arith)) (omega (arith, at-most-one (ltb 103000 N)))
+        rw (le-ltb N (layout .«fewest_cells») (omega (arith, sound .cells))) (omega (arith, at-most-one (ltb (layout .«most_cells») N)))
 
 none-or-some : (m T : ℕ) → one-if (tnf m T .holds) + one-if (ext m T .holds) ≤ 1
 unfolding one-if
@@ -72,21 +74,21 @@ none-or-some m T = go (decLe m 0)
         let l = lt-of-not-le h in
         rw (ne-eqb m 0 (λ e. omega arith)) (omega (arith, at-most-one (ltb 0 m && leb 80 T)))
 
-module _ (f : ℕ → ℕ) (N T : ℕ) (ss : List Sector) where
+module _ (layout : Layout) (sound : Sound layout) (f : ℕ → ℕ) (N T : ℕ) (ss : List Sector) where
   number : ℕ → ℕ
-  number k = length (ofKind f N T ss k)
+  number k = length (ofKind layout f N T ss k)
 
   -- a kind finds at most as much as it looks
   looks-few : (k : ℕ) → number k ≤ looks ss k
   unfolding number ofKind foundAt joined
   looks-few k = go (looks ss k)
     where
-      go : (n : ℕ) → length (joined (foundAt f N T ss k) n) ≤ n
+      go : (n : ℕ) → length (joined (foundAt layout f N T ss k) n) ≤ n
       go zero = omega arith
       go (suc n) =
-          simp length-append (omega (arith, go n, length-found k (rowAt f N T ss k n), at-most-one (rowAt f N T ss k n .holds)))
+          simp length-append (omega (arith, go n, length-found k (rowAt layout f N T ss k n), at-most-one (rowAt layout f N T ss k n .holds)))
 
-  first : (k : ℕ) (row : Row) → ofKind f N T ss k ≡ foundBy k row → number k ≡ one-if (row .holds)
+  first : (k : ℕ) (row : Row) → ofKind layout f N T ss k ≡ foundBy k row → number k ≡ one-if (row .holds)
   unfolding number
   first k row e = rw e (length-found k row)
 
@@ -95,13 +97,13 @@ module _ (f : ℕ → ℕ) (N T : ℕ) (ss : List Sector) where
   first-few =
       omega (
         arith,
-        first 0 (lgt N) refl,
-        first 1 (sht N) refl,
-        first 2 (nos (length ss)) refl,
+        first 0 (lgt layout N) refl,
+        first 1 (sht layout N) refl,
+        first 2 (nos layout (length ss)) refl,
         first 3 (tnf (length ss) T) refl,
         first 4 (ext (length ss) T) refl,
-        long-or-short N,
-        at-most-one (nos (length ss) .holds),
+        long-or-short layout sound N,
+        at-most-one (nos layout (length ss) .holds),
         none-or-some (length ss) T,
       )
 
@@ -111,8 +113,8 @@ module _ (f : ℕ → ℕ) (N T : ℕ) (ss : List Sector) where
   last-few : (k : ℕ) → k < 2 → number (19 + k) ≤ 1
   last-few k h = rw (looks-last ss (19 + k) (omega arith)) at (looks-few (19 + k))
 
-  pub few-findings : length ss ≤ 64 → length (joined (ofKind f N T ss) kinds) ≤ mostFindings
+  pub few-findings : length ss ≤ 64 → length (joined (ofKind layout f N T ss) kinds) ≤ mostFindings
   unfolding number
   few-findings h =
-      rw (length-joined (ofKind f N T ss) kinds)
+      rw (length-joined (ofKind layout f N T ss) kinds)
       (omega (arith, first-few, sum-few number (length ss) 5 14 sector-few, sum-few number 1 19 2 last-few))

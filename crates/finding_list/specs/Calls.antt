@@ -8,6 +8,7 @@ use Rattle.refusals.specs.RefusedCalls.{Answer}
 use Rattle.refusals.specs.RefusedCalls.Answer.{gives, refused}
 use Rattle.finding_list.specs.Findings.{findingsOf}
 use Rattle.finding_list.specs.declared.Finding.{Finding}
+use Rattle.layouts.specs.declared.Layout.{Layout}
 use Rattle.sectors.specs.Calls.{trackJudged, countJudged}
 use Rattle.sector_records.specs.Sectors.{sectorsOf}
 
@@ -15,9 +16,9 @@ use Rattle.sector_records.specs.Sectors.{sectorsOf}
 abbrev pub mostFindings : ℕ
 mostFindings = 901
 
--- 9.18: refusals 1 to 4, and else how many findings
-unfoldable pub surveyAnswer : List ℕ → (N T H : ℕ) → Answer ℕ
-surveyAnswer bytes N T H = trackJudged bytes N T H (countJudged (length (sectorsOf bytes N)) (gives (length (findingsOf bytes N T))))
+-- 9.18, 9.46: refusals 1 to 4, and else how many findings
+unfoldable pub surveyAnswer : Layout → List ℕ → (N T H : ℕ) → Answer ℕ
+surveyAnswer layout bytes N T H = trackJudged bytes N T H (countJudged (length (sectorsOf layout bytes N)) (gives (length (findingsOf layout bytes N T))))
 
 -- 9.18, 9.24: the number of sectors that is given too: the track's, or 0 beside a refusal
 abbrev pub sectorsGiven : Answer ℕ → ℕ → ℕ

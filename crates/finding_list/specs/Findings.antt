@@ -11,6 +11,7 @@ use Rattle.cells.specs.CellsAndBytes.{cell}
 use Rattle.finding_rules.specs.Rules.{noRow, rows}
 use Rattle.finding_rules.specs.declared.Row.{Row}
 use Rattle.finding_list.specs.declared.Finding.{Finding}
+use Rattle.layouts.specs.declared.Layout.{Layout}
 use Rattle.sector_records.specs.Sectors.{sectorsOf}
 use Rattle.sector_records.specs.declared.Sector.{Sector}
 
@@ -27,21 +28,21 @@ unfoldable pub looks : List Sector → (k : ℕ) → ℕ
 looks ss k = cond (leb 5 k && ltb k 19) (length ss) 1
 
 -- row k of the table at look i, on a track of N cells f with the sectors ss
-unfoldable pub rowAt : (ℕ → ℕ) → (N T : ℕ) → List Sector → (k i : ℕ) → Row
-rowAt f N T ss k i = getD (rows f N T ss i) k noRow
+unfoldable pub rowAt : Layout → (ℕ → ℕ) → (N T : ℕ) → List Sector → (k i : ℕ) → Row
+rowAt layout f N T ss k i = getD (rows layout f N T ss i) k noRow
 
 -- 7.31, 7.33: what a row finds: where its rule holds a finding, with its kind's number and level, and else nothing
 unfoldable pub foundBy : (k : ℕ) → Row → List Finding
 foundBy k row = cond (row .holds) (record { kind = k + 1; level = getD levels k 0; place = row .place; detail = row .detail } ∷ []) []
 
 -- what a kind finds at look i
-unfoldable pub foundAt : (ℕ → ℕ) → (N T : ℕ) → List Sector → (k i : ℕ) → List Finding
-foundAt f N T ss k i = foundBy k (rowAt f N T ss k i)
+unfoldable pub foundAt : Layout → (ℕ → ℕ) → (N T : ℕ) → List Sector → (k i : ℕ) → List Finding
+foundAt layout f N T ss k i = foundBy k (rowAt layout f N T ss k i)
 
 -- 7.32: what a kind finds, look after look: sectors are looked at in the order of their places
-unfoldable pub ofKind : (ℕ → ℕ) → (N T : ℕ) → List Sector → (k : ℕ) → List Finding
-ofKind f N T ss k = joined (foundAt f N T ss k) (looks ss k)
+unfoldable pub ofKind : Layout → (ℕ → ℕ) → (N T : ℕ) → List Sector → (k : ℕ) → List Finding
+ofKind layout f N T ss k = joined (foundAt layout f N T ss k) (looks ss k)
 
 -- 7.32, 7.43: the findings of a track of N cells, kind after kind. The side H is not asked for
-unfoldable pub findingsOf : List ℕ → (N T : ℕ) → List Finding
-findingsOf bytes N T = joined (ofKind (cell bytes N) N T (sectorsOf bytes N)) kinds
+unfoldable pub findingsOf : Layout → List ℕ → (N T : ℕ) → List Finding
+findingsOf layout bytes N T = joined (ofKind layout (cell bytes N) N T (sectorsOf layout bytes N)) kinds

@@ -2,6 +2,8 @@
 // its index, from 0.
 use cell_patterns::Gaps;
 use finding_rules::Row;
+use layouts::Density;
+use layouts::layout_of;
 use refusals::Counted;
 use sector_records::Sector;
 use sector_records::Sectors;
@@ -15,6 +17,7 @@ ghost use Rattle.finding_rules.specs.Rules.{noRow, startsInData, someSector, se
 ghost use Rattle.finding_list.specs.Findings.{kinds, levels, foundBy, ofKind, findingsOf};
 ghost use Rattle.finding_list.specs.Calls.{surveyAnswer, sectorsGiven, arrayAfter};
 ghost use Rattle.refusals.specs.RefusedCalls.{countedAnswer};
+ghost use Rattle.layouts.specs.Layouts.{layoutOf};
 ghost use Rattle.sector_records.specs.Sectors.{sectorsOf};
 ghost use Rattle.finding_list.specs.PrivateContracts.{duplicateAt, AtMost64, BoundedTrack, Narrow, sectorsIn, Added, Room};
 
@@ -37,13 +40,20 @@ pub struct Found {
 pub const NUMBERS: usize = 3604;
 
 // Every finding of a track of n cells, packed in `bytes`, as numbers at the front of the array: kind, level, place and detail of each, and
-// zeros behind them (rule 9.18). `track` and `side` are the drive's.
-pub fn survey(numbers: &mut [u32; NUMBERS], bytes: &[u8], n: usize, track: u32, side: u32) -> Found
-    ensures answer { λ r. ⌜ countedAnswer (r .answer) ≡ surveyAnswer (now (bytes .entry)) n track side ⌝ }
-    ensures sectors { λ r. ⌜ r .sectors ≡ sectorsGiven (surveyAnswer (now (bytes .entry)) n track side) (length (sectorsOf (now (bytes .entry)) n)) ⌝ }
-    ensures numbers { λ _. ⌜ now (numbers .exit) ≡ arrayAfter (surveyAnswer (now (bytes .entry)) n track side) (findingsOf (now (bytes .entry)) n track) (now (numbers .entry)) ⌝ }
+// zeros behind them (rules 9.18, 9.46). `track` and `side` are the drive's.
+pub fn survey(
+    density: Density,
+    numbers: &mut [u32; NUMBERS],
+    bytes: &[u8],
+    n: usize,
+    track: u32,
+    side: u32,
+) -> Found
+    ensures answer { λ r. ⌜ countedAnswer (r .answer) ≡ surveyAnswer (layoutOf density) (now (bytes .entry)) n track side ⌝ }
+    ensures sectors { λ r. ⌜ r .sectors ≡ sectorsGiven (surveyAnswer (layoutOf density) (now (bytes .entry)) n track side) (length (sectorsOf (layoutOf density) (now (bytes .entry)) n)) ⌝ }
+    ensures numbers { λ _. ⌜ now (numbers .exit) ≡ arrayAfter (surveyAnswer (layoutOf density) (now (bytes .entry)) n track side) (findingsOf (layoutOf density) (now (bytes .entry)) n track) (now (numbers .entry)) ⌝ }
 {
-    let listed = sectors::sectors_of(bytes, n, track, side);
+    let listed = sectors::sectors_in(density, bytes, n, track, side);
     let ss = listed.sectors;
     let answer = listed.answer;
     match answer {
@@ -52,7 +62,7 @@ pub fn survey(numbers: &mut [u32; NUMBERS], bytes: &[u8], n: usize, track: u32, 
             answer: Counted::Refused(refusal),
         },
         Counted::Count(sectors) => {
-            let count = all_kinds(numbers, bytes, n, track, ss);
+            let count = all_kinds(density, numbers, bytes, n, track, ss);
             Found {
                 sectors,
                 answer: Counted::Count(count),
@@ -102,16 +112,23 @@ const DATA_RULES: usize = 6;
 const OVERWRITTEN: usize = 11;
 
 // All findings of a track of n cells with the sectors ss; how many there are.
-fn all_kinds(numbers: &mut [u32; NUMBERS], bytes: &[u8], n: usize, track: u32, ss: Sectors) -> usize
+fn all_kinds(
+    density: Density,
+    numbers: &mut [u32; NUMBERS],
+    bytes: &[u8],
+    n: usize,
+    track: u32,
+    ss: Sectors,
+) -> usize
     requires { ⌜ BoundedTrack n ss ⌝ }
-    ensures { λ r. ⌜ Added (replicate 3604 0) 0 (joined (ofKind (cell (now (bytes .entry)) n) n track (sectorsIn ss)) kinds) (now (numbers .exit)) r ⌝ }
+    ensures { λ r. ⌜ Added (replicate 3604 0) 0 (joined (ofKind (layoutOf density) (cell (now (bytes .entry)) n) n track (sectorsIn ss)) kinds) (now (numbers .exit)) r ⌝ }
 {
     clear(numbers);
-    let gaps = cell_patterns::find_gaps(bytes, n);
+    let gaps = cell_patterns::find_gaps(density, bytes, n);
     let mut at: usize = 0;
     let mut k: usize = 0;
     while k < KINDS {
-        at = one_kind(numbers, bytes, n, track, ss, gaps, k, at);
+        at = one_kind(density, numbers, bytes, n, track, ss, gaps, k, at);
         k += 1;
     }
     at
@@ -119,6 +136,7 @@ fn all_kinds(numbers: &mut [u32; NUMBERS], bytes: &[u8], n: usize, track: u32, s
 
 // The findings of one kind.
 fn one_kind(
+    density: Density,
     numbers: &mut [u32; NUMBERS],
     bytes: &[u8],
     n: usize,
@@ -129,23 +147,23 @@ fn one_kind(
     at: usize,
 ) -> usize
     requires { ⌜ BoundedTrack n ss ⌝ }
-    requires { ⌜ gaps ≡ gapsOf (cell (now bytes) n) n ⌝ }
-    requires { ⌜ (k < kinds) × Room (now numbers) at (ofKind (cell (now bytes) n) n track (sectorsIn ss) k) ⌝ }
-    ensures { λ r. ⌜ Added (now (numbers .entry)) at (ofKind (cell (now (bytes .entry)) n) n track (sectorsIn ss) k) (now (numbers .exit)) r ⌝ }
+    requires { ⌜ gaps ≡ gapsOf (layoutOf density) (cell (now bytes) n) n ⌝ }
+    requires { ⌜ (k < kinds) × Room (now numbers) at (ofKind (layoutOf density) (cell (now bytes) n) n track (sectorsIn ss) k) ⌝ }
+    ensures { λ r. ⌜ Added (now (numbers .entry)) at (ofKind (layoutOf density) (cell (now (bytes .entry)) n) n track (sectorsIn ss) k) (now (numbers .exit)) r ⌝ }
 {
     if k < DUPLICATES {
         return put(
             numbers,
             at,
             k,
-            finding_rules::track_rule(k, n as u32, ss.count as u32, track),
+            finding_rules::track_rule(layout_of(density), k, n as u32, ss.count as u32, track),
         );
     }
     if k == DUPLICATES {
         return duplicates(numbers, ss, at);
     }
     if k < GAP_KINDS {
-        return each_sector(numbers, bytes, n, track, ss, k, at);
+        return each_sector(density, numbers, bytes, n, track, ss, k, at);
     }
     put(numbers, at, k, finding_rules::gap_rule(k - GAP_KINDS, gaps))
 }
@@ -186,6 +204,7 @@ fn duplicates(numbers: &mut [u32; NUMBERS], ss: Sectors, at: usize) -> usize
 
 // A kind on each sector by itself: kinds 7 to 19.
 fn each_sector(
+    density: Density,
     numbers: &mut [u32; NUMBERS],
     bytes: &[u8],
     n: usize,
@@ -195,8 +214,8 @@ fn each_sector(
     at: usize,
 ) -> usize
     requires { ⌜ BoundedTrack n ss ⌝ }
-    requires { ⌜ (6 ≤ k) × (k < 19) × Room (now numbers) at (ofKind (cell (now bytes) n) n track (sectorsIn ss) k) ⌝ }
-    ensures { λ r. ⌜ Added (now (numbers .entry)) at (ofKind (cell (now (bytes .entry)) n) n track (sectorsIn ss) k) (now (numbers .exit)) r ⌝ }
+    requires { ⌜ (6 ≤ k) × (k < 19) × Room (now numbers) at (ofKind (layoutOf density) (cell (now bytes) n) n track (sectorsIn ss) k) ⌝ }
+    ensures { λ r. ⌜ Added (now (numbers .entry)) at (ofKind (layoutOf density) (cell (now (bytes .entry)) n) n track (sectorsIn ss) k) (now (numbers .exit)) r ⌝ }
 {
     let count = ss.count;
     let mut to = at;
@@ -207,7 +226,7 @@ fn each_sector(
             numbers,
             to,
             k,
-            sector_rule(bytes, n, track, ss, k - SECTOR_KINDS, s),
+            sector_rule(density, bytes, n, track, ss, k - SECTOR_KINDS, s),
         );
         i += 1;
     }
@@ -215,12 +234,20 @@ fn each_sector(
 }
 
 // The row of a kind on sectors at the sector s, k being its place among these kinds.
-fn sector_rule(bytes: &[u8], n: usize, track: u32, ss: Sectors, k: usize, s: Sector) -> Row
+fn sector_rule(
+    density: Density,
+    bytes: &[u8],
+    n: usize,
+    track: u32,
+    ss: Sectors,
+    k: usize,
+    s: Sector,
+) -> Row
     requires { ⌜ BoundedTrack n ss × (k < 13) ⌝ }
-    ensures { λ r. ⌜ r ≡ getD (sectorRows (cell (now (bytes .entry)) n) n track (sectorsIn ss) s) k noRow ⌝ }
+    ensures { λ r. ⌜ r ≡ getD (sectorRows (layoutOf density) (cell (now (bytes .entry)) n) n track (sectorsIn ss) s) k noRow ⌝ }
 {
     if k < DATA_RULES {
-        return finding_rules::id_rule(k, track, s);
+        return finding_rules::id_rule(layout_of(density), k, track, s);
     }
     if k < OVERWRITTEN {
         return finding_rules::data_rule(k - DATA_RULES, n as u32, s);
@@ -232,7 +259,7 @@ fn sector_rule(bytes: &[u8], n: usize, track: u32, ss: Sectors, k: usize, s: Sec
             detail: s.number as usize,
         };
     }
-    let syncs = cell_patterns::syncs_inside(bytes, n, s);
+    let syncs = cell_patterns::syncs_inside(density, bytes, n, s);
     Row {
         holds: 0 < syncs,
         place: s.place as usize,

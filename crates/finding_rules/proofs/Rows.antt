@@ -8,6 +8,7 @@ use lib.Seq.{getD-append-add}
 use Rattle.cell_patterns.specs.Cells.{gapsOf, syncsInside}
 use Rattle.finding_rules.specs.Rules.{noRow, nth, dsn, sws, sid, trackRows, idRows, dataRows, sectorRows, gapRows, rows}
 use Rattle.finding_rules.specs.declared.Row.{Row}
+use Rattle.layouts.specs.declared.Layout.{Layout}
 use Rattle.sector_records.specs.declared.Sector.{Sector}
 
 -- a group has no more rows than it lists
@@ -22,56 +23,56 @@ behind : (first second : List Row) (j k : ℕ) → k ≡ length first + j → ge
 behind first second j k e = rw e (getD-append-add first second j noRow)
 
 -- kinds 7 to 19 on one sector, k from 0
-module _ (f : ℕ → ℕ) (N T : ℕ) (ss : List Sector) (s : Sector) (k : ℕ) where
+module _ (layout : Layout) (f : ℕ → ℕ) (N T : ℕ) (ss : List Sector) (s : Sector) (k : ℕ) where
   abbrev last : List Row
-  last = sws N ss s ∷ sid (syncsInside f s) s ∷ []
+  last = sws N ss s ∷ sid (syncsInside layout f s) s ∷ []
 
-  pub row-id : k < 6 → getD (sectorRows f N T ss s) k noRow ≡ getD (idRows T s) k noRow
+  pub row-id : k < 6 → getD (sectorRows layout f N T ss s) k noRow ≡ getD (idRows layout T s) k noRow
   unfolding sectorRows idRows
-  row-id h = before (idRows T s) (dataRows N s ++ last) k h
+  row-id h = before (idRows layout T s) (dataRows N s ++ last) k h
 
-  pub row-data : 6 ≤ k → k < 11 → getD (sectorRows f N T ss s) k noRow ≡ getD (dataRows N s) (k - 6) noRow
+  pub row-data : 6 ≤ k → k < 11 → getD (sectorRows layout f N T ss s) k noRow ≡ getD (dataRows N s) (k - 6) noRow
   unfolding sectorRows idRows dataRows
-  row-data h l = behind (idRows T s) (dataRows N s ++ last) (k - 6) k (omega arith) ∙ before (dataRows N s) last (k - 6) (omega arith)
+  row-data h l = behind (idRows layout T s) (dataRows N s ++ last) (k - 6) k (omega arith) ∙ before (dataRows N s) last (k - 6) (omega arith)
 
-  row-last : 11 ≤ k → getD (sectorRows f N T ss s) k noRow ≡ getD last (k - 11) noRow
+  row-last : 11 ≤ k → getD (sectorRows layout f N T ss s) k noRow ≡ getD last (k - 11) noRow
   unfolding sectorRows idRows dataRows
-  row-last h = behind (idRows T s) (dataRows N s ++ last) (k - 6) k (omega arith) ∙ behind (dataRows N s) last (k - 11) (k - 6) (omega arith)
+  row-last h = behind (idRows layout T s) (dataRows N s ++ last) (k - 6) k (omega arith) ∙ behind (dataRows N s) last (k - 11) (k - 6) (omega arith)
 
-  pub row-sws : k ≡ 11 → getD (sectorRows f N T ss s) k noRow ≡ sws N ss s
+  pub row-sws : k ≡ 11 → getD (sectorRows layout f N T ss s) k noRow ≡ sws N ss s
   row-sws h = let e : k - 11 ≡ 0 = omega arith in rw (row-last (omega arith), e)
 
-  pub row-sid : k ≡ 12 → getD (sectorRows f N T ss s) k noRow ≡ sid (syncsInside f s) s
+  pub row-sid : k ≡ 12 → getD (sectorRows layout f N T ss s) k noRow ≡ sid (syncsInside layout f s) s
   row-sid h = let e : k - 11 ≡ 1 = omega arith in rw (row-last (omega arith), e)
 
 -- all kinds
-module _ (f : ℕ → ℕ) (N T : ℕ) (ss : List Sector) (i k : ℕ) where
+module _ (layout : Layout) (f : ℕ → ℕ) (N T : ℕ) (ss : List Sector) (i k : ℕ) where
   abbrev on-sector : List Row
-  on-sector = sectorRows f N T ss (nth ss i)
+  on-sector = sectorRows layout f N T ss (nth ss i)
 
   abbrev rest : List Row
-  rest = dsn (take i ss) (nth ss i) ∷ (on-sector ++ gapRows (gapsOf f N))
+  rest = dsn (take i ss) (nth ss i) ∷ (on-sector ++ gapRows (gapsOf layout f N))
 
   pub length-on-sector : length on-sector ≡ 13
   unfolding sectorRows idRows dataRows
   length-on-sector = refl
 
-  pub row-track : k < 5 → getD (rows f N T ss i) k noRow ≡ getD (trackRows N (length ss) T) k noRow
+  pub row-track : k < 5 → getD (rows layout f N T ss i) k noRow ≡ getD (trackRows layout N (length ss) T) k noRow
   unfolding rows trackRows
-  row-track h = before (trackRows N (length ss) T) rest k h
+  row-track h = before (trackRows layout N (length ss) T) rest k h
 
-  pub row-dsn : k ≡ 5 → getD (rows f N T ss i) k noRow ≡ dsn (take i ss) (nth ss i)
+  pub row-dsn : k ≡ 5 → getD (rows layout f N T ss i) k noRow ≡ dsn (take i ss) (nth ss i)
   unfolding rows trackRows
-  row-dsn h = behind (trackRows N (length ss) T) rest 0 k (omega arith)
+  row-dsn h = behind (trackRows layout N (length ss) T) rest 0 k (omega arith)
 
-  behind-dsn : 6 ≤ k → getD (rows f N T ss i) k noRow ≡ getD (on-sector ++ gapRows (gapsOf f N)) (k - 6) noRow
+  behind-dsn : 6 ≤ k → getD (rows layout f N T ss i) k noRow ≡ getD (on-sector ++ gapRows (gapsOf layout f N)) (k - 6) noRow
   unfolding rows trackRows
   behind-dsn h =
-      behind (trackRows N (length ss) T) rest (k - 5) k (omega arith)
-      ∙ behind (dsn (take i ss) (nth ss i) ∷ []) (on-sector ++ gapRows (gapsOf f N)) (k - 6) (k - 5) (omega arith)
+      behind (trackRows layout N (length ss) T) rest (k - 5) k (omega arith)
+      ∙ behind (dsn (take i ss) (nth ss i) ∷ []) (on-sector ++ gapRows (gapsOf layout f N)) (k - 6) (k - 5) (omega arith)
 
-  pub row-sector : 6 ≤ k → k < 19 → getD (rows f N T ss i) k noRow ≡ getD (sectorRows f N T ss (nth ss i)) (k - 6) noRow
-  row-sector h l = behind-dsn h ∙ before on-sector (gapRows (gapsOf f N)) (k - 6) (omega (arith, length-on-sector))
+  pub row-sector : 6 ≤ k → k < 19 → getD (rows layout f N T ss i) k noRow ≡ getD (sectorRows layout f N T ss (nth ss i)) (k - 6) noRow
+  row-sector h l = behind-dsn h ∙ before on-sector (gapRows (gapsOf layout f N)) (k - 6) (omega (arith, length-on-sector))
 
-  pub row-gaps : 19 ≤ k → getD (rows f N T ss i) k noRow ≡ getD (gapRows (gapsOf f N)) (k - 19) noRow
-  row-gaps h = behind-dsn (omega arith) ∙ behind on-sector (gapRows (gapsOf f N)) (k - 19) (k - 6) (omega (arith, length-on-sector))
+  pub row-gaps : 19 ≤ k → getD (rows layout f N T ss i) k noRow ≡ getD (gapRows (gapsOf layout f N)) (k - 19) noRow
+  row-gaps h = behind-dsn (omega arith) ∙ behind on-sector (gapRows (gapsOf layout f N)) (k - 19) (k - 6) (omega (arith, length-on-sector))

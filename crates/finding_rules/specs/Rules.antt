@@ -1,6 +1,6 @@
 -- Section 7 of the specification: the table of the 21 kinds, one record for each row: whether its rule holds, and the place and the detail
--- of its finding. N is the number of cells, T the drive's track; s is the record of a sector, p its place, q that of its data mark. The
--- main property: `rows` has them all, in the table's order. Assumes nothing.
+-- of its finding. N is the number of cells, T the drive's track; s is the record of a sector, p its place, q that of its data mark. The layout
+-- says what is usual in the track's density. The main property: `rows` has them all, in the table's order. Assumes nothing.
 use Prim.Native.Nat.{ℕ, _+_, _-_}
 use mathlib.Core.Bool.{Bool, false, not, _&&_, _||_}
 use mathlib.Core.List.{List, [], _∷_, _++_}
@@ -9,6 +9,7 @@ use lib.ListN.{length, getD, take}
 use Rattle.cell_patterns.specs.Cells.{gapsOf, syncsInside}
 use Rattle.cell_patterns.specs.declared.Gaps.{Gaps}
 use Rattle.finding_rules.specs.declared.Row.{Row}
+use Rattle.layouts.specs.declared.Layout.{Layout}
 use Rattle.sector_records.specs.Sectors.{hasData, noSector}
 use Rattle.sector_records.specs.declared.Sector.{Sector}
 
@@ -17,17 +18,18 @@ unfoldable pub someSector : (Sector → Bool) → List Sector → Bool
 someSector test [] = false
 someSector test (s ∷ ss) = test s || someSector test ss
 
--- 7.1: LGT, long track: N is above 103,000. At 0, with N
-abbrev pub lgt : (N : ℕ) → Row
-lgt N = record { holds = ltb 103000 N; place = 0; detail = N }
+-- 7.1, 7.44: LGT, long track: N is above 103,000, in single density above 51,500. At 0, with N
+abbrev pub lgt : Layout → (N : ℕ) → Row
+lgt layout N = record { holds = ltb (layout .«most_cells») N; place = 0; detail = N }
 
--- 7.2: SHT, short track: N is below 97,000. At 0, with N
-abbrev pub sht : (N : ℕ) → Row
-sht N = record { holds = ltb N 97000; place = 0; detail = N }
+-- 7.2, 7.44: SHT, short track: N is below 97,000, in single density below 48,500. At 0, with N
+abbrev pub sht : Layout → (N : ℕ) → Row
+sht layout N = record { holds = ltb N (layout .«fewest_cells»); place = 0; detail = N }
 
--- 7.3: NOS, number of sectors: below 9, or above 10. At 0, with their number
-abbrev pub nos : (sectors : ℕ) → Row
-nos sectors = record { holds = ltb sectors 9 || ltb 10 sectors; place = 0; detail = sectors }
+-- 7.3, 7.44: NOS, number of sectors: below 9, or above 10; in single density other than 18. At 0, with their number
+abbrev pub nos : Layout → (sectors : ℕ) → Row
+nos layout sectors =
+    record { holds = ltb sectors (layout .«fewest_sectors») || ltb (layout .«most_sectors») sectors; place = 0; detail = sectors }
 
 -- 7.4: TNF, track not found: no sectors, and T is at most 79. At 0, with 0
 abbrev pub tnf : (sectors T : ℕ) → Row
@@ -58,15 +60,21 @@ itn T s = record { holds = not (eqb (s .track) T); place = s .place; detail = s 
 abbrev pub iif : Sector → Row
 iif s = record { holds = ltb 83 (s .track) || (ltb 1 (s .side) || ltb 3 (s .«size_code»)); place = s .place; detail = s .side }
 
--- 7.10: SSZ, sector size: the size code is neither 2 nor 3. At p, with the code
-abbrev pub ssz : Sector → Row
-ssz s = record { holds = not (eqb (s .«size_code») 2) && not (eqb (s .«size_code») 3); place = s .place; detail = s .«size_code» }
+-- 7.10, 7.44: SSZ, sector size: the size code is neither 2 nor 3, in single density not 0. At p, with the code
+abbrev pub ssz : Layout → Sector → Row
+ssz layout s =
+    record {
+      holds = not (eqb (s .«size_code») (layout .«size_code»)) && not (eqb (s .«size_code») (layout .«other_size_code»));
+      place = s .place;
+      detail = s .«size_code»;
+    }
 
--- 7.11: NSI, non-standard ID mark: not FE, so FC, FD or FF. At p, with the mark byte
+-- 7.11, 7.47: NSI, non-standard ID mark: not FE, so FC, FD or FF, which single density has not. At p, with the mark byte
 abbrev pub nsi : Sector → Row
 nsi s = record { holds = not (eqb (s .mark) 0xFE); place = s .place; detail = s .mark }
 
--- 7.12: NSD, non-standard data mark: the sector has data, and its mark is neither F8 nor FB, so F9 or FA. At p, with the mark byte
+-- 7.12, 7.47: NSD, non-standard data mark: the sector has data, and its mark is neither F8 nor FB, so F9 or FA, which single density has
+-- not. At p, with the mark byte
 abbrev pub nsd : Sector → Row
 nsd s =
     record {
@@ -107,11 +115,11 @@ startsInData N s other = (not (eqb (other .place) (s .place)) && hasData other) 
 abbrev pub sws : (N : ℕ) → List Sector → Sector → Row
 sws N sectors s = record { holds = someSector (startsInData N s) sectors; place = s .place; detail = s .number }
 
--- 7.19: SID, sync in ID or data: there is one or more (`syncsInside`). At p, with how many
+-- 7.19, 7.45: SID, sync in ID or data: there is one or more (`syncsInside`). At p, with how many
 abbrev pub sid : (syncs : ℕ) → Sector → Row
 sid syncs s = record { holds = ltb 0 syncs; place = s .place; detail = syncs }
 
--- 7.20: MTV, MFM timing violation: a one has its next one too near or too far (`violation`). At the least such place, with how many there
+-- 7.20, 7.46: MTV, MFM timing violation: a one has its next one too near or too far (`violation`). At the least such place, with how many there
 -- are
 abbrev pub mtv : Gaps → Row
 mtv gaps = record { holds = ltb 0 (gaps .violations); place = gaps .first; detail = gaps .violations }
@@ -125,20 +133,20 @@ abbrev pub noRow : Row
 noRow = record { holds = false; place = 0; detail = 0 }
 
 -- kinds 1 to 5, on the numbers of a track
-unfoldable pub trackRows : (N sectors T : ℕ) → List Row
-trackRows N sectors T = lgt N ∷ sht N ∷ nos sectors ∷ tnf sectors T ∷ ext sectors T ∷ []
+unfoldable pub trackRows : Layout → (N sectors T : ℕ) → List Row
+trackRows layout N sectors T = lgt layout N ∷ sht layout N ∷ nos layout sectors ∷ tnf sectors T ∷ ext sectors T ∷ []
 
 -- kinds 7 to 12, on a sector's ID and its marks
-unfoldable pub idRows : (T : ℕ) → Sector → List Row
-idRows T s = isn s ∷ itn T s ∷ iif s ∷ ssz s ∷ nsi s ∷ nsd s ∷ []
+unfoldable pub idRows : Layout → (T : ℕ) → Sector → List Row
+idRows layout T s = isn s ∷ itn T s ∷ iif s ∷ ssz layout s ∷ nsi s ∷ nsd s ∷ []
 
 -- kinds 13 to 17, on a sector's checks and its data
 unfoldable pub dataRows : (N : ℕ) → Sector → List Row
 dataRows N s = sbi s ∷ snd s ∷ sbd s ∷ doi N s ∷ dbi N s ∷ []
 
 -- kinds 7 to 19, on one sector of a track with the sectors ss
-unfoldable pub sectorRows : (ℕ → ℕ) → (N T : ℕ) → List Sector → Sector → List Row
-sectorRows f N T ss s = idRows T s ++ (dataRows N s ++ (sws N ss s ∷ sid (syncsInside f s) s ∷ []))
+unfoldable pub sectorRows : Layout → (ℕ → ℕ) → (N T : ℕ) → List Sector → Sector → List Row
+sectorRows layout f N T ss s = idRows layout T s ++ (dataRows N s ++ (sws N ss s ∷ sid (syncsInside layout f s) s ∷ []))
 
 -- kinds 20 and 21, on what was counted on the cells
 unfoldable pub gapRows : Gaps → List Row
@@ -149,6 +157,7 @@ abbrev pub nth : List Sector → ℕ → Sector
 nth ss i = getD ss i noSector
 
 -- the whole table, from kind 1 on, on a track of N cells f with the sectors ss: its rows on sectors are on sector i
-unfoldable pub rows : (ℕ → ℕ) → (N T : ℕ) → List Sector → ℕ → List Row
-rows f N T ss i =
-    trackRows N (length ss) T ++ (dsn (take i ss) (nth ss i) ∷ (sectorRows f N T ss (nth ss i) ++ gapRows (gapsOf f N)))
+unfoldable pub rows : Layout → (ℕ → ℕ) → (N T : ℕ) → List Sector → ℕ → List Row
+rows layout f N T ss i =
+    trackRows layout N (length ss) T
+    ++ (dsn (take i ss) (nth ss i) ∷ (sectorRows layout f N T ss (nth ss i) ++ gapRows (gapsOf layout f N)))

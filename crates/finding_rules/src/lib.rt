@@ -1,6 +1,7 @@
 // The table of findings (rules 7.1 to 7.21): on the track's numbers, on one sector's record, on one record beside another, and on what was
 // counted on the cells. A kind is given by its place in its group, from 0.
 use cell_patterns::Gaps;
+use layouts::Layout;
 use sector_records::Sector;
 ghost use mathlib.Core.Path.{_≡_};
 ghost use Prim.Native.Nat.{_-_};
@@ -13,16 +14,6 @@ pub struct Row {
     pub place: usize,
     pub detail: usize,
 }
-
-// The most and the fewest cells of a usual track.
-const MOST_USUAL_CELLS: u32 = 103000;
-
-const FEWEST_USUAL_CELLS: u32 = 97000;
-
-// The sectors of a usual track.
-const FEWEST_USUAL_SECTORS: u32 = 9;
-
-const MOST_USUAL_SECTORS: u32 = 10;
 
 // The last track of a usual disk, and the first after it.
 const LAST_USUAL_TRACK: u32 = 79;
@@ -41,11 +32,6 @@ const LAST_ID_SIDE: u8 = 1;
 
 const LAST_SIZE_CODE: u8 = 3;
 
-// The codes of 512 and 1024 bytes.
-const CODE_OF_512: u8 = 2;
-
-const CODE_OF_1024: u8 = 3;
-
 // The usual marks: of an ID, of data, and of deleted data.
 const ID_MARK: u8 = 0xFE;
 
@@ -57,25 +43,25 @@ const DELETED_DATA_MARK: u8 = 0xF8;
 const LONG_RUN: usize = 1000;
 
 // Kinds 1 to 5, on the numbers of the track.
-pub fn track_rule(k: usize, n: u32, sectors: u32, track: u32) -> Row
-    ensures { λ r. ⌜ r ≡ getD (trackRows n sectors track) k noRow ⌝ }
+pub fn track_rule(layout: Layout, k: usize, n: u32, sectors: u32, track: u32) -> Row
+    ensures { λ r. ⌜ r ≡ getD (trackRows layout n sectors track) k noRow ⌝ }
 {
     match k {
         // LGT
         0 => Row {
-            holds: MOST_USUAL_CELLS < n,
+            holds: layout.most_cells < n,
             place: 0,
             detail: n as usize,
         },
         // SHT
         1 => Row {
-            holds: n < FEWEST_USUAL_CELLS,
+            holds: n < layout.fewest_cells,
             place: 0,
             detail: n as usize,
         },
         // NOS
         2 => Row {
-            holds: (sectors < FEWEST_USUAL_SECTORS) | (MOST_USUAL_SECTORS < sectors),
+            holds: (sectors < layout.fewest_sectors) | (layout.most_sectors < sectors),
             place: 0,
             detail: sectors as usize,
         },
@@ -96,8 +82,8 @@ pub fn track_rule(k: usize, n: u32, sectors: u32, track: u32) -> Row
 }
 
 // Kinds 7 to 12, on a sector's ID and the marks.
-pub fn id_rule(k: usize, track: u32, s: Sector) -> Row
-    ensures { λ r. ⌜ r ≡ getD (idRows track s) k noRow ⌝ }
+pub fn id_rule(layout: Layout, k: usize, track: u32, s: Sector) -> Row
+    ensures { λ r. ⌜ r ≡ getD (idRows layout track s) k noRow ⌝ }
 {
     match k {
         // ISN
@@ -121,7 +107,7 @@ pub fn id_rule(k: usize, track: u32, s: Sector) -> Row
         },
         // SSZ
         3 => Row {
-            holds: (s.size_code != CODE_OF_512) & (s.size_code != CODE_OF_1024),
+            holds: (s.size_code != layout.size_code) & (s.size_code != layout.other_size_code),
             place: s.place as usize,
             detail: s.size_code as usize,
         },

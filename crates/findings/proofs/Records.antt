@@ -20,6 +20,7 @@ use Rattle.finding_rules.specs.declared.Row.{Row}
 use Rattle.finding_list.specs.declared.Finding.{Finding}
 use Rattle.findings.proofs.Outcome.{written-few, findings-written}
 use Rattle.cells.specs.CellsAndBytes.{cell}
+use Rattle.layouts.specs.declared.Layout.{Layout}
 use Rattle.sector_records.specs.Sectors.{sectorsOf}
 
 -- a record that is all zeros, where there is none
@@ -101,17 +102,17 @@ unfolding listed
 filled-is f list zero h = refl
 filled-is f list (suc i) h = rw add-one at (listed-more f noFinding i (f i) list (filled f list i) (filled-is f list i (omega arith)) h refl)
 
-module _ (bytes : List ℕ) (N T H : ℕ) where
-  findings-narrow : Narrow (findingsOf bytes N T)
+module _ (layout : Layout) (bytes : List ℕ) (N T H : ℕ) where
+  findings-narrow : Narrow (findingsOf layout bytes N T)
   unfolding findingsOf ofKind foundAt
   findings-narrow =
-      narrow-joined _ kinds (λ k h. narrow-joined _ _ (λ i l. narrow-found k h (rowAt (cell bytes N) N T (sectorsOf bytes N) k i)))
+      narrow-joined _ kinds (λ k h. narrow-joined _ _ (λ i l. narrow-found k h (rowAt layout (cell bytes N) N T (sectorsOf layout bytes N) k i)))
 
   -- the caller's list after as many stores as the answer has the call write
-  pub list-is : (list : List Finding) (numbers : List ℕ) (c : ℕ) → c ≡ countWritten (findingsAnswer bytes N T H (length list)) → c ≤ length list
-      → take (4 * c) numbers ≡ numbersOf (take c (findingsOf bytes N T)) → filled (findingAt numbers) list c ≡ listAfter bytes N T H list
+  pub list-is : (list : List Finding) (numbers : List ℕ) (c : ℕ) → c ≡ countWritten (findingsAnswer layout bytes N T H (length list)) → c ≤ length list
+      → take (4 * c) numbers ≡ numbersOf (take c (findingsOf layout bytes N T)) → filled (findingAt numbers) list c ≡ listAfter layout bytes N T H list
   list-is list numbers c e h n =
-      let xs = findingsOf bytes N T in
-      let l : length (take c xs) ≡ c = length-take-le c xs (omega (arith, written-few bytes N T H (length list))) in
+      let xs = findingsOf layout bytes N T in
+      let l : length (take c xs) ≡ c = length-take-le c xs (omega (arith, written-few layout bytes N T H (length list))) in
       let s : listed (findingAt numbers) c ≡ take c xs = rw l at (front-is (take c xs) numbers (narrow-take c xs findings-narrow) (rw l n)) in
-      filled-is (findingAt numbers) list c h ∙ rw (s, e) (findings-written bytes N T H (length list) list)
+      filled-is (findingAt numbers) list c h ∙ rw (s, e) (findings-written layout bytes N T H (length list) list)

@@ -4,6 +4,7 @@ mod lent;
 pub use finding_list::Finding;
 pub use finding_list::Found;
 use finding_list::NUMBERS;
+pub use layouts::Density;
 pub use lent::findings;
 use refusals::Counted;
 use refusals::Refusal;
@@ -15,18 +16,35 @@ ghost use Rattle.finding_list.specs.Findings.{findingsOf};
 ghost use Rattle.findings.specs.Calls.{findingsAnswer, numbersAfter};
 ghost use Rattle.findings.specs.PrivateContracts.{countWritten, findingAt};
 ghost use Rattle.refusals.specs.RefusedCalls.{refusedWith, countedAnswer};
+ghost use Rattle.layouts.specs.Layouts.{doubleDensity, layoutOf};
 ghost use Rattle.sector_records.specs.Sectors.{sectorsOf};
 
 // The findings of a track of n cells, packed in `bytes`, as numbers at the front of the list: kind, level, place and detail of each (rule
 // 9.24). `track` and `side` are the drive's.
 pub fn findings_as_numbers(bytes: &[u8], n: usize, track: u32, side: u32, list: &mut [u32]) -> Found
-    ensures answer { λ r. ⌜ countedAnswer (r .answer) ≡ findingsAnswer (now (bytes .entry)) n track side (length (now (list .entry)) / 4) ⌝ }
-    ensures sectors { λ r. ⌜ r .sectors ≡ sectorsGiven (findingsAnswer (now (bytes .entry)) n track side (length (now (list .entry)) / 4)) (length (sectorsOf (now (bytes .entry)) n)) ⌝ }
-    ensures list { λ _. ⌜ now (list .exit) ≡ numbersAfter (now (bytes .entry)) n track side (now (list .entry)) ⌝ }
+    ensures answer { λ r. ⌜ countedAnswer (r .answer) ≡ findingsAnswer doubleDensity (now (bytes .entry)) n track side (length (now (list .entry)) / 4) ⌝ }
+    ensures sectors { λ r. ⌜ r .sectors ≡ sectorsGiven (findingsAnswer doubleDensity (now (bytes .entry)) n track side (length (now (list .entry)) / 4)) (length (sectorsOf doubleDensity (now (bytes .entry)) n)) ⌝ }
+    ensures list { λ _. ⌜ now (list .exit) ≡ numbersAfter doubleDensity (now (bytes .entry)) n track side (now (list .entry)) ⌝ }
+{
+    findings_as_numbers_in(Density::Double, bytes, n, track, side, list)
+}
+
+// The same of a track of either density (rules 9.24, 9.45).
+pub fn findings_as_numbers_in(
+    density: Density,
+    bytes: &[u8],
+    n: usize,
+    track: u32,
+    side: u32,
+    list: &mut [u32],
+) -> Found
+    ensures answer { λ r. ⌜ countedAnswer (r .answer) ≡ findingsAnswer (layoutOf density) (now (bytes .entry)) n track side (length (now (list .entry)) / 4) ⌝ }
+    ensures sectors { λ r. ⌜ r .sectors ≡ sectorsGiven (findingsAnswer (layoutOf density) (now (bytes .entry)) n track side (length (now (list .entry)) / 4)) (length (sectorsOf (layoutOf density) (now (bytes .entry)) n)) ⌝ }
+    ensures list { λ _. ⌜ now (list .exit) ≡ numbersAfter (layoutOf density) (now (bytes .entry)) n track side (now (list .entry)) ⌝ }
 {
     let mut numbers: [u32; NUMBERS] = [0; NUMBERS];
     let room = list.len() / 4;
-    let planned = plan(&mut numbers, bytes, n, track, side, room);
+    let planned = plan(density, &mut numbers, bytes, n, track, side, room);
     basis::copy_numbers(&numbers[..4 * planned.count], list);
     let sectors = planned.sectors;
     let answer = planned.answer;
@@ -44,6 +62,7 @@ struct Planned {
 // The findings as numbers, and the plan for a list with room for `room` findings. 3,604 numbers are enough: with 64 sectors there are at
 // most 901 findings.
 fn plan(
+    density: Density,
     numbers: &mut [u32; NUMBERS],
     bytes: &[u8],
     n: usize,
@@ -51,12 +70,12 @@ fn plan(
     side: u32,
     room: usize,
 ) -> Planned
-    ensures answer { λ r. ⌜ countedAnswer (r .answer) ≡ findingsAnswer (now (bytes .entry)) n track side room ⌝ }
-    ensures counts { λ r. ⌜ (r .count ≡ countWritten (findingsAnswer (now (bytes .entry)) n track side room)) × (r .sectors ≡ sectorsGiven (findingsAnswer (now (bytes .entry)) n track side room) (length (sectorsOf (now (bytes .entry)) n))) ⌝ }
-    ensures numbers { λ r. ⌜ take (4 * r .count) (now (numbers .exit)) ≡ numbersOf (take (r .count) (findingsOf (now (bytes .entry)) n track)) ⌝ }
+    ensures answer { λ r. ⌜ countedAnswer (r .answer) ≡ findingsAnswer (layoutOf density) (now (bytes .entry)) n track side room ⌝ }
+    ensures counts { λ r. ⌜ (r .count ≡ countWritten (findingsAnswer (layoutOf density) (now (bytes .entry)) n track side room)) × (r .sectors ≡ sectorsGiven (findingsAnswer (layoutOf density) (now (bytes .entry)) n track side room) (length (sectorsOf (layoutOf density) (now (bytes .entry)) n))) ⌝ }
+    ensures numbers { λ r. ⌜ take (4 * r .count) (now (numbers .exit)) ≡ numbersOf (take (r .count) (findingsOf (layoutOf density) (now (bytes .entry)) n track)) ⌝ }
     ensures bounds { λ r. ⌜ (r .count ≤ 901) × (r .count ≤ room) ⌝ }
 {
-    let found = finding_list::survey(numbers, bytes, n, track, side);
+    let found = finding_list::survey(density, numbers, bytes, n, track, side);
     let sectors = found.sectors;
     let answer = found.answer;
     match answer {

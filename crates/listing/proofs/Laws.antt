@@ -5,6 +5,9 @@
 --   front-in-room      so the front of the buffer is that line or listing
 --
 -- That the listing of any track has at most 65,536 bytes is promised by `list_track` itself. Assumes nothing.
+use Rattle.layouts.specs.Layouts.{doubleDensity}
+use Rattle.layouts.specs.declared.Density.the-variants.{Double}
+use Rattle.layouts.proofs.Soundness.{sound}
 use Prim.Native.Nat.{ℕ, _≤_}
 use mathlib.Core.Path.{_≡_, refl, ap, _∙_}
 use mathlib.Core.Bool.{Bool, true, false, cond, _||_}
@@ -47,16 +50,16 @@ never-given k x value e =
     let z : _≡_ {A = ℕ} 0 1 = cc in
     omega arith
 
-pub never-five : (bytes : List ℕ) (N T H value : ℕ) → findingsAnswer bytes N T H 901 ≡ refused 5 value → ⊥
+pub never-five : (bytes : List ℕ) (N T H value : ℕ) → findingsAnswer doubleDensity bytes N T H 901 ≡ refused 5 value → ⊥
 unfolding findingsAnswer trackJudged countJudged
 never-five bytes N T H =
     never-behind 5 (ltb 83 T || ltb 1 H) 1 0 _ (λ e. omega arith)
     (λ _. never-behind 5 (ltb N 20000 || ltb 131072 N) 2 N _ (λ e. omega arith)
     (λ _. never-behind 5 (ltb (length bytes) (bytesFor N)) 3 (bytesFor N) _ (λ e. omega arith)
-    (λ _. never-behind 5 (ltb 64 (length (sectorsOf bytes N))) 4 (length (sectorsOf bytes N)) _ (λ e. omega arith) enough)))
+    (λ _. never-behind 5 (ltb 64 (length (sectorsOf doubleDensity bytes N))) 4 (length (sectorsOf doubleDensity bytes N)) _ (λ e. omega arith) enough)))
   where
-    enough : ltb 64 (length (sectorsOf bytes N)) ≡ false
-        → Never 5 (cond (ltb 901 (length (findingsOf bytes N T))) (refused 5 (length (findingsOf bytes N T))) (gives (length (findingsOf bytes N T))))
+    enough : ltb 64 (length (sectorsOf doubleDensity bytes N)) ≡ false
+        → Never 5 (cond (ltb 901 (length (findingsOf doubleDensity bytes N T))) (refused 5 (length (findingsOf doubleDensity bytes N T))) (gives (length (findingsOf doubleDensity bytes N T))))
     enough e =
-        let few = findings-few bytes N T (ltb-false 64 (length (sectorsOf bytes N)) e) in
-        rw (le-ltb 901 (length (findingsOf bytes N T)) few) (never-given 5 (length (findingsOf bytes N T)))
+        let few = findings-few doubleDensity (sound Double) bytes N T (ltb-false 64 (length (sectorsOf doubleDensity bytes N)) e) in
+        rw (le-ltb 901 (length (findingsOf doubleDensity bytes N T)) few) (never-given 5 (length (findingsOf doubleDensity bytes N T)))

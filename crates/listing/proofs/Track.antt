@@ -1,4 +1,7 @@
 -- The listing of a track, from what its findings' call gives. Assumes nothing.
+use Rattle.layouts.specs.Layouts.{doubleDensity}
+use Rattle.layouts.specs.declared.Density.the-variants.{Double}
+use Rattle.layouts.proofs.Soundness.{sound}
 use Prim.Native.Nat.{ℕ, _+_, _*_, _<_, _≤_}
 use mathlib.Core.Path.{_≡_, refl, sym, ap, _∙_}
 use mathlib.Core.Bool.{Bool, true, false}
@@ -30,47 +33,47 @@ told made before w = (answer-is w, (answer-few w, out-is w))
 
 module _ (bytes : List ℕ) (N T H : ℕ) where
   -- a track that is refused
-  line-told : {after : List ℕ} {next k : ℕ} (out : List ℕ) (number value : ℕ) → findingsAnswer bytes N T H 901 ≡ refused number value → k ≡ number
+  line-told : {after : List ℕ} {next k : ℕ} (out : List ℕ) (number value : ℕ) → findingsAnswer doubleDensity bytes N T H 901 ≡ refused number value → k ≡ number
       → k < 0x1_0000_0000 → (next ≡ length (refusedLine k)) × (after ≡ outAfter (refusedLine k) out) → Told 60439 (listingOf bytes N T H) out after next
   unfolding listingOf printed
   line-told {k = k} out number value e is fits line =
       rw (e, ← is) (told (refusedLine k) out (wrote-few (omega arith) (wrote-front 19 (refused-few k fits) (line .0) (line .1))))
 
-  pub refusal-written : {after : List ℕ} {next k : ℕ} (out : List ℕ) (number value : ℕ) → findingsAnswer bytes N T H 901 ≡ refused number value → k ≡ number
+  pub refusal-written : {after : List ℕ} {next k : ℕ} (out : List ℕ) (number value : ℕ) → findingsAnswer doubleDensity bytes N T H 901 ≡ refused number value → k ≡ number
       → k < 0x1_0000_0000 → (next ≡ length (refusedLine k)) × (after ≡ outAfter (refusedLine k) out) → Written bytes N T H out after true next
   refusal-written out number value e is fits line =
       let t = line-told out number value e is fits line in
       record { told = rw e; place = t .0; few = t .1 .0; out = t .1 .1 }
 
   -- one that is accepted, with so many findings
-  module _ (count : ℕ) (e : findingsAnswer bytes N T H 901 ≡ gives count) where
+  module _ (count : ℕ) (e : findingsAnswer doubleDensity bytes N T H 901 ≡ gives count) where
     pub few-cells : N ≤ 131072
-    few-cells = findings-accepted bytes N T H 901 count e .3
+    few-cells = findings-accepted doubleDensity (sound Double) bytes N T H 901 count e .3
 
-    pub count-is : count ≡ length (findingsOf bytes N T)
-    count-is = findings-accepted bytes N T H 901 count e .0
+    pub count-is : count ≡ length (findingsOf doubleDensity bytes N T)
+    count-is = findings-accepted doubleDensity (sound Double) bytes N T H 901 count e .0
 
     pub few-findings : count ≤ 901
-    few-findings = findings-accepted bytes N T H 901 count e .1
+    few-findings = findings-accepted doubleDensity (sound Double) bytes N T H 901 count e .1
 
-    module _ (sectors : ℕ) (given : sectors ≡ sectorsGiven (findingsAnswer bytes N T H 901) (length (sectorsOf bytes N))) where
-      pub sectors-are : sectors ≡ length (sectorsOf bytes N)
-      sectors-are = given ∙ ap (λ (a : Answer ℕ). sectorsGiven a (length (sectorsOf bytes N))) e
+    module _ (sectors : ℕ) (given : sectors ≡ sectorsGiven (findingsAnswer doubleDensity bytes N T H 901) (length (sectorsOf doubleDensity bytes N))) where
+      pub sectors-are : sectors ≡ length (sectorsOf doubleDensity bytes N)
+      sectors-are = given ∙ ap (λ (a : Answer ℕ). sectorsGiven a (length (sectorsOf doubleDensity bytes N))) e
 
       pub few-sectors : sectors ≤ 64
-      few-sectors = omega (arith, sectors-are, findings-accepted bytes N T H 901 count e .2)
+      few-sectors = omega (arith, sectors-are, findings-accepted doubleDensity (sound Double) bytes N T H 901 count e .2)
 
       pub few-header : H < 0x1_0000_0000 → length (headerOf T H N sectors count) ≤ 72
       few-header h = header-few T H N sectors count h (omega (arith, few-cells)) (omega (arith, few-sectors)) (omega (arith, few-findings))
 
       -- the header, and a line for each finding that stands in the numbers
       module _ {middle after : List ℕ} {at next : ℕ} (out list numbers : List ℕ) (h : H < 0x1_0000_0000) (long : length list ≡ 3604)
-          (is : numbers ≡ numbersAfter bytes N T H list) (head : (at ≡ length (headerOf T H N sectors count)) × (middle ≡ outAfter (headerOf T H N sectors count) out))
+          (is : numbers ≡ numbersAfter doubleDensity bytes N T H list) (head : (at ≡ length (headerOf T H N sectors count)) × (middle ≡ outAfter (headerOf T H N sectors count) out))
           (lines : Wrote middle at (joined (lineAt numbers) count) (67 * count) after next) where
         listing-told : Told 60439 (listingOf bytes N T H) out after next
         unfolding listingOf printed bufferAfter
         listing-told =
-            let fs = findingsOf bytes N T in
+            let fs = findingsOf doubleDensity bytes N T in
             let whole : joined (lineAt numbers) count ≡ linesOf fs = rw (is, long, e, count-is) (lines-are (drop (length (numbersOf fs)) list) fs) in
             let few : 72 + 67 * count ≤ 60439 = omega (arith, few-findings) in
             let all = wrote-few few (wrote-front 72 (few-header h) (head .0) (head .1) then lines) in
@@ -87,7 +90,7 @@ module _ (bytes : List ℕ) (N T H : ℕ) where
     -- a track that is refused has no line of border pulses
     same-line : refusal ≡ true → (pulses : ℕ) → listingOf bytes N T H ≡ fluxListingOf bytes N T H pulses
     unfolding listingOf fluxListingOf printed
-    same-line r pulses = go _ _ (findingsAnswer bytes N T H 901) (sym (w .told) ∙ r)
+    same-line r pulses = go _ _ (findingsAnswer doubleDensity bytes N T H 901) (sym (w .told) ∙ r)
       where
         go : (l m : List ℕ) (answer : Answer ℕ) → isRefused answer ≡ true → printed answer l ≡ printed answer m
         go l m (gives count) e = let z : _≡_ {A = ℕ} 0 1 = cc in absurd (omega arith)
@@ -99,7 +102,7 @@ module _ (bytes : List ℕ) (N T H : ℕ) where
     -- and one that is accepted has it after its listing
     with-line : refusal ≡ false → (pulses : ℕ) → listingOf bytes N T H ++ borderPulsesLine pulses ≡ fluxListingOf bytes N T H pulses
     unfolding fluxListingOf printed
-    with-line r pulses = go (findingsAnswer bytes N T H 901) (sym (w .told) ∙ r)
+    with-line r pulses = go (findingsAnswer doubleDensity bytes N T H 901) (sym (w .told) ∙ r)
       where
         go : {l : List ℕ} (answer : Answer ℕ) → isRefused answer ≡ false → l ≡ printed answer l
         go (gives count) e = refl

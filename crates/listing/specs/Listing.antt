@@ -7,6 +7,7 @@
 -- N is the number of cells, T and H are the drive's track and side; `bytes` are the packed cells. The main property: what `list_track`
 -- writes is `listingOf`, and what `list_flux_track` writes `fluxListingOf`, for every track and every buffer; where the buffer is too short,
 -- as much of it as fits, and the answer is its whole length. Assumes nothing.
+use Rattle.layouts.specs.Layouts.{doubleDensity}
 use Prim.Native.Nat.{ℕ}
 use mathlib.Core.List.{List, [], _∷_, _++_}
 use lib.ListN.{length}
@@ -32,10 +33,10 @@ printed (refused number value) listing = refusedLine number
 -- them, so that 5 is never given (`never-five`, in proofs/Laws)
 unfoldable pub listingOf : List ℕ → (N T H : ℕ) → List ℕ
 listingOf bytes N T H =
-    printed (findingsAnswer bytes N T H 901)
-    (headerOf T H N (length (sectorsOf bytes N)) (length (findingsOf bytes N T)) ++ linesOf (findingsOf bytes N T))
+    printed (findingsAnswer doubleDensity bytes N T H 901)
+    (headerOf T H N (length (sectorsOf doubleDensity bytes N)) (length (findingsOf doubleDensity bytes N T)) ++ linesOf (findingsOf doubleDensity bytes N T))
 
 -- 11.12: the listing of a track whose cells are made of flux timings with so many border pulses: after the findings comes the line of their
 -- number. The header does not count it, and a track that is refused has no such line
 unfoldable pub fluxListingOf : List ℕ → (N T H pulses : ℕ) → List ℕ
-fluxListingOf bytes N T H pulses = printed (findingsAnswer bytes N T H 901) (listingOf bytes N T H ++ borderPulsesLine pulses)
+fluxListingOf bytes N T H pulses = printed (findingsAnswer doubleDensity bytes N T H 901) (listingOf bytes N T H ++ borderPulsesLine pulses)

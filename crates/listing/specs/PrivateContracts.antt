@@ -1,4 +1,5 @@
 -- What only the contracts of private functions need. Assumes nothing.
+use Rattle.layouts.specs.Layouts.{doubleDensity}
 use Prim.Native.Nat.{ℕ, _+_, _*_, _≤_}
 use mathlib.Core.Path.{_≡_}
 use mathlib.Core.Bool.{Bool, true, false}
@@ -21,7 +22,7 @@ isRefused (refused number value) = true
 
 -- the listing of a track is written to a buffer, which ends at `to`, and `refusal` says whether it is the line of a refusal
 pub record Written (bytes : List ℕ) (N T H : ℕ) (before after : List ℕ) (refusal : Bool) (to : ℕ) : Type 0 where
-  pub told : refusal ≡ isRefused (findingsAnswer bytes N T H 901)
+  pub told : refusal ≡ isRefused (findingsAnswer doubleDensity bytes N T H 901)
   pub place : to ≡ length (listingOf bytes N T H)
   pub few : to ≤ 60439
   pub out : after ≡ outAfter (listingOf bytes N T H) before

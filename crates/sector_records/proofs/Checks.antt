@@ -5,8 +5,9 @@ use mathlib.Core.List.{List, [], _∷_, _++_}
 use native.Mathlib.Numerals.{add-one}
 use lib.Dec.{eqb}
 use Rattle.basis.specs.Lists.{listed}
-use Rattle.crc.specs.CheckWord.{afterBit, afterBits, afterByte, checkWordFrom}
-use Rattle.sector_records.specs.Sectors.{markLength, byteFrom, bytesFrom, checkBytes, checkGood}
+use Rattle.crc.specs.CheckWord.{afterByte, checkWordFrom}
+use Rattle.layouts.specs.declared.Layout.{Layout}
+use Rattle.sector_records.specs.Sectors.{byteFrom, bytesFrom, checkBytes, checkGood}
 use Rattle.mfm.specs.Coding.{byteOn}
 
 -- one byte after others
@@ -25,13 +26,9 @@ module _ (f : ℕ → ℕ) (p : ℕ) where
   unfolding bytesFrom byteFrom listed
   check-more w i so-far next byte e g h = rw (add-one i, after-more, ← e, ← g) h
 
--- the bytes of three syncs, which every field starts with
-pub after-syncs : (bytes : List ℕ) → checkWordFrom 0xCDB4 bytes ≡ checkWordFrom 0xFFFF (0xA1 ∷ 0xA1 ∷ 0xA1 ∷ bytes)
-unfolding checkWordFrom afterByte afterBits afterBit
-after-syncs bytes = refl
-
 -- a field's check word compared with its check bytes
-pub good-is : (f : ℕ → ℕ) (p k word found : ℕ) → word ≡ checkWordFrom 0xCDB4 (bytesFrom f (p + 48) (k + 1)) → found ≡ checkBytes f (p + markLength + 16 * k)
-    → eqb word found ≡ checkGood f p k
+pub good-is : (layout : Layout) (f : ℕ → ℕ) (p k word found : ℕ)
+    → word ≡ checkWordFrom (layout .«check_start») (bytesFrom f (p + layout .«byte_place») (k + 1))
+    → found ≡ checkBytes f (p + layout .«mark_length» + 16 * k) → eqb word found ≡ checkGood layout f p k
 unfolding checkGood
-good-is f p k word found e g = rw (← after-syncs, ← add-one k, ← e, ← g)
+good-is layout f p k word found e g = rw (← add-one k, ← e, ← g)

@@ -9,30 +9,31 @@ use Rattle.basis.specs.Lists.{joined}
 use Rattle.basis.specs.Search.{least}
 use Rattle.basis.proofs.Joined.{joined-to, none-here, joined-here, joined-few}
 use Rattle.basis.proofs.Search.{least-before, least-found, least-low, least-high}
+use Rattle.layouts.specs.declared.Layout.{Layout}
 use Rattle.sector_records.specs.Marks.{idMarkAt}
 use Rattle.sector_records.specs.Sectors.{sectorAt, sectorsAt, kept}
 use Rattle.sector_records.specs.declared.Sectors.{Sectors}
 use Rattle.sector_records.proofs.Places.{sectors-one}
 
-module _ (f : ℕ → ℕ) where
-  pub sectors-few : (p : ℕ) → length (joined (sectorsAt f) p) ≤ p
-  sectors-few = joined-few (sectorsAt f) (idMarkAt f) (sectorAt f) (sectors-one f)
+module _ (layout : Layout) (f : ℕ → ℕ) where
+  pub sectors-few : (p : ℕ) → length (joined (sectorsAt layout f) p) ≤ p
+  sectors-few = joined-few (sectorsAt layout f) (idMarkAt layout f) (sectorAt layout f) (sectors-one layout f)
 
-  pub sectors-here : (p : ℕ) → idMarkAt f p ≡ true → joined (sectorsAt f) (p + 1) ≡ joined (sectorsAt f) p ++ (sectorAt f p ∷ [])
-  sectors-here = joined-here (sectorsAt f) (idMarkAt f) (sectorAt f) (sectors-one f)
+  pub sectors-here : (p : ℕ) → idMarkAt layout f p ≡ true → joined (sectorsAt layout f) (p + 1) ≡ joined (sectorsAt layout f) p ++ (sectorAt layout f p ∷ [])
+  sectors-here = joined-here (sectorsAt layout f) (idMarkAt layout f) (sectorAt layout f) (sectors-one layout f)
 
   -- the sectors before p, where an ID mark stands, or the track ends
   pub record Before (n : ℕ) (sectors : Sectors) (p : ℕ) : Type 0 where
     pub inside : p ≤ n
-    pub on : p < n → idMarkAt f p ≡ true
-    pub are : sectors ≡ kept (joined (sectorsAt f) p)
+    pub on : p < n → idMarkAt layout f p ≡ true
+    pub are : sectors ≡ kept (joined (sectorsAt layout f) p)
 
   -- from the next ID mark on
-  pub before-next : (n : ℕ) (sectors : Sectors) (p r : ℕ) → p ≤ n → r ≡ least (idMarkAt f) (n - p) p → sectors ≡ kept (joined (sectorsAt f) p) → Before n sectors r
+  pub before-next : (n : ℕ) (sectors : Sectors) (p r : ℕ) → p ≤ n → r ≡ least (idMarkAt layout f) (n - p) p → sectors ≡ kept (joined (sectorsAt layout f) p) → Before n sectors r
   before-next n sectors p r h e s =
-      let low : p ≤ r = rw e (least-low (idMarkAt f) (n - p) p) in
+      let low : p ≤ r = rw e (least-low (idMarkAt layout f) (n - p) p) in
       record {
-        inside = omega (arith, least-high (idMarkAt f) (n - p) p);
-        on = λ l. rw e (least-found (idMarkAt f) (n - p) p (omega arith));
-        are = s ∙ ap kept (sym (joined-to (sectorsAt f) p r low (λ q a b. none-here (sectorsAt f) (idMarkAt f) (sectorAt f) (sectors-one f) q (least-before (idMarkAt f) (n - p) p q a (rw e at b)))));
+        inside = omega (arith, least-high (idMarkAt layout f) (n - p) p);
+        on = λ l. rw e (least-found (idMarkAt layout f) (n - p) p (omega arith));
+        are = s ∙ ap kept (sym (joined-to (sectorsAt layout f) p r low (λ q a b. none-here (sectorsAt layout f) (idMarkAt layout f) (sectorAt layout f) (sectors-one layout f) q (least-before (idMarkAt layout f) (n - p) p q a (rw e at b)))));
       }

@@ -2,23 +2,23 @@
 -- order of sectors, their places, and the end of their data. Assumes nothing.
 use Prim.Native.Nat.{ℕ, zero, suc, _+_, _-_, _*_, _<_, _≤_, _%_}
 use mathlib.Core.Path.{_≡_, refl, sym, ap, _∙_}
-use mathlib.Core.Bool.{Bool, true, false, not, cond, _&&_}
+use mathlib.Core.Bool.{Bool, true, false, cond}
 use mathlib.Core.List.{List, [], _∷_}
 use native.Mathlib.Decide.{decLe}
 use native.Mathlib.Nat.{lt-of-not-le}
 use native.Mathlib.Omega.{arith}
-use borrow.Author.Tests.{ne-eqb, leb-true, leb-false}
-use lib.Dec.{eqb, leb}
+use borrow.Author.Tests.{leb-true, leb-false}
 use lib.ListN.{length, getD}
 use Rattle.basis.specs.Lists.{joined}
 use Rattle.basis.specs.Search.{least}
-use Rattle.basis.proofs.Bools.{and-left, and-right}
 use Rattle.basis.proofs.Joined.{From, joined-grows, index-below, element-of, element-from}
 use Rattle.basis.proofs.Search.{least-before, least-found, least-low, least-high}
 use Rattle.cells.specs.CellsAndBytes.{cell}
-use Rattle.sector_records.specs.Marks.{markAt, markByte, markOf, idMarkAt, dataMarkAt}
+use Rattle.layouts.specs.declared.Layout.{Layout}
+use Rattle.layouts.specs.PrivateContracts.{Sound}
+use Rattle.sector_records.specs.Marks.{idMarkAt, dataMarkAt}
 use Rattle.sector_records.specs.declared.Sector.{Sector}
-use Rattle.sector_records.specs.Sectors.{checkLength, markLength, idLength, reach, leastWithin, leastData, dataFound, lengthOf, idByte, dataLength, hasData, endOfData, sectorAt, noSector, sectorsAt, sectorsOf}
+use Rattle.sector_records.specs.Sectors.{leastWithin, leastData, dataFound, lengthOf, idByte, dataLength, endOfData, sectorAt, noSector, sectorsAt, sectorsOf}
 
 -- q is the least place from p + after to p + until that passes the test
 pub record LeastWithin (test : ℕ → Bool) (after until p q : ℕ) : Type 0 where
@@ -77,40 +77,12 @@ module _ (test : ℕ → Bool) (after until p : ℕ) where
       go (no a) b = absurd (clash q (within-before q (w .from) (lt-of-not-le a)) (w .passes))
 
 -- where a sector has a data mark, it is the least within reach; where it has none, there is none
-pub data-least : (f : ℕ → ℕ) (p : ℕ) → dataFound f p ≡ true → LeastWithin (dataMarkAt f) idLength reach p (sectorAt f p .«data_place»)
+pub data-least : (layout : Layout) (f : ℕ → ℕ) (p : ℕ) → dataFound layout f p ≡ true → LeastWithin (dataMarkAt layout f) (layout .«id_length») (layout .reach) p (sectorAt layout f p .«data_place»)
 unfolding sectorAt
-data-least f p e = rw e (within-found (dataMarkAt f) idLength reach p (leb-true (leastData f p) (p + reach) e))
+data-least layout f p e = rw e (within-found (dataMarkAt layout f) (layout .«id_length») (layout .reach) p (leb-true (leastData layout f p) (p + layout .reach) e))
 
-pub data-none : (f : ℕ → ℕ) (p : ℕ) → dataFound f p ≡ false → (r : ℕ) → p + idLength ≤ r → r ≤ p + reach → dataMarkAt f r ≡ false
-data-none f p e r h l = within-none (dataMarkAt f) idLength reach p (leb-false (leastData f p) (p + reach) e) r h l
-
--- the byte of a mark that is looked for from `low` on
-mark-from : (f : ℕ → ℕ) (low high q : ℕ) → markOf f low high q ≡ true → low ≤ markByte f q
-unfolding markOf
-mark-from f low high q e =
-    leb-true low (markByte f q)
-    (and-left (leb low (markByte f q)) (leb (markByte f q) high) (and-right (markAt f q) (leb low (markByte f q) && leb (markByte f q) high) e))
-
--- 6.12: a record tells of data exactly where a data mark is found
-pub has-data : (f : ℕ → ℕ) (p : ℕ) → hasData (sectorAt f p) ≡ dataFound f p
-unfolding sectorAt
-has-data f p = go (dataFound f p) refl
-  where
-    go : (b : Bool) → dataFound f p ≡ b → not (eqb (cond b (markByte f (leastData f p)) 0) 0) ≡ b
-    go true e =
-        let l = within-found (dataMarkAt f) idLength reach p (leb-true (leastData f p) (p + reach) e) in
-        rw (ne-eqb (markByte f (leastData f p)) 0 (λ z. omega (arith, mark-from f 0xF8 0xFB (leastData f p) (l .passes))))
-    go false e = refl
-
--- 6.14, 6.16: the data end of a record: 0 where there is no data, and else after the mark, the L bytes and their check bytes
-pub end-without-data : (f : ℕ → ℕ) (p : ℕ) → hasData (sectorAt f p) ≡ false → sectorAt f p .«data_end» ≡ 0
-unfolding sectorAt
-end-without-data f p h = let e : dataFound f p ≡ false = sym (has-data f p) ∙ h in rw e
-
-pub end-with-data : (f : ℕ → ℕ) (p : ℕ) → hasData (sectorAt f p) ≡ true
-    → sectorAt f p .«data_end» ≡ sectorAt f p .«data_place» + 64 + 16 * sectorAt f p .«data_length» + 32
-unfolding sectorAt dataLength
-end-with-data f p h = let e : dataFound f p ≡ true = sym (has-data f p) ∙ h in rw e
+pub data-none : (layout : Layout) (f : ℕ → ℕ) (p : ℕ) → dataFound layout f p ≡ false → (r : ℕ) → p + layout .«id_length» ≤ r → r ≤ p + layout .reach → dataMarkAt layout f r ≡ false
+data-none layout f p e r h l = within-none (dataMarkAt layout f) (layout .«id_length») (layout .reach) p (leb-false (leastData layout f p) (p + layout .reach) e) r h l
 
 -- data that starts within the reach of a place on the track ends before the track's second turn does, where the reach, the mark and the
 -- most bytes together fit the track
@@ -130,38 +102,38 @@ length-most code = go (code % 4) (omega arith)
     go (suc (suc (suc (suc r)))) h = absurd (omega arith)
 
 -- so reading a sector goes round the track at most once
-pub data-end-below : (f : ℕ → ℕ) (n p : ℕ) → 20000 ≤ n → p < n → sectorAt f p .«data_end» < 2 * n
+pub data-end-below : (layout : Layout) → Sound layout → (f : ℕ → ℕ) (n p : ℕ) → 20000 ≤ n → p < n → sectorAt layout f p .«data_end» < 2 * n
 unfolding sectorAt dataLength
-data-end-below f n p h l = go (dataFound f p) refl
+data-end-below layout sound f n p h l = go (dataFound layout f p) refl
   where
-    go : (b : Bool) → dataFound f p ≡ b → cond b (endOfData (leastData f p) (cond b (lengthOf (idByte f p 3)) 0)) 0 < 2 * n
-    go true e = end-in-two-turns markLength reach 1024 n p (leastData f p) (lengthOf (idByte f p 3)) (omega arith) l (leb-true (leastData f p) (p + reach) e) (length-most (idByte f p 3))
+    go : (b : Bool) → dataFound layout f p ≡ b → cond b (endOfData (layout .«mark_length») (leastData layout f p) (cond b (lengthOf (idByte (layout .«mark_length») f p 3)) 0)) 0 < 2 * n
+    go true e = end-in-two-turns (layout .«mark_length») (layout .reach) 1024 n p (leastData layout f p) (lengthOf (idByte (layout .«mark_length») f p 3)) (omega (arith, sound .mark, sound .near)) l (leb-true (leastData layout f p) (p + layout .reach) e) (length-most (idByte (layout .«mark_length») f p 3))
     go false e = omega arith
 
 -- the sectors at a place, as the laws of joined lists take them
-pub sectors-one : (f : ℕ → ℕ) (p : ℕ) → sectorsAt f p ≡ cond (idMarkAt f p) (sectorAt f p ∷ []) []
+pub sectors-one : (layout : Layout) (f : ℕ → ℕ) (p : ℕ) → sectorsAt layout f p ≡ cond (idMarkAt layout f p) (sectorAt layout f p ∷ []) []
 unfolding sectorsAt
-sectors-one f p = refl
+sectors-one layout f p = refl
 
-pub place-is : (f : ℕ → ℕ) (p : ℕ) → sectorAt f p .place ≡ p
+pub place-is : (layout : Layout) (f : ℕ → ℕ) (p : ℕ) → sectorAt layout f p .place ≡ p
 unfolding sectorAt
-place-is f p = refl
+place-is layout f p = refl
 
 -- s is sector i of the sectors before place n: the record of an ID mark, before which i sectors stand
-pub record SectorOf (f : ℕ → ℕ) (n i : ℕ) (s : Sector) : Type 0 where
+pub record SectorOf (layout : Layout) (f : ℕ → ℕ) (n i : ℕ) (s : Sector) : Type 0 where
   pub below : s .place < n
-  pub marked : idMarkAt f (s .place) ≡ true
-  pub made : s ≡ sectorAt f (s .place)
-  pub index : length (joined (sectorsAt f) (s .place)) ≡ i
+  pub marked : idMarkAt layout f (s .place) ≡ true
+  pub made : s ≡ sectorAt layout f (s .place)
+  pub index : length (joined (sectorsAt layout f) (s .place)) ≡ i
 
-module _ (f : ℕ → ℕ) (n : ℕ) where
+module _ (layout : Layout) (f : ℕ → ℕ) (n : ℕ) where
   -- each sector is the record of an ID mark
-  pub of-mark : (i : ℕ) → i < length (joined (sectorsAt f) n) → SectorOf f n i (getD (joined (sectorsAt f) n) i noSector)
-  of-mark i h = go (element-from (sectorsAt f) (idMarkAt f) (sectorAt f) (sectors-one f) noSector n i h)
+  pub of-mark : (i : ℕ) → i < length (joined (sectorsAt layout f) n) → SectorOf layout f n i (getD (joined (sectorsAt layout f) n) i noSector)
+  of-mark i h = go (element-from (sectorsAt layout f) (idMarkAt layout f) (sectorAt layout f) (sectors-one layout f) noSector n i h)
     where
-      go : From (sectorsAt f) (idMarkAt f) (sectorAt f) n i (getD (joined (sectorsAt f) n) i noSector) → SectorOf f n i (getD (joined (sectorsAt f) n) i noSector)
+      go : From (sectorsAt layout f) (idMarkAt layout f) (sectorAt layout f) n i (getD (joined (sectorsAt layout f) n) i noSector) → SectorOf layout f n i (getD (joined (sectorsAt layout f) n) i noSector)
       go from =
-          let e : getD (joined (sectorsAt f) n) i noSector .place ≡ from .place = ap (λ (s : Sector). s .place) (from .element) ∙ place-is f (from .place) in
+          let e : getD (joined (sectorsAt layout f) n) i noSector .place ≡ from .place = ap (λ (s : Sector). s .place) (from .element) ∙ place-is layout f (from .place) in
           record {
             below = rw e (from .below);
             marked = rw e (from .passes);
@@ -170,45 +142,45 @@ module _ (f : ℕ → ℕ) (n : ℕ) where
           }
 
   -- each ID mark has its record
-  pub mark-index : (p : ℕ) → p < n → idMarkAt f p ≡ true → length (joined (sectorsAt f) p) < length (joined (sectorsAt f) n)
-  mark-index p h e = index-below (sectorsAt f) (idMarkAt f) (sectorAt f) (sectors-one f) n p h e
+  pub mark-index : (p : ℕ) → p < n → idMarkAt layout f p ≡ true → length (joined (sectorsAt layout f) p) < length (joined (sectorsAt layout f) n)
+  mark-index p h e = index-below (sectorsAt layout f) (idMarkAt layout f) (sectorAt layout f) (sectors-one layout f) n p h e
 
-  pub mark-record : (p : ℕ) → p < n → idMarkAt f p ≡ true → getD (joined (sectorsAt f) n) (length (joined (sectorsAt f) p)) noSector ≡ sectorAt f p
-  mark-record p h e = element-of (sectorsAt f) (idMarkAt f) (sectorAt f) (sectors-one f) noSector n p h e
+  pub mark-record : (p : ℕ) → p < n → idMarkAt layout f p ≡ true → getD (joined (sectorsAt layout f) n) (length (joined (sectorsAt layout f) p)) noSector ≡ sectorAt layout f p
+  mark-record p h e = element-of (sectorsAt layout f) (idMarkAt layout f) (sectorAt layout f) (sectors-one layout f) noSector n p h e
 
   -- sectors are ordered by place
-  pub places-rise : (i j : ℕ) → i < j → j < length (joined (sectorsAt f) n) → getD (joined (sectorsAt f) n) i noSector .place < getD (joined (sectorsAt f) n) j noSector .place
+  pub places-rise : (i j : ℕ) → i < j → j < length (joined (sectorsAt layout f) n) → getD (joined (sectorsAt layout f) n) i noSector .place < getD (joined (sectorsAt layout f) n) j noSector .place
   places-rise i j h l = go (of-mark i (omega arith)) (of-mark j l)
     where
-      rise : (s t : Sector) → SectorOf f n i s → SectorOf f n j t → Dec (t .place ≤ s .place) → s .place < t .place
+      rise : (s t : Sector) → SectorOf layout f n i s → SectorOf layout f n j t → Dec (t .place ≤ s .place) → s .place < t .place
       rise s t a b (no d) = lt-of-not-le d
       rise s t a b (yes d) =
           let e : t .place + (s .place - t .place) ≡ s .place = omega arith in
-          absurd (omega (arith, rw e at (joined-grows (sectorsAt f) (t .place) (s .place - t .place)), a .index, b .index))
+          absurd (omega (arith, rw e at (joined-grows (sectorsAt layout f) (t .place) (s .place - t .place)), a .index, b .index))
 
-      go : SectorOf f n i (getD (joined (sectorsAt f) n) i noSector) → SectorOf f n j (getD (joined (sectorsAt f) n) j noSector)
-          → getD (joined (sectorsAt f) n) i noSector .place < getD (joined (sectorsAt f) n) j noSector .place
-      go a b = rise (getD (joined (sectorsAt f) n) i noSector) (getD (joined (sectorsAt f) n) j noSector) a b (decLe (getD (joined (sectorsAt f) n) j noSector .place) (getD (joined (sectorsAt f) n) i noSector .place))
+      go : SectorOf layout f n i (getD (joined (sectorsAt layout f) n) i noSector) → SectorOf layout f n j (getD (joined (sectorsAt layout f) n) j noSector)
+          → getD (joined (sectorsAt layout f) n) i noSector .place < getD (joined (sectorsAt layout f) n) j noSector .place
+      go a b = rise (getD (joined (sectorsAt layout f) n) i noSector) (getD (joined (sectorsAt layout f) n) j noSector) a b (decLe (getD (joined (sectorsAt layout f) n) j noSector .place) (getD (joined (sectorsAt layout f) n) i noSector .place))
 
 -- the same of the sectors of a track
-module _ (bytes : List ℕ) (n : ℕ) where
-  pub sector-of-mark : (i : ℕ) → i < length (sectorsOf bytes n) → SectorOf (cell bytes n) n i (getD (sectorsOf bytes n) i noSector)
+module _ (layout : Layout) (bytes : List ℕ) (n : ℕ) where
+  pub sector-of-mark : (i : ℕ) → i < length (sectorsOf layout bytes n) → SectorOf layout (cell bytes n) n i (getD (sectorsOf layout bytes n) i noSector)
   unfolding sectorsOf
-  sector-of-mark i h = of-mark (cell bytes n) n i h
+  sector-of-mark i h = of-mark layout (cell bytes n) n i h
 
-  pub mark-of-sector : (p : ℕ) → p < n → idMarkAt (cell bytes n) p ≡ true
-      → (length (joined (sectorsAt (cell bytes n)) p) < length (sectorsOf bytes n))
-      × (getD (sectorsOf bytes n) (length (joined (sectorsAt (cell bytes n)) p)) noSector ≡ sectorAt (cell bytes n) p)
+  pub mark-of-sector : (p : ℕ) → p < n → idMarkAt layout (cell bytes n) p ≡ true
+      → (length (joined (sectorsAt layout (cell bytes n)) p) < length (sectorsOf layout bytes n))
+      × (getD (sectorsOf layout bytes n) (length (joined (sectorsAt layout (cell bytes n)) p)) noSector ≡ sectorAt layout (cell bytes n) p)
   unfolding sectorsOf
-  mark-of-sector p h e = (mark-index (cell bytes n) n p h e, mark-record (cell bytes n) n p h e)
+  mark-of-sector p h e = (mark-index layout (cell bytes n) n p h e, mark-record layout (cell bytes n) n p h e)
 
-  pub sectors-ordered : (i j : ℕ) → i < j → j < length (sectorsOf bytes n) → getD (sectorsOf bytes n) i noSector .place < getD (sectorsOf bytes n) j noSector .place
+  pub sectors-ordered : (i j : ℕ) → i < j → j < length (sectorsOf layout bytes n) → getD (sectorsOf layout bytes n) i noSector .place < getD (sectorsOf layout bytes n) j noSector .place
   unfolding sectorsOf
-  sectors-ordered i j h l = places-rise (cell bytes n) n i j h l
+  sectors-ordered i j h l = places-rise layout (cell bytes n) n i j h l
 
-  pub sectors-end-below : (i : ℕ) → 20000 ≤ n → i < length (sectorsOf bytes n)
-      → getD (sectorsOf bytes n) i noSector .«data_end» < 2 * n
-  sectors-end-below i h l = go (getD (sectorsOf bytes n) i noSector) (sector-of-mark i l)
+  pub sectors-end-below : Sound layout → (i : ℕ) → 20000 ≤ n → i < length (sectorsOf layout bytes n)
+      → getD (sectorsOf layout bytes n) i noSector .«data_end» < 2 * n
+  sectors-end-below sound i h l = go (getD (sectorsOf layout bytes n) i noSector) (sector-of-mark i l)
     where
-      go : (s : Sector) → SectorOf (cell bytes n) n i s → s .«data_end» < 2 * n
-      go s m = rw (m .made) (data-end-below (cell bytes n) n (s .place) h (m .below))
+      go : (s : Sector) → SectorOf layout (cell bytes n) n i s → s .«data_end» < 2 * n
+      go s m = rw (m .made) (data-end-below layout sound (cell bytes n) n (s .place) h (m .below))

@@ -3,13 +3,13 @@ use Prim.Native.Nat.{ℕ, _+_}
 use mathlib.Core.Path.{_≡_}
 use mathlib.Core.Bool.{Bool, cond, _&&_}
 use lib.Dec.{leb}
-use Rattle.sector_records.specs.Marks.{markByte}
-use Rattle.sector_records.specs.Sectors.{reach, checkGood, leastData, lengthOf, idByte, dataLength, endOfData, doubleDensity, sectorAt}
+use Rattle.layouts.specs.declared.Layout.{Layout}
+use Rattle.sector_records.specs.Sectors.{markByteAt, checkGood, leastData, lengthOf, idByte, dataLength, endOfData, sectorAt}
 
-pub record-is : (f : ℕ → ℕ) (p mark track side number code : ℕ) (id-good : Bool) (q place data-mark long : ℕ) (good : Bool) (end : ℕ)
-    → mark ≡ markByte f p → track ≡ idByte f p 0 → side ≡ idByte f p 1 → number ≡ idByte f p 2 → code ≡ idByte f p 3 → id-good ≡ checkGood f p 4
-    → q ≡ leastData f p → place ≡ cond (leb q (p + reach)) q 0 → data-mark ≡ cond (leb q (p + reach)) (markByte f q) 0
-    → long ≡ cond (leb q (p + reach)) (lengthOf code) 0 → good ≡ (leb q (p + reach) && checkGood f q long) → end ≡ cond (leb q (p + reach)) (endOfData q long) 0
+pub record-is : (layout : Layout) (f : ℕ → ℕ) (p mark track side number code : ℕ) (id-good : Bool) (q place data-mark long : ℕ) (good : Bool) (end : ℕ)
+    → mark ≡ markByteAt layout f p → track ≡ idByte (layout .«mark_length») f p 0 → side ≡ idByte (layout .«mark_length») f p 1 → number ≡ idByte (layout .«mark_length») f p 2 → code ≡ idByte (layout .«mark_length») f p 3 → id-good ≡ checkGood layout f p 4
+    → q ≡ leastData layout f p → place ≡ cond (leb q (p + layout .reach)) q 0 → data-mark ≡ cond (leb q (p + layout .reach)) (markByteAt layout f q) 0
+    → long ≡ cond (leb q (p + layout .reach)) (lengthOf code) 0 → good ≡ (leb q (p + layout .reach) && checkGood layout f q long) → end ≡ cond (leb q (p + layout .reach)) (endOfData (layout .«mark_length») q long) 0
     → record {
       place = p;
       mark = mark;
@@ -23,8 +23,8 @@ pub record-is : (f : ℕ → ℕ) (p mark track side number code : ℕ) (id-good
       «data_length» = long;
       «data_check_good» = good;
       «data_end» = end;
-      density = doubleDensity;
-    } ≡ sectorAt f p
+      density = layout .density;
+    } ≡ sectorAt layout f p
 unfolding sectorAt dataLength
-record-is f p mark track side number code id-good q place data-mark long good end e₁ e₂ e₃ e₄ e₅ e₆ e₇ e₈ e₉ e₁₀ e₁₁ e₁₂ =
+record-is layout f p mark track side number code id-good q place data-mark long good end e₁ e₂ e₃ e₄ e₅ e₆ e₇ e₈ e₉ e₁₀ e₁₁ e₁₂ =
     rw (e₁₂, e₁₁, e₁₀, e₉, e₈, e₇, e₆, e₅, e₄, e₃, e₂, e₁)

@@ -1,4 +1,7 @@
-// The sectors of a track as records: marks, IDs, data, and their checks.
+// The sectors of a track as records: marks, IDs, data, and their checks, in either density.
+use layouts::Density;
+use layouts::Layout;
+use layouts::layout_of;
 ghost use mathlib.Core.Path.{_≡_};
 ghost use mathlib.Core.Bool.{true, cond, _&&_};
 ghost use mathlib.Core.List.{[]};
@@ -8,7 +11,10 @@ ghost use Rattle.basis.specs.Lists.{joined};
 ghost use Rattle.basis.specs.Search.{least};
 ghost use Rattle.cells.specs.CellsAndBytes.{cell};
 ghost use Rattle.crc.specs.CheckWord.{checkWordFrom};
-ghost use Rattle.sector_records.specs.Marks.{markAt, markByte, markOf, idMarkAt};
+ghost use Rattle.mfm.specs.Coding.{byteOn};
+ghost use Rattle.layouts.specs.Layouts.{layoutOf};
+ghost use Rattle.layouts.specs.PrivateContracts.{Sound};
+ghost use Rattle.sector_records.specs.Marks.{markAt, markByte, markOf, idMarkAt, dataMarkAt};
 ghost use Rattle.sector_records.specs.Sectors.{bytesFrom, checkBytes, checkGood, leastData, lengthOf, idByte, sectorAt, endOfData, noSector, sectorsAt, sectorsOf, kept};
 
 // The most cells of a track, and the most sectors that it may have.
@@ -16,20 +22,10 @@ pub const MOST_CELLS: usize = 131072;
 
 pub const MOST_SECTORS: usize = 64;
 
-// The cells of a byte, of two check bytes, of a mark with its byte, and of an ID with its mark and check bytes.
+// The cells of a byte, and of two check bytes.
 pub const BYTE_LENGTH: usize = 16;
 
 pub const CHECK_LENGTH: usize = 32;
-
-pub const MARK_LENGTH: usize = 64;
-
-pub const ID_LENGTH: usize = 160;
-
-// The sync A1.
-pub const SYNC: u64 = 0x4489;
-
-// The density of MFM.
-pub const DOUBLE_DENSITY: u8 = 2;
 
 // A sector's record (rule 6.16). Places are cells; that of the data mark may be past the track's end.
 pub struct Sector {
@@ -49,7 +45,7 @@ pub struct Sector {
     pub data_check_good: bool,
     // Where the data with its check bytes ends, perhaps past the track's end; 0 where there is none.
     pub data_end: u32,
-    // 2 for MFM.
+    // 2 for MFM, 1 for FM.
     pub density: u8,
 }
 
@@ -60,24 +56,30 @@ pub struct Sectors {
 }
 
 // The sectors of a track of n cells, packed in `bytes`; none where it has more cells than a track may have.
-pub fn track_sectors(bytes: &[u8], n: usize) -> Sectors
-    ensures { λ r. ⌜ r ≡ kept (cond (ltb 131072 n) [] (sectorsOf (now (bytes .entry)) n)) ⌝ }
+pub fn track_sectors(density: Density, bytes: &[u8], n: usize) -> Sectors
+    ensures { λ r. ⌜ r ≡ kept (cond (ltb 131072 n) [] (sectorsOf (layoutOf density) (now (bytes .entry)) n)) ⌝ }
 {
     if MOST_CELLS < n {
         return no_sectors();
     }
-    list(bytes, n)
+    list(layout_of(density), bytes, n)
 }
 
-// How far past an ID mark a data mark is looked for.
-const REACH: usize = 784;
+// Single density, as a layout has it, and its marks, of 16 cells each.
+const SINGLE_DENSITY: u8 = 1;
 
-// Three syncs, the cells that they take, and the check word after their bytes.
+const WORD_CELLS: usize = 16;
+
+const ID_WORD: u64 = 0xF57E;
+
+const DATA_WORD: u64 = 0xF56F;
+
+const DELETED_DATA_WORD: u64 = 0xF56A;
+
+// Three syncs, which a mark of double density begins with, and the cells that they take.
 const SYNCS: u64 = 0x4489_4489_4489;
 
 const SYNC_CELLS: usize = 48;
-
-const AFTER_SYNCS: u16 = 0xCDB4;
 
 // How many size codes there are to the controller.
 const SIZE_CODES: u8 = 4;
@@ -85,7 +87,7 @@ const SIZE_CODES: u8 = 4;
 // The bytes of an ID that its check covers, without the mark.
 const ID_BYTES: usize = 4;
 
-// The marks' bytes.
+// The bytes of marks of double density.
 const FIRST_ID_MARK: u8 = 0xFC;
 
 const LAST_ID_MARK: u8 = 0xFF;
@@ -94,30 +96,32 @@ const FIRST_DATA_MARK: u8 = 0xF8;
 
 const LAST_DATA_MARK: u8 = 0xFB;
 
+// The functions below take a layout, of which they ask that its numbers are small (`Sound`); where one number is enough they take that.
+
 // The sectors of a track, in one pass from ID mark to ID mark.
-fn list(bytes: &[u8], n: usize) -> Sectors
-    requires { ⌜ n ≤ 131072 ⌝ }
-    ensures { λ r. ⌜ r ≡ kept (sectorsOf (now (bytes .entry)) n) ⌝ }
+fn list(layout: Layout, bytes: &[u8], n: usize) -> Sectors
+    requires { ⌜ Sound layout × (n ≤ 131072) ⌝ }
+    ensures { λ r. ⌜ r ≡ kept (sectorsOf layout (now (bytes .entry)) n) ⌝ }
 {
     let mut sectors = no_sectors();
-    let mut p = find_mark(bytes, n, FIRST_ID_MARK, LAST_ID_MARK, 0, n);
+    let mut p = find_id_mark(layout, bytes, n, 0, n);
     while p < n {
-        sectors = add_at(sectors, bytes, n, p);
-        p = find_mark(bytes, n, FIRST_ID_MARK, LAST_ID_MARK, p + 1, n);
+        sectors = add_at(sectors, layout, bytes, n, p);
+        p = find_id_mark(layout, bytes, n, p + 1, n);
     }
     sectors
 }
 
 // The sectors before p, and the one at p. Past the first 64 it is only counted, and no record is made of it.
-fn add_at(sectors: Sectors, bytes: &[u8], n: usize, p: usize) -> Sectors
-    requires { ⌜ (p < 131072) × (sectors ≡ kept (joined (sectorsAt (cell (now bytes) n)) p)) × (idMarkAt (cell (now bytes) n) p ≡ true) ⌝ }
-    ensures { λ r. ⌜ r ≡ kept (joined (sectorsAt (cell (now (bytes .entry)) n)) (p + 1)) ⌝ }
+fn add_at(sectors: Sectors, layout: Layout, bytes: &[u8], n: usize, p: usize) -> Sectors
+    requires { ⌜ Sound layout × (p < 131072) × (sectors ≡ kept (joined (sectorsAt layout (cell (now bytes) n)) p)) × (idMarkAt layout (cell (now bytes) n) p ≡ true) ⌝ }
+    ensures { λ r. ⌜ r ≡ kept (joined (sectorsAt layout (cell (now (bytes .entry)) n)) (p + 1)) ⌝ }
 {
     let at = sectors.count;
     let mut next = sectors;
     next.count = at + 1;
     if at < MOST_SECTORS {
-        let sector = sector_at(bytes, n, p);
+        let sector = sector_at(layout, bytes, n, p);
         next.all[at] = sector;
         next
     } else {
@@ -159,23 +163,23 @@ pub fn no_sector() -> Sector
 // at most the reach past them, and data has at most 1,024 bytes.
 
 // The record of the ID mark at p.
-fn sector_at(bytes: &[u8], n: usize, p: usize) -> Sector
-    requires { ⌜ p < 131072 ⌝ }
-    ensures { λ r. ⌜ r ≡ sectorAt (cell (now (bytes .entry)) n) p ⌝ }
+fn sector_at(layout: Layout, bytes: &[u8], n: usize, p: usize) -> Sector
+    requires { ⌜ Sound layout × (p < 131072) ⌝ }
+    ensures { λ r. ⌜ r ≡ sectorAt layout (cell (now (bytes .entry)) n) p ⌝ }
 {
-    let mark = mfm::byte_on(bytes, n, p + SYNC_CELLS);
-    let track = id_byte(bytes, n, p, 0);
-    let side = id_byte(bytes, n, p, 1);
-    let number = id_byte(bytes, n, p, 2);
-    let size_code = id_byte(bytes, n, p, 3);
-    let id_check_good = check_good(bytes, n, p, ID_BYTES);
-    let q = find_data(bytes, n, p);
-    let found = q <= p + REACH;
+    let mark = mfm::byte_on(bytes, n, p + layout.byte_place);
+    let track = id_byte(layout.mark_length, bytes, n, p, 0);
+    let side = id_byte(layout.mark_length, bytes, n, p, 1);
+    let number = id_byte(layout.mark_length, bytes, n, p, 2);
+    let size_code = id_byte(layout.mark_length, bytes, n, p, 3);
+    let id_check_good = check_good(layout, bytes, n, p, ID_BYTES);
+    let q = find_data(layout, bytes, n, p);
+    let found = q <= p + layout.reach;
     let data_place = place_if(found, q);
-    let data_mark = mark_if(found, bytes, n, q);
+    let data_mark = mark_if(found, layout.byte_place, bytes, n, q);
     let data_length = length_if(found, size_code);
-    let data_check_good = data_good(found, bytes, n, q, data_length);
-    let data_end = end_if(found, q, data_length);
+    let data_check_good = data_good(found, layout, bytes, n, q, data_length);
+    let data_end = end_if(found, layout.mark_length, q, data_length);
     Sector {
         place: p as u32,
         mark,
@@ -189,26 +193,26 @@ fn sector_at(bytes: &[u8], n: usize, p: usize) -> Sector
         data_length,
         data_check_good,
         data_end,
-        density: DOUBLE_DENSITY,
+        density: layout.density,
     }
 }
 
-// Byte i after the ID mark at p.
-fn id_byte(bytes: &[u8], n: usize, p: usize, i: usize) -> u8
-    requires { ⌜ (p < 131072) × (i < 4) ⌝ }
-    ensures { λ r. ⌜ r ≡ idByte (cell (now (bytes .entry)) n) p i ⌝ }
+// Byte i after the ID mark at p, which has `mark` cells.
+fn id_byte(mark: usize, bytes: &[u8], n: usize, p: usize, i: usize) -> u8
+    requires { ⌜ (mark ≤ 64) × (p < 131072) × (i < 4) ⌝ }
+    ensures { λ r. ⌜ r ≡ idByte mark (cell (now (bytes .entry)) n) p i ⌝ }
 {
-    mfm::byte_on(bytes, n, p + MARK_LENGTH + BYTE_LENGTH * i)
+    mfm::byte_on(bytes, n, p + mark + BYTE_LENGTH * i)
 }
 
 // Where the data mark of the ID mark at p stands; one past the reach where there is none.
-fn find_data(bytes: &[u8], n: usize, p: usize) -> usize
-    requires { ⌜ p < 131072 ⌝ }
-    ensures { λ r. ⌜ (r ≡ leastData (cell (now (bytes .entry)) n) p) × (r ≤ p + 785) ⌝ }
+fn find_data(layout: Layout, bytes: &[u8], n: usize, p: usize) -> usize
+    requires { ⌜ Sound layout × (p < 131072) ⌝ }
+    ensures { λ r. ⌜ (r ≡ leastData layout (cell (now (bytes .entry)) n) p) × (r ≤ p + 785) ⌝ }
 {
-    let from = p + ID_LENGTH;
-    let to = p + REACH + 1;
-    find_mark(bytes, n, FIRST_DATA_MARK, LAST_DATA_MARK, from, to)
+    let from = p + layout.id_length;
+    let to = p + layout.reach + 1;
+    find_data_mark(layout, bytes, n, from, to)
 }
 
 // The place of a data mark, 0 where there is none.
@@ -219,13 +223,13 @@ fn place_if(found: bool, q: usize) -> u32
     if found { q as u32 } else { 0 }
 }
 
-// The byte of a data mark, 0 where there is none.
-fn mark_if(found: bool, bytes: &[u8], n: usize, q: usize) -> u8
-    requires { ⌜ q < 200000 ⌝ }
-    ensures { λ r. ⌜ r ≡ cond found (markByte (cell (now (bytes .entry)) n) q) 0 ⌝ }
+// The byte of a data mark, which stands at `place` in it; 0 where there is no mark.
+fn mark_if(found: bool, place: usize, bytes: &[u8], n: usize, q: usize) -> u8
+    requires { ⌜ (place ≤ 48) × (q < 200000) ⌝ }
+    ensures { λ r. ⌜ r ≡ cond found (byteOn (cell (now (bytes .entry)) n) (q + place)) 0 ⌝ }
 {
     if found {
-        mfm::byte_on(bytes, n, q + SYNC_CELLS)
+        mfm::byte_on(bytes, n, q + place)
     } else {
         0
     }
@@ -251,44 +255,44 @@ fn length_of(code: u8) -> u32
 }
 
 // Is there data, and is its check good?
-fn data_good(found: bool, bytes: &[u8], n: usize, q: usize, length: u32) -> bool
-    requires { ⌜ (q < 200000) × (length ≤ 1024) ⌝ }
-    ensures { λ r. ⌜ r ≡ (found && checkGood (cell (now (bytes .entry)) n) q length) ⌝ }
+fn data_good(found: bool, layout: Layout, bytes: &[u8], n: usize, q: usize, length: u32) -> bool
+    requires { ⌜ Sound layout × (q < 200000) × (length ≤ 1024) ⌝ }
+    ensures { λ r. ⌜ r ≡ (found && checkGood layout (cell (now (bytes .entry)) n) q length) ⌝ }
 {
     if found {
-        check_good(bytes, n, q, length as usize)
+        check_good(layout, bytes, n, q, length as usize)
     } else {
         false
     }
 }
 
-// Where data of so many bytes ends whose mark stands at q, 0 where there is none.
-fn end_if(found: bool, q: usize, length: u32) -> u32
-    requires { ⌜ (q < 200000) × (length ≤ 1024) ⌝ }
-    ensures { λ r. ⌜ r ≡ cond found (endOfData q length) 0 ⌝ }
+// Where data of so many bytes ends whose mark, of `mark` cells, stands at q; 0 where there is none.
+fn end_if(found: bool, mark: usize, q: usize, length: u32) -> u32
+    requires { ⌜ (mark ≤ 64) × (q < 200000) × (length ≤ 1024) ⌝ }
+    ensures { λ r. ⌜ r ≡ cond found (endOfData mark q length) 0 ⌝ }
 {
     if found {
-        (q + MARK_LENGTH + BYTE_LENGTH * (length as usize) + CHECK_LENGTH) as u32
+        (q + mark + BYTE_LENGTH * (length as usize) + CHECK_LENGTH) as u32
     } else {
         0
     }
 }
 
 // Is the check good of the field whose mark stands at p, with k bytes after the mark byte?
-fn check_good(bytes: &[u8], n: usize, p: usize, k: usize) -> bool
-    requires { ⌜ (p < 200000) × (k ≤ 1024) ⌝ }
-    ensures { λ r. ⌜ r ≡ checkGood (cell (now (bytes .entry)) n) p k ⌝ }
+fn check_good(layout: Layout, bytes: &[u8], n: usize, p: usize, k: usize) -> bool
+    requires { ⌜ Sound layout × (p < 200000) × (k ≤ 1024) ⌝ }
+    ensures { λ r. ⌜ r ≡ checkGood layout (cell (now (bytes .entry)) n) p k ⌝ }
 {
-    check_word(bytes, n, p + SYNC_CELLS, k + 1)
-        == check_bytes(bytes, n, p + MARK_LENGTH + BYTE_LENGTH * k)
+    check_word(layout.check_start, bytes, n, p + layout.byte_place, k + 1)
+        == check_bytes(bytes, n, p + layout.mark_length + BYTE_LENGTH * k)
 }
 
-// The check word of three syncs and the k bytes from p on.
-fn check_word(bytes: &[u8], n: usize, p: usize, k: usize) -> u16
+// The check word of the k bytes from p on, where it was `start` before them.
+fn check_word(start: u16, bytes: &[u8], n: usize, p: usize, k: usize) -> u16
     requires { ⌜ (p ≤ 200048) × (k ≤ 1025) ⌝ }
-    ensures { λ r. ⌜ r ≡ checkWordFrom 0xCDB4 (bytesFrom (cell (now (bytes .entry)) n) p k) ⌝ }
+    ensures { λ r. ⌜ r ≡ checkWordFrom start (bytesFrom (cell (now (bytes .entry)) n) p k) ⌝ }
 {
-    let mut word = AFTER_SYNCS;
+    let mut word = start;
     let mut i: usize = 0;
     while i < k {
         word = crc::step(word, mfm::byte_on(bytes, n, p + BYTE_LENGTH * i));
@@ -311,7 +315,31 @@ fn wide(byte: u8) -> u16
     byte as u16
 }
 
-// The least place from `from` and before `to` of a mark whose byte lies from `low` to `high`; `to` where there is none.
+// The least place from `from` and before `to` of an ID mark; `to` where there is none. Here and in the next function the densities part.
+fn find_id_mark(layout: Layout, bytes: &[u8], n: usize, from: usize, to: usize) -> usize
+    requires { ⌜ (from ≤ to) × (to ≤ 200000) ⌝ }
+    ensures { λ r. ⌜ r ≡ least (idMarkAt layout (cell (now (bytes .entry)) n)) (to - from) from ⌝ }
+{
+    if layout.density == SINGLE_DENSITY {
+        return cells::find_word(bytes, n, ID_WORD, WORD_CELLS, from, to);
+    }
+    find_mark(bytes, n, FIRST_ID_MARK, LAST_ID_MARK, from, to)
+}
+
+// The least place from `from` and before `to` of a data mark; `to` where there is none. Of the two words of single density, the second is
+// looked for before the first that was found.
+fn find_data_mark(layout: Layout, bytes: &[u8], n: usize, from: usize, to: usize) -> usize
+    requires { ⌜ (from ≤ to) × (to ≤ 200000) ⌝ }
+    ensures { λ r. ⌜ r ≡ least (dataMarkAt layout (cell (now (bytes .entry)) n)) (to - from) from ⌝ }
+{
+    if layout.density == SINGLE_DENSITY {
+        let data = cells::find_word(bytes, n, DATA_WORD, WORD_CELLS, from, to);
+        return cells::find_word(bytes, n, DELETED_DATA_WORD, WORD_CELLS, from, data);
+    }
+    find_mark(bytes, n, FIRST_DATA_MARK, LAST_DATA_MARK, from, to)
+}
+
+// The least place from `from` and before `to` of a mark of double density whose byte lies from `low` to `high`; `to` where there is none.
 fn find_mark(bytes: &[u8], n: usize, low: u8, high: u8, from: usize, to: usize) -> usize
     requires { ⌜ (from ≤ to) × (to ≤ 200000) ⌝ }
     ensures { λ r. ⌜ r ≡ least (markOf (cell (now (bytes .entry)) n) low high) (to - from) from ⌝ }

@@ -13,6 +13,7 @@ use Rattle.refusals.specs.RefusedCalls.{Answer, bufferAfter}
 use Rattle.refusals.specs.RefusedCalls.Answer.{gives, refused}
 use Rattle.sector_records.specs.Sectors.{noSector, sectorsOf, kept, dataBytes}
 use Rattle.sectors.specs.Calls.{trackJudged, countJudged, indexJudged, sectorsAnswer, sectorsBeside, indexAnswer, recordBeside, sectorOf, DataRead, dataJudged, dataAnswer, dataAfter}
+use Rattle.layouts.specs.declared.Layout.{Layout}
 use Rattle.sector_records.specs.declared.Sector.{Sector}
 use Rattle.sector_records.specs.declared.Sectors.{Sectors}
 
@@ -123,12 +124,12 @@ judged-accepted bytes N T H sectors m next e =
     let j = sym (follows-track _ _ _ (follows-self (countJudged sectors next)) bytes N T H .accepted m e) ∙ e in
     (sym (follows-count _ _ _ (follows-self next) sectors .accepted m j) ∙ j, few-accepted sectors m next j, few-cells bytes N T H m (countJudged sectors next) e)
 
-module _ (bytes : List ℕ) (N T H : ℕ) where
+module _ (layout : Layout) (bytes : List ℕ) (N T H : ℕ) where
   abbrev count : ℕ
-  count = length (sectorsOf bytes N)
+  count = length (sectorsOf layout bytes N)
 
   -- an accepted list has the track's sectors, and at most 64, on at most 131,072 cells
-  pub list-accepted : (m : ℕ) → sectorsAnswer bytes N T H ≡ gives m → (m ≡ length (sectorsOf bytes N)) × (m ≤ 64) × (N ≤ 131072)
+  pub list-accepted : (m : ℕ) → sectorsAnswer layout bytes N T H ≡ gives m → (m ≡ length (sectorsOf layout bytes N)) × (m ≤ 64) × (N ≤ 131072)
   unfolding sectorsAnswer
   list-accepted m e =
       let j = judged-accepted bytes N T H count m (gives count) e in
@@ -137,15 +138,15 @@ module _ (bytes : List ℕ) (N T H : ℕ) where
       (s, rw s (j .1), j .2)
 
   -- a sector by index is judged after the list, and reading out after the sector by index
-  pub index-follows : (index : ℕ) → Follows (sectorsAnswer bytes N T H) (indexAnswer bytes N T H index) (indexJudged (length (sectorsOf bytes N)) index (gives (length (sectorsOf bytes N))))
+  pub index-follows : (index : ℕ) → Follows (sectorsAnswer layout bytes N T H) (indexAnswer layout bytes N T H index) (indexJudged (length (sectorsOf layout bytes N)) index (gives (length (sectorsOf layout bytes N))))
   unfolding sectorsAnswer indexAnswer
   index-follows index =
       follows-track _ _ _ (follows-count _ _ _ (follows-given count (indexJudged count index (gives count))) count) bytes N T H
 
-  pub read-follows : (index room : ℕ) → Follows (indexAnswer bytes N T H index) (dataAnswer bytes N T H index room) (dataJudged (sectorOf bytes N index) room)
+  pub read-follows : (index room : ℕ) → Follows (indexAnswer layout bytes N T H index) (dataAnswer layout bytes N T H index room) (dataJudged (sectorOf layout bytes N index) room)
   unfolding indexAnswer dataAnswer
   read-follows index room =
-      follows-track _ _ _ (follows-count _ _ _ (follows-index _ _ _ (follows-given count (dataJudged (sectorOf bytes N index) room)) count index) count) bytes N T H
+      follows-track _ _ _ (follows-count _ _ _ (follows-index _ _ _ (follows-given count (dataJudged (sectorOf layout bytes N index) room)) count index) count) bytes N T H
 
 -- an answer that is the judgement, and what stands beside it
 module _ (x a : Answer ℕ) where
@@ -168,30 +169,30 @@ module _ (x a : Answer ℕ) where
     record-given s sector h = (e ∙ g, rw (← g) h)
 
 -- a sector by index, after a list that was accepted
-module _ (bytes : List ℕ) (N T H m : ℕ) (g : gives m ≡ sectorsAnswer bytes N T H) where
-  pub listed-sectors : (s : Sectors) → s ≡ sectorsBeside (sectorsAnswer bytes N T H) (sectorsOf bytes N) → s ≡ kept (sectorsOf bytes N)
+module _ (layout : Layout) (bytes : List ℕ) (N T H m : ℕ) (g : gives m ≡ sectorsAnswer layout bytes N T H) where
+  pub listed-sectors : (s : Sectors) → s ≡ sectorsBeside (sectorsAnswer layout bytes N T H) (sectorsOf layout bytes N) → s ≡ kept (sectorsOf layout bytes N)
   unfolding sectorsBeside
   listed-sectors s e = rw (← g) at e
 
-  pub index-refused : (index : ℕ) → m ≤ index → refused 11 m ≡ indexAnswer bytes N T H index
+  pub index-refused : (index : ℕ) → m ≤ index → refused 11 m ≡ indexAnswer layout bytes N T H index
   index-refused index h =
-      let e = list-accepted bytes N T H m (sym g) .0 in
-      let l : length (sectorsOf bytes N) ≤ index = omega arith in
-      rw (index-follows bytes N T H index .accepted m (sym g), e) (refuses-11 (length (sectorsOf bytes N)) (gives (length (sectorsOf bytes N))) index l)
+      let e = list-accepted layout bytes N T H m (sym g) .0 in
+      let l : length (sectorsOf layout bytes N) ≤ index = omega arith in
+      rw (index-follows layout bytes N T H index .accepted m (sym g), e) (refuses-11 (length (sectorsOf layout bytes N)) (gives (length (sectorsOf layout bytes N))) index l)
 
-  pub index-given : (index : ℕ) → index < m → gives m ≡ indexAnswer bytes N T H index
+  pub index-given : (index : ℕ) → index < m → gives m ≡ indexAnswer layout bytes N T H index
   index-given index h =
-      let e = list-accepted bytes N T H m (sym g) .0 in
-      let l : index < length (sectorsOf bytes N) = omega arith in
-      rw (index-follows bytes N T H index .accepted m (sym g), e) (index-accepted (length (sectorsOf bytes N)) (gives (length (sectorsOf bytes N))) index l)
+      let e = list-accepted layout bytes N T H m (sym g) .0 in
+      let l : index < length (sectorsOf layout bytes N) = omega arith in
+      rw (index-follows layout bytes N T H index .accepted m (sym g), e) (index-accepted (length (sectorsOf layout bytes N)) (gives (length (sectorsOf layout bytes N))) index l)
 
 -- reading out, after a sector by index that was accepted
-pub read-given : (bytes : List ℕ) (N T H index m : ℕ) (buffer after : List ℕ) (s : Sector) (x : Answer DataRead) → gives m ≡ indexAnswer bytes N T H index
-    → s ≡ recordBeside (indexAnswer bytes N T H index) (sectorOf bytes N index) → x ≡ dataJudged s (length buffer)
-    → after ≡ bufferAfter (dataJudged s (length buffer)) (dataBytes (cell bytes N) s) buffer
-    → (x ≡ dataAnswer bytes N T H index (length buffer)) × (after ≡ dataAfter bytes N T H index buffer)
+pub read-given : (layout : Layout) (bytes : List ℕ) (N T H index m : ℕ) (buffer after : List ℕ) (s : Sector) (x : Answer DataRead) → gives m ≡ indexAnswer layout bytes N T H index
+    → s ≡ recordBeside (indexAnswer layout bytes N T H index) (sectorOf layout bytes N index) → x ≡ dataJudged s (length buffer)
+    → after ≡ bufferAfter (dataJudged s (length buffer)) (dataBytes (layout .«mark_length») (cell bytes N) s) buffer
+    → (x ≡ dataAnswer layout bytes N T H index (length buffer)) × (after ≡ dataAfter layout bytes N T H index buffer)
 unfolding recordBeside
-read-given bytes N T H index m buffer after s x g e j h =
-    let t : s ≡ sectorOf bytes N index = rw (← g) at e in
-    let a = read-follows bytes N T H index (length buffer) .accepted m (sym g) in
+read-given layout bytes N T H index m buffer after s x g e j h =
+    let t : s ≡ sectorOf layout bytes N index = rw (← g) at e in
+    let a = read-follows layout bytes N T H index (length buffer) .accepted m (sym g) in
     rw (a, ← t) (j, h)

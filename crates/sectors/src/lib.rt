@@ -1,8 +1,9 @@
 // The calls on the sectors of a track: the sectors, the sector by index, and reading out.
+pub use layouts::Density;
+use layouts::layout_of;
 use refusals::Counted;
 use refusals::Refusal;
 use sector_records::BYTE_LENGTH;
-use sector_records::MARK_LENGTH;
 use sector_records::MOST_CELLS;
 use sector_records::MOST_SECTORS;
 pub use sector_records::Sector;
@@ -14,6 +15,7 @@ ghost use lib.ListN.{length};
 ghost use Rattle.basis.specs.Lists.{writtenOver};
 ghost use Rattle.cells.specs.CellsAndBytes.{cell};
 ghost use Rattle.refusals.specs.RefusedCalls.{refusedWith, countedAnswer, bufferAfter};
+ghost use Rattle.layouts.specs.Layouts.{doubleDensity, layoutOf};
 ghost use Rattle.sector_records.specs.Sectors.{bytesFrom, noSector, sectorsOf, kept, dataBytes};
 ghost use Rattle.sectors.specs.Calls.{sectorsAnswer, sectorsBeside, indexAnswer, recordBeside, sectorOf, readOutAnswer, dataJudged, dataAnswer, dataAfter};
 
@@ -45,8 +47,39 @@ pub enum ReadOut {
 
 // The sectors of a track of n cells, packed in `bytes` (rule 9.3); `track` and `side` are the drive's.
 pub fn sectors_of(bytes: &[u8], n: usize, track: u32, side: u32) -> TrackSectors
-    ensures answer { λ r. ⌜ countedAnswer (r .answer) ≡ sectorsAnswer (now (bytes .entry)) n track side ⌝ }
-    ensures sectors { λ r. ⌜ r .sectors ≡ sectorsBeside (sectorsAnswer (now (bytes .entry)) n track side) (sectorsOf (now (bytes .entry)) n) ⌝ }
+    ensures answer { λ r. ⌜ countedAnswer (r .answer) ≡ sectorsAnswer doubleDensity (now (bytes .entry)) n track side ⌝ }
+    ensures sectors { λ r. ⌜ r .sectors ≡ sectorsBeside (sectorsAnswer doubleDensity (now (bytes .entry)) n track side) (sectorsOf doubleDensity (now (bytes .entry)) n) ⌝ }
+{
+    sectors_in(Density::Double, bytes, n, track, side)
+}
+
+// Sector `index` of a track, from 0, with the number of its sectors (rule 9.2).
+pub fn sector_by_index(bytes: &[u8], n: usize, track: u32, side: u32, index: usize) -> Indexed
+    ensures answer { λ r. ⌜ countedAnswer (r .answer) ≡ indexAnswer doubleDensity (now (bytes .entry)) n track side index ⌝ }
+    ensures sector { λ r. ⌜ r .sector ≡ recordBeside (indexAnswer doubleDensity (now (bytes .entry)) n track side index) (sectorOf doubleDensity (now (bytes .entry)) n index) ⌝ }
+{
+    sector_in(Density::Double, bytes, n, track, side, index)
+}
+
+// Reads out sector `index` of a track: its data bytes go to the front of the buffer (rule 9.4).
+pub fn read_out(
+    bytes: &[u8],
+    n: usize,
+    track: u32,
+    side: u32,
+    index: usize,
+    buffer: &mut [u8],
+) -> ReadOut
+    ensures answer { λ r. ⌜ readOutAnswer r ≡ dataAnswer doubleDensity (now (bytes .entry)) n track side index (length (now (buffer .entry))) ⌝ }
+    ensures buffer { λ _. ⌜ now (buffer .exit) ≡ dataAfter doubleDensity (now (bytes .entry)) n track side index (now (buffer .entry)) ⌝ }
+{
+    read_out_in(Density::Double, bytes, n, track, side, index, buffer)
+}
+
+// The sectors of a track of either density (rules 9.3, 9.41).
+pub fn sectors_in(density: Density, bytes: &[u8], n: usize, track: u32, side: u32) -> TrackSectors
+    ensures answer { λ r. ⌜ countedAnswer (r .answer) ≡ sectorsAnswer (layoutOf density) (now (bytes .entry)) n track side ⌝ }
+    ensures sectors { λ r. ⌜ r .sectors ≡ sectorsBeside (sectorsAnswer (layoutOf density) (now (bytes .entry)) n track side) (sectorsOf (layoutOf density) (now (bytes .entry)) n) ⌝ }
 {
     if (LAST_TRACK < track) | (LAST_SIDE < side) {
         return no_list(Refusal::TrackOrSide);
@@ -58,7 +91,7 @@ pub fn sectors_of(bytes: &[u8], n: usize, track: u32, side: u32) -> TrackSectors
     if bytes.len() < needed {
         return no_list(Refusal::TooFewBytes(needed));
     }
-    let sectors = sector_records::track_sectors(bytes, n);
+    let sectors = sector_records::track_sectors(density, bytes, n);
     let count = sectors.count;
     if MOST_SECTORS < count {
         return no_list(Refusal::TooManySectors(count));
@@ -69,12 +102,19 @@ pub fn sectors_of(bytes: &[u8], n: usize, track: u32, side: u32) -> TrackSectors
     }
 }
 
-// Sector `index` of a track, from 0, with the number of its sectors (rule 9.2).
-pub fn sector_by_index(bytes: &[u8], n: usize, track: u32, side: u32, index: usize) -> Indexed
-    ensures answer { λ r. ⌜ countedAnswer (r .answer) ≡ indexAnswer (now (bytes .entry)) n track side index ⌝ }
-    ensures sector { λ r. ⌜ r .sector ≡ recordBeside (indexAnswer (now (bytes .entry)) n track side index) (sectorOf (now (bytes .entry)) n index) ⌝ }
+// Sector `index` of a track of either density (rules 9.2, 9.42).
+pub fn sector_in(
+    density: Density,
+    bytes: &[u8],
+    n: usize,
+    track: u32,
+    side: u32,
+    index: usize,
+) -> Indexed
+    ensures answer { λ r. ⌜ countedAnswer (r .answer) ≡ indexAnswer (layoutOf density) (now (bytes .entry)) n track side index ⌝ }
+    ensures sector { λ r. ⌜ r .sector ≡ recordBeside (indexAnswer (layoutOf density) (now (bytes .entry)) n track side index) (sectorOf (layoutOf density) (now (bytes .entry)) n index) ⌝ }
 {
-    let found = sectors_of(bytes, n, track, side);
+    let found = sectors_in(density, bytes, n, track, side);
     let sectors = found.sectors;
     let answer = found.answer;
     match answer {
@@ -91,8 +131,9 @@ pub fn sector_by_index(bytes: &[u8], n: usize, track: u32, side: u32, index: usi
     }
 }
 
-// Reads out sector `index` of a track: its data bytes go to the front of the buffer (rule 9.4).
-pub fn read_out(
+// Reads out sector `index` of a track of either density (rules 9.4, 9.43).
+pub fn read_out_in(
+    density: Density,
     bytes: &[u8],
     n: usize,
     track: u32,
@@ -100,15 +141,15 @@ pub fn read_out(
     index: usize,
     buffer: &mut [u8],
 ) -> ReadOut
-    ensures answer { λ r. ⌜ readOutAnswer r ≡ dataAnswer (now (bytes .entry)) n track side index (length (now (buffer .entry))) ⌝ }
-    ensures buffer { λ _. ⌜ now (buffer .exit) ≡ dataAfter (now (bytes .entry)) n track side index (now (buffer .entry)) ⌝ }
+    ensures answer { λ r. ⌜ readOutAnswer r ≡ dataAnswer (layoutOf density) (now (bytes .entry)) n track side index (length (now (buffer .entry))) ⌝ }
+    ensures buffer { λ _. ⌜ now (buffer .exit) ≡ dataAfter (layoutOf density) (now (bytes .entry)) n track side index (now (buffer .entry)) ⌝ }
 {
-    let found = sector_by_index(bytes, n, track, side, index);
+    let found = sector_in(density, bytes, n, track, side, index);
     let sector = found.sector;
     let answer = found.answer;
     match answer {
         Counted::Refused(refusal) => ReadOut::Refused(refusal),
-        Counted::Count(_) => read_sector(bytes, n, sector, buffer),
+        Counted::Count(_) => read_sector(density, bytes, n, sector, buffer),
     }
 }
 
@@ -134,9 +175,15 @@ fn no_record(refusal: Refusal) -> Indexed
 }
 
 // Reads out a sector of the track.
-fn read_sector(bytes: &[u8], n: usize, sector: Sector, buffer: &mut [u8]) -> ReadOut
+fn read_sector(
+    density: Density,
+    bytes: &[u8],
+    n: usize,
+    sector: Sector,
+    buffer: &mut [u8],
+) -> ReadOut
     ensures answer { λ r. ⌜ readOutAnswer r ≡ dataJudged sector (length (now (buffer .entry))) ⌝ }
-    ensures buffer { λ _. ⌜ now (buffer .exit) ≡ bufferAfter (dataJudged sector (length (now (buffer .entry)))) (dataBytes (cell (now (bytes .entry)) n) sector) (now (buffer .entry)) ⌝ }
+    ensures buffer { λ _. ⌜ now (buffer .exit) ≡ bufferAfter (dataJudged sector (length (now (buffer .entry)))) (dataBytes (layoutOf density .«mark_length») (cell (now (bytes .entry)) n) sector) (now (buffer .entry)) ⌝ }
 {
     if sector.data_mark == 0 {
         return ReadOut::Refused(Refusal::NoData);
@@ -145,14 +192,17 @@ fn read_sector(bytes: &[u8], n: usize, sector: Sector, buffer: &mut [u8]) -> Rea
     if buffer.len() < size {
         return ReadOut::Refused(Refusal::NoRoomForBytes(size));
     }
-    write_data(
-        bytes,
-        n,
-        sector.data_place as usize + MARK_LENGTH,
-        size,
-        buffer,
-    );
+    let mark = mark_length(density);
+    write_data(bytes, n, sector.data_place as usize + mark, size, buffer);
     ReadOut::Data(size, sector.data_check_good)
+}
+
+// How many cells a mark has.
+fn mark_length(density: Density) -> usize
+    ensures { λ r. ⌜ (r ≡ layoutOf density .«mark_length») × (r ≤ 64) ⌝ }
+{
+    let layout = layout_of(density);
+    layout.mark_length
 }
 
 // Decodes `size` bytes from cell p on into the front of the buffer. Both come from numbers of 32 bits.

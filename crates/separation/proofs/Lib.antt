@@ -2,6 +2,7 @@ pub mod Walk
 pub mod Writing
 pub mod BorderPulses
 pub mod CellsJudged
+pub mod Answered
 pub mod Tolerance
 pub mod Recovery
 pub mod Promise

@@ -6,11 +6,9 @@ use mathlib.Core.List.{List, [], _∷_}
 use native.Mathlib.Omega.{arith}
 use borrow.Author.Tests.{le-ltb}
 use lib.ListN.{length, length-append}
-use Rattle.basis.specs.Lists.{writtenOver}
 use Rattle.cells.specs.CellsAndBytes.{packed}
 use Rattle.refusals.specs.RefusedCalls.{Answer, bufferAfter}
-use Rattle.refusals.specs.RefusedCalls.Answer.{gives, refused}
-use Rattle.separation.specs.Separation.{cellsFor, cellsOf, borderPulsesOf, separation, separatedCells, borderPulsesAfter}
+use Rattle.separation.specs.Separation.{cellsFor, cellsOf, separation, separatedCells}
 use Rattle.flux_timings.specs.Timings.{timingsJudged}
 use Rattle.separation.specs.Demand3.{Reversal, cellsWritten, cellsInAll, refusalTable, farthestCentre, Demand3}
 use Rattle.separation.proofs.Walk.{length-for}
@@ -40,25 +38,3 @@ module _ (ts before : List ℕ) {after : List ℕ} {answer : Answer ℕ} (is-ans
 
   pub promised : (answer ≡ separation ts (length before)) × ((after ≡ separatedCells ts before) × Demand3 ts answer before after)
   promised = (is-answer, (is-after ∙ ap (λ (x : Answer ℕ). bufferAfter x (packed (cellsOf ts)) before) is-answer, demand3))
-
--- all that the call promises, with the number of border pulses, which goes from `pulses` to `pulses′`
-abbrev Promised : (ts before after : List ℕ) (pulses pulses′ : ℕ) → Answer ℕ → Type 0
-Promised ts before after pulses pulses′ answer =
-    (answer ≡ separation ts (length before))
-    × ((after ≡ separatedCells ts before)
-    × ((pulses′ ≡ borderPulsesAfter (separation ts (length before)) (borderPulsesOf ts) pulses) × Demand3 ts answer before after))
-
--- a refusal, and an accepted call
-pub promised-refused : (ts before : List ℕ) (pulses : ℕ) {number value : ℕ} → refused number value ≡ separation ts (length before)
-    → Promised ts before before pulses pulses (refused number value)
-unfolding bufferAfter borderPulsesAfter
-promised-refused ts before pulses e =
-    let p = promised ts before e refl in
-    (p .0, (p .1 .0, (ap (λ (x : Answer ℕ). borderPulsesAfter x (borderPulsesOf ts) pulses) e, p .1 .1)))
-
-pub promised-cells : (ts before : List ℕ) (pulses : ℕ) {after : List ℕ} {n pulses′ : ℕ} → gives n ≡ separation ts (length before)
-    → after ≡ writtenOver (packed (cellsOf ts)) before → pulses′ ≡ borderPulsesOf ts → Promised ts before after pulses pulses′ (gives n)
-unfolding bufferAfter borderPulsesAfter
-promised-cells ts before pulses e f counted =
-    let p = promised ts before e f in
-    (p .0, (p .1 .0, (counted ∙ ap (λ (x : Answer ℕ). borderPulsesAfter x (borderPulsesOf ts) pulses) e, p .1 .1)))

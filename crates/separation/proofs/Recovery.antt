@@ -8,7 +8,7 @@ use native.Mathlib.Omega.{arith}
 use lib.IntN.{ℤ, pos, subℕ, _-ℤ_}
 use lib.ListN.{length}
 use Rattle.flux_timings.specs.Timings.{inRange}
-use Rattle.separator.specs.Rule.{cellsAt, offsetAt, residualAfter, halfWindow, borderPulsesAt}
+use Rattle.separator.specs.Rule.{cellsAt, offsetAt, residualAfter, doubleHalfWindow, borderPulsesAt}
 use Rattle.separation.specs.Separation.{Window, windowsFrom, cellsIn, borderPulsesIn}
 use Rattle.flux_timings.specs.Timings.{firstOut}
 use Rattle.separation.specs.Demand3.{Reversal, Within, Fair, Track, last, more, Centred, none, also, cellsWritten, Tolerable, taken}
@@ -66,10 +66,10 @@ module _ {D J error : ℕ} (ok : 8 * D + 2 * J ≤ 998) (enough : 8 * D + J ≤ 
       let k = window-timing (v .gap) gap t ok carried before after (fair .least) (fair .most) gap-near timed in
       in-range t (k .0) (k .1)
 
-  cells-are-gap : cellsAt halfWindow (subℕ b 1000) t ≡ v .gap
+  cells-are-gap : cellsAt doubleHalfWindow (subℕ b 1000) t ≡ v .gap
   cells-are-gap = cells-is 1000 b t ∙ window-cells (v .gap) gap t ok carried before after (fair .least) (fair .most) gap-near timed
 
-  centre-near : Within error (v .pulse -ℤ offsetAt halfWindow (subℕ b 1000) t) (v .place)
+  centre-near : Within error (v .pulse -ℤ offsetAt doubleHalfWindow (subℕ b 1000) t) (v .place)
   centre-near =
       let m = (t + b) % 2000 in
       let c = window-centre (v .gap) gap t ok carried before after (fair .least) (fair .most) gap-near timed in
@@ -81,7 +81,7 @@ module _ {D J error : ℕ} (ok : 8 * D + 2 * J ≤ 998) (enough : 8 * D + J ≤ 
       rw (offset-is 1000 b t) (abs-le (centre -ℤ v .place) error (omega arith) (omega arith))
 
   -- the offset is at most 8 D + 2 J, so that up to 901 the pulse is no border pulse
-  no-border : 8 * D + 2 * J ≤ 901 → borderPulsesAt (offsetAt halfWindow (subℕ b 1000) t) ≡ 0
+  no-border : 8 * D + 2 * J ≤ 901 → borderPulsesAt (offsetAt doubleHalfWindow (subℕ b 1000) t) ≡ 0
   no-border quiet =
       let m = (t + b) % 2000 in
       let c = window-centre (v .gap) gap t ok carried before after (fair .least) (fair .most) gap-near timed in
@@ -95,10 +95,10 @@ module _ {D J error : ℕ} (ok : 8 * D + 2 * J ≤ 998) (enough : 8 * D + J ≤ 
 -- what the rule makes of the timings ts of a track with the reversals vs, from the residual r on
 pub record Followed (D J error : ℕ) (r : ℤ) (vs : List Reversal) (ts : List ℕ) : Type 0 where
   pub in-range : firstOut ts ≡ length ts
-  pub gaps : map (λ (w : Window). w .cells) (windowsFrom halfWindow r ts) ≡ map (λ (v : Reversal). v .gap) vs
-  pub cells : cellsIn (windowsFrom halfWindow r ts) ≡ cellsWritten vs
-  pub centres : Centred error vs (windowsFrom halfWindow r ts)
-  pub no-borders : 8 * D + 2 * J ≤ 901 → borderPulsesIn (windowsFrom halfWindow r ts) ≡ 0
+  pub gaps : map (λ (w : Window). w .cells) (windowsFrom doubleHalfWindow r ts) ≡ map (λ (v : Reversal). v .gap) vs
+  pub cells : cellsIn (windowsFrom doubleHalfWindow r ts) ≡ cellsWritten vs
+  pub centres : Centred error vs (windowsFrom doubleHalfWindow r ts)
+  pub no-borders : 8 * D + 2 * J ≤ 901 → borderPulsesIn doubleHalfWindow (windowsFrom doubleHalfWindow r ts) ≡ 0
 
 module _ (D J error : ℕ) (ok : 8 * D + 2 * J ≤ 998) (enough : 8 * D + J ≤ error) where
   followed-from : {p q : ℤ} {vs : List Reversal} {ts : List ℕ} (b : ℕ) → Within J q p → Carried D J b (up (q -ℤ p)) (down (q -ℤ p))
@@ -106,7 +106,7 @@ module _ (D J error : ℕ) (ok : 8 * D + 2 * J ≤ 998) (enough : 8 * D + J ≤ 
   unfolding windowsFrom cellsIn borderPulsesIn cellsWritten firstOut
   followed-from b near carried last = record { in-range = refl; gaps = refl; cells = refl; centres = none; no-borders = λ quiet. refl }
   followed-from b near carried (more {v = v} {vs = vs} {t = t} {ts = ts} fair track) =
-      let r = residualAfter halfWindow (subℕ b 1000) t in
+      let r = residualAfter doubleHalfWindow (subℕ b 1000) t in
       let later : Followed D J error r vs ts =
       subst (λ (z : ℤ). Followed D J error z vs ts) (sym (residual-is 1000 b t))
       (followed-from (halfway 1000 ((t + b) % 2000)) (fair .near) (carried-on ok enough fair b near carried) track) in

@@ -15,7 +15,8 @@ use Rattle.cells.specs.CellsAndBytes.{bytesFor, packedByte, packed, cleared, wi
 use Rattle.cells.proofs.Packing.{Cells}
 use Rattle.cells.proofs.Zeros.{cells-append, cells-zeros, packed-with-zeros, cleared-front}
 use Rattle.cells.proofs.Appending.{packed-with-one}
-use Rattle.separation.specs.Separation.{cellsFor, cellsOf}
+use Rattle.separation.specs.Separation.{cellsFor, cellsOfBy}
+use Rattle.separation.specs.PrivateContracts.{IsHalfWindow}
 use Rattle.separation.proofs.Walk.{Walked, Turn, walk-start, start-passed, walk-next, next-passed, walk-within, walk-end}
 
 -- the cells q packed in the first `needed` bytes of a buffer, and then the rest
@@ -35,8 +36,8 @@ front-with-timing q bits needed rest at (suc k) e h =
     ∙ ap (λ (x : List ℕ). frontOf x needed rest) (append-assoc q (replicate k 0) (1 ∷ []))
 
 -- the buffer after i timings, where it was cells₀ before the first
-pub record Filled (ts : List ℕ) (needed : ℕ) (cells₀ cells : List ℕ) (at : ℕ) (r : ℤ) (i : ℕ) : Type 0 where
-  pub walked : Walked ts at r i
+pub record Filled (half : ℕ) (ts : List ℕ) (needed : ℕ) (cells₀ cells : List ℕ) (at : ℕ) (r : ℤ) (i : ℕ) : Type 0 where
+  pub walked : Walked half ts at r i
   pub long : length cells ≡ length cells₀
   pub front : cells ≡ frontOf (walked .passed) needed (drop needed cells₀)
 
@@ -56,35 +57,35 @@ pub front-whole : (cells : List ℕ) (needed : ℕ) (buffer : List ℕ) → need
 unfolding packed
 front-whole cells needed buffer e = rw (length-listed (packedByte cells) (bytesFor (length cells)), e)
 
-pub filled-start : (ts : List ℕ) (needed : ℕ) {cells₀ : List ℕ} {r : ℤ} → r ≡ pos 0 → cells₀ ≡ frontOf [] needed (drop needed cells₀)
-    → Filled ts needed cells₀ cells₀ 0 r 0
-filled-start ts needed {cells₀} e f =
-    record { walked = walk-start ts e; long = refl; front = f ∙ ap (λ (x : List ℕ). frontOf x needed (drop needed cells₀)) (sym (start-passed ts e)) }
+pub filled-start : {half : ℕ} → IsHalfWindow half → (ts : List ℕ) (needed : ℕ) {cells₀ : List ℕ} {r : ℤ} → r ≡ pos 0 → cells₀ ≡ frontOf [] needed (drop needed cells₀)
+    → Filled half ts needed cells₀ cells₀ 0 r 0
+filled-start is-half ts needed {cells₀} e f =
+    record { walked = walk-start is-half ts e; long = refl; front = f ∙ ap (λ (x : List ℕ). frontOf x needed (drop needed cells₀)) (sym (start-passed is-half ts e)) }
 
 -- one timing more, of n cells, that leaves the residual r′
-module _ {ts : List ℕ} {needed : ℕ} {cells₀ cells : List ℕ} {at : ℕ} {r : ℤ} {i : ℕ} (f : Filled ts needed cells₀ cells at r i)
-    (is-needed : needed ≡ bytesFor (length (cellsOf ts))) {n : ℕ} {r′ : ℤ} (t : Turn ts i r n r′) where
-  pub filled-within : at + n ≤ length (cellsOf ts)
-  filled-within = walk-within (walk-next (f .walked) t)
+module _ {half : ℕ} (is-half : IsHalfWindow half) {ts : List ℕ} {needed : ℕ} {cells₀ cells : List ℕ} {at : ℕ} {r : ℤ} {i : ℕ} (f : Filled half ts needed cells₀ cells at r i)
+    (is-needed : needed ≡ bytesFor (length (cellsOfBy half ts))) {n : ℕ} {r′ : ℤ} (t : Turn half ts i r n r′) where
+  pub filled-within : at + n ≤ length (cellsOfBy half ts)
+  filled-within = walk-within (walk-next is-half (f .walked) t)
 
   pub filled-next : (cells′ : List ℕ) → cells′ ≡ cond (eqb n 0) cells (withOne cells (at + (n - 1))) → length cells′ ≡ length cells
-      → Filled ts needed cells₀ cells′ (at + n) r′ (i + 1)
+      → Filled half ts needed cells₀ cells′ (at + n) r′ (i + 1)
   filled-next cells′ e l =
       let k : at + n ≤ 8 * needed = omega (arith, filled-within) in
       record {
-        walked = walk-next (f .walked) t;
+        walked = walk-next is-half (f .walked) t;
         long = l ∙ f .long;
         front = e ∙ ap (λ (x : List ℕ). cond (eqb n 0) x (withOne x (at + (n - 1)))) (f .front)
             ∙ front-with-timing (f .walked .passed) (f .walked .bits) needed (drop needed cells₀) at n (f .walked .long) k
-            ∙ ap (λ (x : List ℕ). frontOf x needed (drop needed cells₀)) (sym (next-passed (f .walked) t));
+            ∙ ap (λ (x : List ℕ). frontOf x needed (drop needed cells₀)) (sym (next-passed is-half (f .walked) t));
       }
 
 -- all timings written, to a buffer that had room
-pub filled-end : {ts : List ℕ} {needed : ℕ} {cells₀ cells : List ℕ} {at : ℕ} {r : ℤ} {i : ℕ} (f : Filled ts needed cells₀ cells at r i)
-    (buffer : List ℕ) → length ts ≤ i → needed ≡ bytesFor (length (cellsOf ts)) → drop needed cells₀ ≡ drop needed buffer
-    → cells ≡ writtenOver (packed (cellsOf ts)) buffer
-filled-end {ts} {needed} f buffer h e rest =
+pub filled-end : {half : ℕ} {ts : List ℕ} {needed : ℕ} {cells₀ cells : List ℕ} {at : ℕ} {r : ℤ} {i : ℕ} (f : Filled half ts needed cells₀ cells at r i)
+    (buffer : List ℕ) → length ts ≤ i → needed ≡ bytesFor (length (cellsOfBy half ts)) → drop needed cells₀ ≡ drop needed buffer
+    → cells ≡ writtenOver (packed (cellsOfBy half ts)) buffer
+filled-end {half} {ts} {needed} f buffer h e rest =
     f .front
     ∙ ap (λ (x : List ℕ). frontOf x needed _) (sym (walk-end (f .walked) h))
-    ∙ ap (frontOf (cellsOf ts) needed) rest
-    ∙ front-whole (cellsOf ts) needed buffer e
+    ∙ ap (frontOf (cellsOfBy half ts) needed) rest
+    ∙ front-whole (cellsOfBy half ts) needed buffer e

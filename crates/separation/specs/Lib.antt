@@ -1,2 +1,3 @@
 pub mod Separation
 pub mod Demand3
+pub mod PrivateContracts

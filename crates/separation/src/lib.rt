@@ -3,7 +3,10 @@ use flux_timings::MOST_TIMINGS;
 use flux_timings::first_out;
 use refusals::Counted;
 use refusals::Refusal;
+use separator::DOUBLE_HALF_WINDOW;
+use separator::SINGLE_HALF_WINDOW;
 use separator::Separator;
+use separator::Stepped;
 use separator::Taken;
 ghost use mathlib.Core.Path.{_≡_};
 ghost use mathlib.Core.Bool.{cond};
@@ -15,9 +18,10 @@ ghost use Rattle.refusals.specs.RefusedCalls.{countedAnswer};
 ghost use Rattle.refusals.specs.RefusedCalls.Answer.{gives};
 ghost use Rattle.cells.specs.CellsAndBytes.{bytesFor, packed, withOne};
 ghost use Rattle.flux_timings.specs.Timings.{firstOut};
-ghost use Rattle.separator.specs.Rule.{takenAnswer};
-ghost use Rattle.separation.specs.Separation.{cellsOf, borderPulsesOf, separation, separatedCells, borderPulsesAfter};
+ghost use Rattle.separator.specs.Rule.{takenAnswer, singleHalfWindow, stepAnswerBy, stepOffsetBy, stepResidualBy, borderPulsesAtBy};
+ghost use Rattle.separation.specs.Separation.{borderPulsesOf, separation, separatedCells, borderPulsesAfter, cellsOfBy, borderPulsesOfBy, separationBy, separatedCellsBy};
 ghost use Rattle.separation.specs.Demand3.{Demand3};
+ghost use Rattle.separation.specs.PrivateContracts.{IsHalfWindow};
 
 // The most cells that one call gives.
 pub const MOST_CELLS: usize = 131_072;
@@ -28,6 +32,30 @@ pub fn separate(timings: &[u32], cells: &mut [u8], border_pulses: &mut usize) ->
     ensures buffer { λ _. ⌜ now (cells .exit) ≡ separatedCells (now (timings .entry)) (now (cells .entry)) ⌝ }
     ensures border_pulses { λ _. ⌜ now («border_pulses» .exit) ≡ borderPulsesAfter (separation (now (timings .entry)) (length (now (cells .entry)))) (borderPulsesOf (now (timings .entry))) (now («border_pulses» .entry)) ⌝ }
     ensures demand3 { λ r. ⌜ Demand3 (now (timings .entry)) (countedAnswer r) (now (cells .entry)) (now (cells .exit)) ⌝ }
+{
+    separate_by(DOUBLE_HALF_WINDOW, timings, cells, border_pulses)
+}
+
+// The same for a track of single density. Demand 3 is not claimed of it.
+pub fn separate_single(timings: &[u32], cells: &mut [u8], border_pulses: &mut usize) -> Counted
+    ensures answer { λ r. ⌜ countedAnswer r ≡ separationBy singleHalfWindow (now (timings .entry)) (length (now (cells .entry))) ⌝ }
+    ensures buffer { λ _. ⌜ now (cells .exit) ≡ separatedCellsBy singleHalfWindow (now (timings .entry)) (now (cells .entry)) ⌝ }
+    ensures border_pulses { λ _. ⌜ now («border_pulses» .exit) ≡ borderPulsesAfter (separationBy singleHalfWindow (now (timings .entry)) (length (now (cells .entry)))) (borderPulsesOfBy singleHalfWindow (now (timings .entry))) (now («border_pulses» .entry)) ⌝ }
+{
+    separate_by(SINGLE_HALF_WINDOW, timings, cells, border_pulses)
+}
+
+// The same by half of the window.
+fn separate_by(
+    half_window: u32,
+    timings: &[u32],
+    cells: &mut [u8],
+    border_pulses: &mut usize,
+) -> Counted
+    requires { ⌜ IsHalfWindow «half_window» ⌝ }
+    ensures answer { λ r. ⌜ countedAnswer r ≡ separationBy «half_window» (now (timings .entry)) (length (now (cells .entry))) ⌝ }
+    ensures buffer { λ _. ⌜ now (cells .exit) ≡ separatedCellsBy «half_window» (now (timings .entry)) (now (cells .entry)) ⌝ }
+    ensures border_pulses { λ _. ⌜ now («border_pulses» .exit) ≡ borderPulsesAfter (separationBy «half_window» (now (timings .entry)) (length (now (cells .entry)))) (borderPulsesOfBy «half_window» (now (timings .entry))) (now («border_pulses» .entry)) ⌝ }
 {
     let given = timings.len();
     if given == 0 {
@@ -40,7 +68,7 @@ pub fn separate(timings: &[u32], cells: &mut [u8], border_pulses: &mut usize) ->
     if first < given {
         return Counted::Refused(Refusal::TimingOutOfRange(first));
     }
-    let counts = count_cells(timings);
+    let counts = count_cells(half_window, timings);
     let count = counts.cells;
     if MOST_CELLS < count {
         return Counted::Refused(Refusal::TooManyCells(count));
@@ -49,7 +77,7 @@ pub fn separate(timings: &[u32], cells: &mut [u8], border_pulses: &mut usize) ->
     if cells.len() < needed {
         return Counted::Refused(Refusal::NoRoom(needed));
     }
-    write_cells(timings, needed, cells);
+    write_cells(half_window, timings, needed, cells);
     *border_pulses = counts.border_pulses;
     Counted::Count(count)
 }
@@ -61,21 +89,21 @@ struct Counts {
 }
 
 // The cells and the border pulses of timings that are in range, counted.
-fn count_cells(timings: &[u32]) -> Counts
-    requires { ⌜ (length (now timings) ≤ 65536) × (firstOut (now timings) ≡ length (now timings)) ⌝ }
-    ensures cells { λ r. ⌜ r .cells ≡ length (cellsOf (now (timings .entry))) ⌝ }
-    ensures border_pulses { λ r. ⌜ r .«border_pulses» ≡ borderPulsesOf (now (timings .entry)) ⌝ }
+fn count_cells(half_window: u32, timings: &[u32]) -> Counts
+    requires { ⌜ (length (now timings) ≤ 65536) × (firstOut (now timings) ≡ length (now timings)) × IsHalfWindow «half_window» ⌝ }
+    ensures cells { λ r. ⌜ r .cells ≡ length (cellsOfBy «half_window» (now (timings .entry))) ⌝ }
+    ensures border_pulses { λ r. ⌜ r .«border_pulses» ≡ borderPulsesOfBy «half_window» (now (timings .entry)) ⌝ }
 {
     let mut count: usize = 0;
     let mut border_pulses: usize = 0;
     let mut state = Separator::new();
     let mut i: usize = 0;
     while i < timings.len() {
-        let stepped = state.step(timings[i]);
+        let stepped = step_by(half_window, state, timings[i]);
         let given = stepped.given;
         let taken = given.taken;
         count += cells_given(taken);
-        border_pulses += separator::border_pulses_at(given.offset) as usize;
+        border_pulses += border_pulses_by(half_window, given.offset) as usize;
         state = stepped.next;
         i += 1;
     }
@@ -86,16 +114,16 @@ fn count_cells(timings: &[u32]) -> Counts
 }
 
 // Writes the cells of timings that are in range to the front of a buffer that has room for them.
-fn write_cells(timings: &[u32], needed: usize, cells: &mut [u8])
-    requires { ⌜ (firstOut (now timings) ≡ length (now timings)) × (length (cellsOf (now timings)) ≤ 131072) × (needed ≡ bytesFor (length (cellsOf (now timings)))) × (needed ≤ length (now cells)) ⌝ }
-    ensures { λ _. ⌜ now (cells .exit) ≡ writtenOver (packed (cellsOf (now (timings .entry)))) (now (cells .entry)) ⌝ }
+fn write_cells(half_window: u32, timings: &[u32], needed: usize, cells: &mut [u8])
+    requires { ⌜ (firstOut (now timings) ≡ length (now timings)) × (length (cellsOfBy «half_window» (now timings)) ≤ 131072) × (needed ≡ bytesFor (length (cellsOfBy «half_window» (now timings)))) × (needed ≤ length (now cells)) × IsHalfWindow «half_window» ⌝ }
+    ensures { λ _. ⌜ now (cells .exit) ≡ writtenOver (packed (cellsOfBy «half_window» (now (timings .entry)))) (now (cells .entry)) ⌝ }
 {
     cells::clear(cells, needed);
     let mut at: usize = 0;
     let mut separator = Separator::new();
     let mut i: usize = 0;
     while i < timings.len() {
-        let stepped = separator.step(timings[i]);
+        let stepped = step_by(half_window, separator, timings[i]);
         let given = stepped.given;
         let taken = given.taken;
         let count = cells_given(taken);
@@ -104,6 +132,31 @@ fn write_cells(timings: &[u32], needed: usize, cells: &mut [u8])
         separator = stepped.next;
         i += 1;
     }
+}
+
+// A step, by half of the window. The choice stands here, inside the loops, and not at the division: so the compiler makes two loops of each,
+// and divides by a number that it knows in both.
+fn step_by(half_window: u32, state: Separator, timing: u32) -> Stepped
+    requires { ⌜ IsHalfWindow «half_window» ⌝ }
+    ensures answer { λ r. ⌜ takenAnswer (r .given .taken) ≡ stepAnswerBy «half_window» (state .residual) timing ⌝ }
+    ensures offset { λ r. ⌜ r .given .offset ≡ stepOffsetBy «half_window» (state .residual) timing ⌝ }
+    ensures state { λ r. ⌜ r .next .residual ≡ stepResidualBy «half_window» (state .residual) timing ⌝ }
+{
+    if half_window == DOUBLE_HALF_WINDOW {
+        return state.step(timing);
+    }
+    state.step_single(timing)
+}
+
+// The border pulses of an offset, by half of the window.
+fn border_pulses_by(half_window: u32, offset: i32) -> u32
+    requires { ⌜ IsHalfWindow «half_window» ⌝ }
+    ensures { λ r. ⌜ r ≡ borderPulsesAtBy «half_window» offset ⌝ }
+{
+    if half_window == DOUBLE_HALF_WINDOW {
+        return separator::border_pulses_at(offset);
+    }
+    separator::border_pulses_at_single(offset)
 }
 
 // Puts the cells of a timing at cell `at`, where zeros stand: all that changes is a one at the last of them.

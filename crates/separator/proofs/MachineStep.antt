@@ -1,13 +1,14 @@
 -- The machine's arithmetic in a step: each number that it makes is the rule's, and a signed one fits an `i32`. Assumes nothing.
-use Prim.Native.Nat.{ℕ, zero, suc, _+_, _/_, _%_, _≤_, _<_}
+use Prim.Native.Nat.{ℕ, zero, suc, _+_, _*_, _/_, _%_, _≤_, _<_}
 use mathlib.Core.Path.{_≡_, sym, _∙_, ap, subst}
+use native.Mathlib.Nat.{add-comm, mod-lt, mod-add-mod, mod-add-div, add-mul-div-left, div-lt-iff-lt-mul}
 use native.Mathlib.Omega.{arith}
 use lib.IntN.{ℤ, pos, negsuc, negℤ, subℕ, _+ℤ_}
 use lib.Signed.{mag, quotZ}
 use mir.Syntax.{w32}
 use mir.Val.{SFits, toZ, ofZ}
 use mir.Facts.{toZ-ofZ, toZ-pos}
-use Rattle.separator.specs.Rule.{cellsAt, offsetAt, halfWindow}
+use Rattle.separator.specs.Rule.{cellsAt, offsetAt}
 use Rattle.separator.proofs.Orders.{mag-sub}
 use Rattle.separator.proofs.Differences.{pos-sub, add-sub, sub-same}
 use Rattle.separator.proofs.Lifted.{Kept, cells-is, offset-is}
@@ -28,52 +29,77 @@ half-fits z f = record { sfits = omega (arith, mag-half z, f .sfits) }
 abbrev pub readBack : ℤ → ℤ
 readBack z = toZ w32 (ofZ w32 z)
 
--- the timing t, and the residual r that is used
-module _ (t : ℕ) (short : t ≤ 10000000) (r : ℤ) (kept : Kept halfWindow r) where
+-- below 2^31 the bits of a number are read as the number itself
+pub small-is : (n : ℕ) → n < 2147483648 → toZ w32 n ≡ pos n
+small-is n h = toZ-pos w32 {n = n} h
+
+-- what a step asks: of half of the window, of the timing t, and of the residual r that is used
+pub record Steppable (half t : ℕ) (r : ℤ) : Type 0 where
+  pub low : 1000 ≤ half
+  pub high : half ≤ 2000
+  pub short : t ≤ 10000000
+  pub kept : Kept half r
+
+module _ {half t : ℕ} {r : ℤ} (s : Steppable half t r) where
   abbrev b : ℕ
-  b = kept .lifted
+  b = s .kept .lifted
 
-  bound : b < 1500
-  bound = let h = kept .high in omega arith
+  abbrev w : ℕ
+  w = 2 * half
 
-  fits-sub : (m : ℕ) → m < 2147483648 → SFits w32 (subℕ m 1000)
-  fits-sub m k = record { sfits = mag-sub m 1000 2147483648 k (omega arith) }
+  some : 0 < w
+  some = omega arith
+
+  bound : 2 * b < 3 * half
+  bound = s .kept .high
+
+  -- what is left of a timing after its whole windows
+  pub left : t % w < w
+  left = mod-lt t some
+
+  fits-sub : (m : ℕ) → m < 2147483648 → SFits w32 (subℕ m half)
+  fits-sub m k = record { sfits = mag-sub m half 2147483648 k (omega arith) }
 
   r-fits : SFits w32 r
-  r-fits = let h = bound in subst (SFits w32) (kept .is) (fits-sub b (omega arith))
+  r-fits = subst (SFits w32) (s .kept .is) (fits-sub b (omega (arith, bound)))
 
   -- u without the timing's whole windows
   abbrev part : ℤ
-  part = toZ w32 (t % 2000) +ℤ readBack r
+  part = toZ w32 (t % w) +ℤ readBack r
 
-  part-lifted : part ≡ subℕ (t % 2000 + b) 1000
+  part-lifted : part ≡ subℕ (t % w + b) half
   part-lifted =
-      ap (λ (z : ℤ). z +ℤ readBack r) (toZ-pos w32 {n = t % 2000} (omega arith) ∙ pos-sub (t % 2000))
-      ∙ ap (λ (z : ℤ). subℕ (t % 2000) 0 +ℤ z) (toZ-ofZ r-fits ∙ sym (kept .is))
-      ∙ add-sub (t % 2000) 0 b 1000
-      ∙ sub-same (t % 2000 + b) (0 + 1000) (t % 2000 + b) 1000 (omega arith)
+      ap (λ (z : ℤ). z +ℤ readBack r) (small-is (t % w) (omega (arith, left)) ∙ pos-sub (t % w))
+      ∙ ap (λ (z : ℤ). subℕ (t % w) 0 +ℤ z) (toZ-ofZ r-fits ∙ sym (s .kept .is))
+      ∙ add-sub (t % w) 0 b half
+      ∙ sub-same (t % w + b) (0 + half) (t % w + b) half (omega arith)
 
   pub part-fits : SFits w32 part
-  part-fits = let h = bound in subst (SFits w32) (sym part-lifted) (fits-sub (t % 2000 + b) (omega arith))
+  part-fits = subst (SFits w32) (sym part-lifted) (fits-sub (t % w + b) (omega (arith, left, bound)))
 
-  pub part-is : subℕ (t % 2000 + b) 1000 ≡ readBack part
+  pub part-is : subℕ (t % w + b) half ≡ readBack part
   part-is = sym (toZ-ofZ part-fits ∙ part-lifted)
 
-  pub part-small : t % 2000 + b < 4000
-  part-small = let h = bound in omega arith
+  pub part-small : t % w + b < 4 * half
+  part-small = omega (arith, left, bound)
 
-  cells-are : (t + b) / 2000 ≡ cellsAt halfWindow r t
-  cells-are = sym (cells-is 1000 b t) ∙ ap (λ (z : ℤ). cellsAt halfWindow z t) (kept .is)
+  cells-are : (t + b) / w ≡ cellsAt half r t
+  cells-are = sym (cells-is half b t) ∙ ap (λ (z : ℤ). cellsAt half z t) (s .kept .is)
 
-  pub cells-small : cellsAt halfWindow r t ≤ 5000
-  cells-small = let h = bound in omega (arith, cells-are)
+  pub cells-small : cellsAt half r t ≤ 5000
+  cells-small =
+      let l = div-lt-iff-lt-mul {k = w} {x = t + b} {y = 5001} some .1 (omega (arith, bound)) in
+      omega (arith, cells-are)
 
   -- the timing's whole windows, and what the part adds: n, and e
-  pub n-is : t / 2000 + (t % 2000 + b) / 2000 ≡ cellsAt halfWindow r t
-  n-is = omega (arith, cells-are)
+  pub n-is : t / w + (t % w + b) / w ≡ cellsAt half r t
+  n-is =
+      let d = mod-add-div t w in
+      let k : t % w + b + w * (t / w) ≡ t + b = omega arith in
+      add-comm (t / w) ((t % w + b) / w) ∙ sym (add-mul-div-left (t % w + b) (t / w) some) ∙ ap (λ (x : ℕ). x / w) k ∙ cells-are
 
-  pub e-is : subℕ ((t % 2000 + b) % 2000) 1000 ≡ offsetAt halfWindow r t
+  pub e-is : subℕ ((t % w + b) % w) half ≡ offsetAt half r t
   e-is =
-      sub-same ((t % 2000 + b) % 2000) 1000 ((t + b) % 2000) 1000 (omega arith)
-      ∙ sym (offset-is 1000 b t)
-      ∙ ap (λ (z : ℤ). offsetAt halfWindow z t) (kept .is)
+      ap (λ (x : ℕ). subℕ x half) (mod-add-mod t w b)
+      ∙ sym (offset-is half b t)
+      ∙ ap (λ (z : ℤ). offsetAt half z t) (s .kept .is)

@@ -3,7 +3,7 @@ use crate::Given;
 use crate::Separator;
 use crate::Stepped;
 ghost use mathlib.Core.Path.{_≡_};
-ghost use Rattle.separator.specs.Rule.{takenAnswer, stepAnswer, stepOffset, stepResidual};
+ghost use Rattle.separator.specs.Rule.{takenAnswer, stepAnswer, stepOffset, stepResidual, singleHalfWindow, stepAnswerBy, stepOffsetBy, stepResidualBy};
 
 // One timing, on a state that the host lends: it finds the state advanced in its own place.
 pub fn step_in_place(state: &mut Separator, timing: u32) -> Given
@@ -28,4 +28,14 @@ pub fn step_lent(residual: i32, timing: u32) -> Stepped
         given: given,
         next: state,
     }
+}
+
+// The same of single density. The state is the caller's number, so that none is lent here.
+pub fn step_lent_single(residual: i32, timing: u32) -> Stepped
+    ensures answer { λ r. ⌜ takenAnswer (r .given .taken) ≡ stepAnswerBy singleHalfWindow residual timing ⌝ }
+    ensures offset { λ r. ⌜ r .given .offset ≡ stepOffsetBy singleHalfWindow residual timing ⌝ }
+    ensures state { λ r. ⌜ r .next .residual ≡ stepResidualBy singleHalfWindow residual timing ⌝ }
+{
+    let state = Separator { residual: residual };
+    state.step_single(timing)
 }

@@ -1,14 +1,18 @@
-// The separator's rule, one timing at a time: on a state by value, and on one that the host lends.
+// The separator's rule, one timing at a time: on a state by value, and on one that the host lends. The functions of single density end in
+// `_single`; the others are of double density.
 mod lent;
 
 use flux_timings::timing_in_range;
 pub use lent::step_in_place;
 pub use lent::step_lent;
+pub use lent::step_lent_single;
 use refusals::Refusal;
 ghost use mathlib.Core.Path.{_≡_};
-ghost use Prim.Native.Nat.{ℕ, _/_, _%_, _<_};
+ghost use mathlib.Core.Bool.{cond, _||_};
+ghost use Prim.Native.Nat.{ℕ, _*_, _/_, _%_, _≤_, _<_};
 ghost use lib.IntN.{pos, subℕ};
-ghost use Rattle.separator.specs.Rule.{halved, usable, takenAnswer, stepAnswer, stepOffset, stepResidual, borderPulsesAt};
+ghost use lib.Signed.{leZ};
+ghost use Rattle.separator.specs.Rule.{halved, usable, takenAnswer, stepAnswer, stepOffset, stepResidual, borderPulsesAt, singleHalfWindow, stepAnswerBy, stepOffsetBy, stepResidualBy, borderPulsesAtBy};
 
 // The separator's state: the residual, in nanoseconds.
 pub struct Separator {
@@ -47,6 +51,26 @@ impl Separator {
         ensures offset { λ r. ⌜ r .given .offset ≡ stepOffset (self .residual) timing ⌝ }
         ensures state { λ r. ⌜ r .next .residual ≡ stepResidual (self .residual) timing ⌝ }
     {
+        self.step_by(DOUBLE_HALF_WINDOW, timing)
+    }
+
+    // The same on a track of single density.
+    pub fn step_single(self, timing: u32) -> Stepped
+        ensures answer { λ r. ⌜ takenAnswer (r .given .taken) ≡ stepAnswerBy singleHalfWindow (self .residual) timing ⌝ }
+        ensures offset { λ r. ⌜ r .given .offset ≡ stepOffsetBy singleHalfWindow (self .residual) timing ⌝ }
+        ensures state { λ r. ⌜ r .next .residual ≡ stepResidualBy singleHalfWindow (self .residual) timing ⌝ }
+    {
+        self.step_by(SINGLE_HALF_WINDOW, timing)
+    }
+
+    // One timing, by half of the window. Each of the two steps above hands over a number that the compiler knows: it divides by that much
+    // quicker than by one that it does not.
+    fn step_by(self, half_window: u32, timing: u32) -> Stepped
+        requires { ⌜ (1000 ≤ «half_window») × («half_window» ≤ 2000) ⌝ }
+        ensures answer { λ r. ⌜ takenAnswer (r .given .taken) ≡ stepAnswerBy «half_window» (self .residual) timing ⌝ }
+        ensures offset { λ r. ⌜ r .given .offset ≡ stepOffsetBy «half_window» (self .residual) timing ⌝ }
+        ensures state { λ r. ⌜ r .next .residual ≡ stepResidualBy «half_window» (self .residual) timing ⌝ }
+    {
         if !timing_in_range(timing) {
             let refused = Given {
                 taken: Taken::Refused(Refusal::TimingOutOfRange(0)),
@@ -58,11 +82,12 @@ impl Separator {
             };
         }
         let residual = self.residual;
-        let r = usable_residual(residual);
+        let r = usable_residual(half_window, residual);
         // u of rule 3.3 without the timing's whole windows: a division of u would make each step wait for the one before it.
-        let part = ((timing % TIMING_WINDOW) as i32) + r;
-        let cells = timing / TIMING_WINDOW + cells_in(part);
-        let e = offset_in(part);
+        let window = 2 * half_window;
+        let part = ((timing % window) as i32) + r;
+        let cells = timing / window + cells_in(half_window, part);
+        let e = offset_in(half_window, part);
         let next = Separator { residual: half(e) };
         let given = Given {
             taken: Taken::Cells(cells),
@@ -75,63 +100,79 @@ impl Separator {
     }
 }
 
-// The offsets from which on, at either side, a pulse is a border pulse.
-const LEAST_BORDER: i32 = -902;
+// How many nanoseconds half a window has, for each density.
+pub const DOUBLE_HALF_WINDOW: u32 = 1000;
 
-const MOST_BORDER: i32 = 902;
+pub const SINGLE_HALF_WINDOW: u32 = 2000;
+
+// The offsets from which on, at either side, a pulse is a border pulse, of each density.
+const DOUBLE_LEAST_BORDER: i32 = -902;
+
+const DOUBLE_MOST_BORDER: i32 = 902;
+
+const SINGLE_LEAST_BORDER: i32 = -1804;
+
+const SINGLE_MOST_BORDER: i32 = 1804;
 
 // How many border pulses a pulse with this offset is: 1 where it lies near the border of its window, and else 0.
 pub fn border_pulses_at(offset: i32) -> u32
     ensures { λ r. ⌜ r ≡ borderPulsesAt offset ⌝ }
 {
-    if offset <= LEAST_BORDER {
+    border_pulses_by(DOUBLE_LEAST_BORDER, DOUBLE_MOST_BORDER, offset)
+}
+
+// The same of a track of single density.
+pub fn border_pulses_at_single(offset: i32) -> u32
+    ensures { λ r. ⌜ r ≡ borderPulsesAtBy singleHalfWindow offset ⌝ }
+{
+    border_pulses_by(SINGLE_LEAST_BORDER, SINGLE_MOST_BORDER, offset)
+}
+
+fn border_pulses_by(least: i32, most: i32, offset: i32) -> u32
+    ensures { λ r. ⌜ r ≡ cond (leZ offset least || leZ most offset) 1 0 ⌝ }
+{
+    if offset <= least {
         return 1;
     }
-    if MOST_BORDER <= offset {
+    if most <= offset {
         return 1;
     }
     0
 }
 
-// The window, of a timing and of an offset, its half, and the residuals that a step can leave, in nanoseconds.
-const TIMING_WINDOW: u32 = 2000;
-
-const WINDOW: i32 = 2000;
-
-const HALF_WINDOW: i32 = 1000;
-
-const LEAST_RESIDUAL: i32 = -500;
-
-const MOST_RESIDUAL: i32 = 499;
-
-// A residual that is outside -500 to 499 counts as 0.
-fn usable_residual(residual: i32) -> i32
-    ensures { λ r. ⌜ r ≡ usable residual ⌝ }
+// The residual that is used: 0 in place of one that no step can have left.
+fn usable_residual(half_window: u32, residual: i32) -> i32
+    requires { ⌜ (1000 ≤ «half_window») × («half_window» ≤ 2000) ⌝ }
+    ensures { λ r. ⌜ r ≡ usable «half_window» residual ⌝ }
 {
-    if residual < LEAST_RESIDUAL {
+    let least = 0 - (half_window / 2) as i32;
+    if residual < least {
         return 0;
     }
-    if MOST_RESIDUAL < residual {
+    let most = ((half_window - 1) / 2) as i32;
+    if most < residual {
         return 0;
     }
     residual
 }
 
 // The cells of a reading without the whole windows of its timing: none below half a window, else one.
-fn cells_in(part: i32) -> u32
-    ensures { λ r. ⌜ ((b : ℕ) → subℕ b 1000 ≡ part → b < 4000 → r ≡ b / 2000) ⌝ }
+fn cells_in(half_window: u32, part: i32) -> u32
+    requires { ⌜ «half_window» ≤ 2000 ⌝ }
+    ensures { λ r. ⌜ ((b : ℕ) → subℕ b «half_window» ≡ part → b < 4 * «half_window» → r ≡ b / (2 * «half_window»)) ⌝ }
 {
-    if part < HALF_WINDOW { 0 } else { 1 }
+    if part < half_window as i32 { 0 } else { 1 }
 }
 
 // The offset of such a reading.
-fn offset_in(part: i32) -> i32
-    ensures { λ r. ⌜ ((b : ℕ) → subℕ b 1000 ≡ part → b < 4000 → r ≡ subℕ (b % 2000) 1000) ⌝ }
+fn offset_in(half_window: u32, part: i32) -> i32
+    requires { ⌜ «half_window» ≤ 2000 ⌝ }
+    ensures { λ r. ⌜ ((b : ℕ) → subℕ b «half_window» ≡ part → b < 4 * «half_window» → r ≡ subℕ (b % (2 * «half_window»)) «half_window») ⌝ }
 {
-    if part < HALF_WINDOW {
+    if part < half_window as i32 {
         part
     } else {
-        part - WINDOW
+        part - (2 * half_window) as i32
     }
 }
 

@@ -12,7 +12,7 @@ use Rattle.cells.specs.CellsAndBytes.{bytesFor}
 use Rattle.refusals.specs.RefusedCalls.{Answer}
 use Rattle.refusals.specs.RefusedCalls.Answer.{gives, refused}
 use Rattle.flux_timings.specs.Timings.{inRange}
-use Rattle.separator.specs.Rule.{cellsAt, offsetAt, residualAfter, halfWindow, borderPulsesAt}
+use Rattle.separator.specs.Rule.{cellsAt, offsetAt, residualAfter, doubleHalfWindow, borderPulsesAt}
 use Rattle.separation.specs.Separation.{cellsFor, windowsFrom, cellsIn, cellsOf, borderPulsesIn, borderPulsesOf, cellsJudged, separation}
 use Rattle.flux_timings.specs.Timings.{firstOut, timingsJudged}
 use Rattle.separator.proofs.Border.{border-few}
@@ -41,30 +41,30 @@ abbrev pub tookWith : ℕ → ℕ → ℕ → ℤ → TakenTimings
 tookWith i at p r = InRange i at p (record { residual = r })
 
 -- one timing in range
-module _ (i at p : ℕ) (r : ℤ) (t : ℕ) (kept : Kept halfWindow r) (ranged : inRange t ≡ true) (small : at ≤ 5000 * i) (pulses : p ≤ i) (few : i < 65536) where
-  pub n-small : cellsAt halfWindow r t ≤ 5000
-  n-small = cells-small t (range-of t ranged .1) r kept
+module _ (i at p : ℕ) (r : ℤ) (t : ℕ) (kept : Kept doubleHalfWindow r) (ranged : inRange t ≡ true) (small : at ≤ 5000 * i) (pulses : p ≤ i) (few : i < 65536) where
+  pub n-small : cellsAt doubleHalfWindow r t ≤ 5000
+  n-small = cells-small (record { low = omega arith; high = omega arith; short = range-of t ranged .1; kept = kept })
 
   pub one-taken : takenAfter (tookWith i at p r) t
-      ≡ tookWith (i + 1) (at + cellsAt halfWindow r t) (p + borderPulsesAt (offsetAt halfWindow r t)) (residualAfter halfWindow r t)
+      ≡ tookWith (i + 1) (at + cellsAt doubleHalfWindow r t) (p + borderPulsesAt (offsetAt doubleHalfWindow r t)) (residualAfter doubleHalfWindow r t)
   unfolding takenAfter takenStep
   one-taken =
       rw (
-        step-answers r t kept ranged,
-        step-offsets r t kept ranged,
-        step-leaves r t kept ranged,
+        step-answers doubleHalfWindow r t kept ranged,
+        step-offsets doubleHalfWindow r t kept ranged,
+        step-leaves doubleHalfWindow r t kept ranged,
         ← count-more i 1 (omega arith),
-        ← count-more at (cellsAt halfWindow r t) (omega arith),
-        ← count-more p (borderPulsesAt (offsetAt halfWindow r t)) (omega arith),
+        ← count-more at (cellsAt doubleHalfWindow r t) (omega arith),
+        ← count-more p (borderPulsesAt (offsetAt doubleHalfWindow r t)) (omega arith),
       )
 
-  pub one-cells : (buffer : List ℕ) → takenCells (tookWith i at p r) t buffer ≡ timingCells at (cellsAt halfWindow r t) buffer
+  pub one-cells : (buffer : List ℕ) → takenCells (tookWith i at p r) t buffer ≡ timingCells at (cellsAt doubleHalfWindow r t) buffer
   unfolding takenCells stepCells
-  one-cells buffer = rw (step-answers r t kept ranged)
+  one-cells buffer = rw (step-answers doubleHalfWindow r t kept ranged)
 
 out-taken : (i at p : ℕ) (r : ℤ) (t : ℕ) → inRange t ≡ false → takenAfter (tookWith i at p r) t ≡ OutOfRange i
 unfolding takenAfter takenStep
-out-taken i at p r t e = rw (← (step-refused r t e .0))
+out-taken i at p r t e = rw (← (step-refused doubleHalfWindow r t e .0))
 
 stays-out : (index : ℕ) (ts : List ℕ) → takenOver (OutOfRange index) ts ≡ OutOfRange index
 unfolding takenAfter
@@ -86,37 +86,37 @@ pub first-here : (t : ℕ) (ts : List ℕ) → inRange t ≡ false → firstOut 
 unfolding firstOut
 first-here t ts e = rw e
 
-cells-more : (r : ℤ) (t : ℕ) (ts : List ℕ) → cellsFrom r (t ∷ ts) ≡ cellsFor (cellsAt halfWindow r t) ++ cellsFrom (residualAfter halfWindow r t) ts
+cells-more : (r : ℤ) (t : ℕ) (ts : List ℕ) → cellsFrom r (t ∷ ts) ≡ cellsFor (cellsAt doubleHalfWindow r t) ++ cellsFrom (residualAfter doubleHalfWindow r t) ts
 unfolding windowsFrom cellsIn
 cells-more r t ts = refl
 
-pub length-more : (r : ℤ) (t : ℕ) (ts : List ℕ) → length (cellsFrom r (t ∷ ts)) ≡ cellsAt halfWindow r t + length (cellsFrom (residualAfter halfWindow r t) ts)
+pub length-more : (r : ℤ) (t : ℕ) (ts : List ℕ) → length (cellsFrom r (t ∷ ts)) ≡ cellsAt doubleHalfWindow r t + length (cellsFrom (residualAfter doubleHalfWindow r t) ts)
 length-more r t ts =
-    ap length (cells-more r t ts) ∙ length-append (cellsFor (cellsAt halfWindow r t)) (cellsFrom (residualAfter halfWindow r t) ts)
-    ∙ ap (λ (m : ℕ). m + length (cellsFrom (residualAfter halfWindow r t) ts)) (length-for (cellsAt halfWindow r t))
+    ap length (cells-more r t ts) ∙ length-append (cellsFor (cellsAt doubleHalfWindow r t)) (cellsFrom (residualAfter doubleHalfWindow r t) ts)
+    ∙ ap (λ (m : ℕ). m + length (cellsFrom (residualAfter doubleHalfWindow r t) ts)) (length-for (cellsAt doubleHalfWindow r t))
 
 told-later : (i first count m n : ℕ) → m ≡ n → told (i + 1) first count m ≡ told i (suc first) (suc count) n
 told-later i first count m n e =
     let f : (i + 1) + first ≡ i + suc first = omega arith in
     rw (leb·suc-suc (suc first) count, f, e)
 
-over-answer : (ts : List ℕ) (i at p : ℕ) (r : ℤ) → Kept halfWindow r → i + length ts ≤ 65536 → at ≤ 5000 * i → p ≤ i
+over-answer : (ts : List ℕ) (i at p : ℕ) (r : ℤ) → Kept doubleHalfWindow r → i + length ts ≤ 65536 → at ≤ 5000 * i → p ≤ i
     → timingsAnswer (takenOver (tookWith i at p r) ts) ≡ told i (firstOut ts) (length ts) (at + length (cellsFrom r ts))
 unfolding timingsAnswer firstOut windowsFrom cellsIn
 over-answer [] i at p r kept few small pulses = let e : at ≡ at + 0 = omega arith in ap inAll e
 over-answer (t ∷ ts) i at p r kept few small pulses = go (inRange t) refl (over-answer ts)
   where
     go : (x : Bool) → inRange t ≡ x
-        → ((i at p : ℕ) (r : ℤ) → Kept halfWindow r → i + length ts ≤ 65536 → at ≤ 5000 * i → p ≤ i → timingsAnswer (takenOver (tookWith i at p r) ts) ≡ told i (firstOut ts) (length ts) (at + length (cellsFrom r ts)))
+        → ((i at p : ℕ) (r : ℤ) → Kept doubleHalfWindow r → i + length ts ≤ 65536 → at ≤ 5000 * i → p ≤ i → timingsAnswer (takenOver (tookWith i at p r) ts) ≡ told i (firstOut ts) (length ts) (at + length (cellsFrom r ts)))
         → timingsAnswer (takenOver (takenAfter (tookWith i at p r) t) ts) ≡ told i (firstOut (t ∷ ts)) (suc (length ts)) (at + length (cellsFrom r (t ∷ ts)))
     go true e more =
-        let n = cellsAt halfWindow r t in
+        let n = cellsAt doubleHalfWindow r t in
         let l = n-small i at p r t kept e small pulses (omega arith) in
         let m = length-more r t ts in
-        let b = border-few (offsetAt halfWindow r t) in
-        let d : (at + n) + length (cellsFrom (residualAfter halfWindow r t) ts) ≡ at + length (cellsFrom r (t ∷ ts)) = omega arith in
+        let b = border-few doubleHalfWindow (offsetAt doubleHalfWindow r t) in
+        let d : (at + n) + length (cellsFrom (residualAfter doubleHalfWindow r t) ts) ≡ at + length (cellsFrom r (t ∷ ts)) = omega arith in
         ap (λ (x : TakenTimings). timingsAnswer (takenOver x ts)) (one-taken i at p r t kept e small pulses (omega arith))
-        ∙ more (i + 1) (at + n) (p + borderPulsesAt (offsetAt halfWindow r t)) (residualAfter halfWindow r t) (kept-next 1000 (omega arith) r t kept) (omega arith) (omega arith) (omega arith)
+        ∙ more (i + 1) (at + n) (p + borderPulsesAt (offsetAt doubleHalfWindow r t)) (residualAfter doubleHalfWindow r t) (kept-next 1000 (omega arith) r t kept) (omega arith) (omega arith) (omega arith)
         ∙ told-later i (firstOut ts) (length ts) _ _ d
         ∙ ap (λ (x : ℕ). told i x (suc (length ts)) (at + length (cellsFrom r (t ∷ ts)))) (sym (first-later t ts e))
     go false e more =
@@ -150,24 +150,24 @@ module _ (ts : List ℕ) (some : length ts ≡ 0 → ⊥) (few : length ts ≤ 6
       over-answer ts 0 0 0 (pos 0) (kept-none 1000 (omega arith)) (omega arith) (omega arith) (omega arith) ∙ rw (i, n) (separation-is 16384 (omega arith))
 
 -- the border pulses of timings that are accepted
-over-pulses : (ts : List ℕ) (i at p : ℕ) (r : ℤ) → Kept halfWindow r → i + length ts ≤ 65536 → at ≤ 5000 * i → p ≤ i → firstOut ts ≡ length ts
+over-pulses : (ts : List ℕ) (i at p : ℕ) (r : ℤ) → Kept doubleHalfWindow r → i + length ts ≤ 65536 → at ≤ 5000 * i → p ≤ i → firstOut ts ≡ length ts
     → borderPulsesTaken (takenOver (tookWith i at p r) ts) ≡ p + borderPulsesFrom r ts
 unfolding windowsFrom borderPulsesIn
 over-pulses [] i at p r kept few small pulses all = omega arith
 over-pulses (t ∷ ts) i at p r kept few small pulses all = go (inRange t) refl (over-pulses ts)
   where
     go : (x : Bool) → inRange t ≡ x
-        → ((i at p : ℕ) (r : ℤ) → Kept halfWindow r → i + length ts ≤ 65536 → at ≤ 5000 * i → p ≤ i → firstOut ts ≡ length ts → borderPulsesTaken (takenOver (tookWith i at p r) ts) ≡ p + borderPulsesFrom r ts)
+        → ((i at p : ℕ) (r : ℤ) → Kept doubleHalfWindow r → i + length ts ≤ 65536 → at ≤ 5000 * i → p ≤ i → firstOut ts ≡ length ts → borderPulsesTaken (takenOver (tookWith i at p r) ts) ≡ p + borderPulsesFrom r ts)
         → borderPulsesTaken (takenOver (takenAfter (tookWith i at p r) t) ts) ≡ p + borderPulsesFrom r (t ∷ ts)
     go true e more =
-        let n = cellsAt halfWindow r t in
+        let n = cellsAt doubleHalfWindow r t in
         let l = n-small i at p r t kept e small pulses (omega arith) in
-        let b = border-few (offsetAt halfWindow r t) in
+        let b = border-few doubleHalfWindow (offsetAt doubleHalfWindow r t) in
         let f = first-later t ts e in
-        let q = p + borderPulsesAt (offsetAt halfWindow r t) in
-        let d : q + borderPulsesFrom (residualAfter halfWindow r t) ts ≡ p + borderPulsesFrom r (t ∷ ts) = omega arith in
+        let q = p + borderPulsesAt (offsetAt doubleHalfWindow r t) in
+        let d : q + borderPulsesFrom (residualAfter doubleHalfWindow r t) ts ≡ p + borderPulsesFrom r (t ∷ ts) = omega arith in
         ap (λ (x : TakenTimings). borderPulsesTaken (takenOver x ts)) (one-taken i at p r t kept e small pulses (omega arith))
-        ∙ more (i + 1) (at + n) q (residualAfter halfWindow r t) (kept-next 1000 (omega arith) r t kept) (omega arith) (omega arith) (omega arith) (omega arith)
+        ∙ more (i + 1) (at + n) q (residualAfter doubleHalfWindow r t) (kept-next 1000 (omega arith) r t kept) (omega arith) (omega arith) (omega arith) (omega arith)
         ∙ d
     go false e more = let z : ⊥ = omega (arith, first-here t ts e) in absurd z
 

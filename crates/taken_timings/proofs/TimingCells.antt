@@ -14,7 +14,7 @@ use Rattle.cells.proofs.Zeros.{cells-append}
 use Rattle.refusals.specs.RefusedCalls.{Answer}
 use Rattle.refusals.specs.RefusedCalls.Answer.{gives, refused}
 use Rattle.flux_timings.specs.Timings.{inRange}
-use Rattle.separator.specs.Rule.{cellsAt, offsetAt, residualAfter, halfWindow, borderPulsesAt}
+use Rattle.separator.specs.Rule.{cellsAt, offsetAt, residualAfter, doubleHalfWindow, borderPulsesAt}
 use Rattle.separation.specs.Separation.{cellsFor, windowsFrom, cellsIn, cellsOf, separation}
 use Rattle.flux_timings.specs.Timings.{firstOut}
 use Rattle.separator.proofs.Border.{border-few}
@@ -42,7 +42,7 @@ within-most at (suc k) buffer h = rw (← count-more at (suc k - 1) (omega arith
 module _ (needed : ℕ) (most : needed ≤ 16384) (rest : List ℕ) where
   abbrev pub OverCells : List ℕ → Type 0
   OverCells ts =
-      (i at p : ℕ) (r : ℤ) (q : List ℕ) → Kept halfWindow r → i + length ts ≤ 65536 → at ≤ 5000 * i → p ≤ i → length q ≡ at → Cells q → firstOut ts ≡ length ts
+      (i at p : ℕ) (r : ℤ) (q : List ℕ) → Kept doubleHalfWindow r → i + length ts ≤ 65536 → at ≤ 5000 * i → p ≤ i → length q ≡ at → Cells q → firstOut ts ≡ length ts
       → at + length (cellsFrom r ts) ≤ 8 * needed → cellsOver (tookWith i at p r) ts (frontOf q needed rest) ≡ frontOf (q ++ cellsFrom r ts) needed rest
 
   pub over-cells : (ts : List ℕ) → OverCells ts
@@ -53,13 +53,13 @@ module _ (needed : ℕ) (most : needed ≤ 16384) (rest : List ℕ) where
       go : (x : Bool) → inRange t ≡ x → OverCells ts
           → cellsOver (takenAfter (tookWith i at p r) t) ts (takenCells (tookWith i at p r) t (frontOf q needed rest)) ≡ frontOf (q ++ cellsFrom r (t ∷ ts)) needed rest
       go true e more =
-          let n = cellsAt halfWindow r t in
-          let r′ = residualAfter halfWindow r t in
+          let n = cellsAt doubleHalfWindow r t in
+          let r′ = residualAfter doubleHalfWindow r t in
           let l = n-small i at p r t kept e small pulses (omega arith) in
           let m = length-more r t ts in
           let f = first-later t ts e in
-          let b = border-few (offsetAt halfWindow r t) in
-          let p′ = p + borderPulsesAt (offsetAt halfWindow r t) in
+          let b = border-few doubleHalfWindow (offsetAt doubleHalfWindow r t) in
+          let p′ = p + borderPulsesAt (offsetAt doubleHalfWindow r t) in
           ap (λ (x : TakenTimings). cellsOver x ts (takenCells (tookWith i at p r) t (frontOf q needed rest))) (one-taken i at p r t kept e small pulses (omega arith))
           ∙ ap (cellsOver (tookWith (i + 1) (at + n) p′ r′) ts)
           (one-cells i at p r t kept e small pulses (omega arith) (frontOf q needed rest) ∙ within-most at n (frontOf q needed rest) (omega arith)

@@ -1,1 +1,3 @@
+pub mod HandingOn
 mod RevolutionCalls
+pub mod ToldSteps

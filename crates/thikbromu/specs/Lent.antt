@@ -5,6 +5,7 @@ use mathlib.Core.List.{List}
 use lib.ListN.{length, take}
 use Rattle.basis.specs.Lists.{writtenOver}
 use Rattle.histogram.specs.Histogram.{counting, countsAfter}
+use Rattle.layouts.specs.declared.Layout.{Layout}
 use Rattle.sectors.specs.Calls.{indexAnswer, recordBeside, sectorOf}
 use Rattle.telling.specs.Numbers.{sectorNumbers}
 
@@ -13,6 +14,6 @@ abbrev pub countsLent : List ℕ → List ℕ → List ℕ
 countsLent timings counts = writtenOver (take (length counts) (countsAfter (counting timings) timings)) counts
 
 -- 8.32, 9.34: a list lent for a record after the call of a sector by index: the thirteen numbers at its front, or as many as it has room for
-abbrev pub recordLent : List ℕ → (N T H index : ℕ) → List ℕ → List ℕ
-recordLent bytes N T H index list =
-    writtenOver (take (length list) (sectorNumbers (recordBeside (indexAnswer bytes N T H index) (sectorOf bytes N index)))) list
+abbrev pub recordLent : Layout → List ℕ → (N T H index : ℕ) → List ℕ → List ℕ
+recordLent layout bytes N T H index list =
+    writtenOver (take (length list) (sectorNumbers (recordBeside (indexAnswer layout bytes N T H index) (sectorOf layout bytes N index)))) list

@@ -8,6 +8,7 @@
 // passed, and a bool is 0 or 1. The routines ask nothing of the values.
 mod blocks;
 mod files;
+mod single_density;
 
 pub use blocks::thikbromu_revolution_cells;
 pub use blocks::thikbromu_revolution_portion;
@@ -16,6 +17,13 @@ pub use files::thikbromu_file_cells;
 pub use files::thikbromu_file_listing;
 pub use files::thikbromu_listing;
 use findings::Finding;
+use layouts::Density;
+pub use single_density::thikbromu_fm_finding_records;
+pub use single_density::thikbromu_fm_findings;
+pub use single_density::thikbromu_fm_read_out;
+pub use single_density::thikbromu_fm_sector;
+pub use single_density::thikbromu_fm_separate;
+pub use single_density::thikbromu_fm_step;
 use telling::sector_numbers;
 use telling::told;
 use telling::told_read;
@@ -31,6 +39,7 @@ ghost use Rattle.separator.specs.Rule.{stepAnswer, stepOffset, stepResidual};
 ghost use Rattle.separation.specs.Separation.{borderPulsesOf, separation, separatedCells, borderPulsesAfter};
 ghost use Rattle.separation.specs.Demand3.{Demand3};
 ghost use Rattle.histogram.specs.Histogram.{counting};
+ghost use Rattle.layouts.specs.Layouts.{doubleDensity, layoutOf};
 ghost use Rattle.sectors.specs.Calls.{indexAnswer, dataAnswer, dataAfter};
 ghost use Rattle.findings.specs.Calls.{findingsAnswer, listAfter, numbersAfter};
 ghost use Rattle.telling.specs.Numbers.{numberIn, valueIn, offsetStored, valueRead, checkRead};
@@ -193,16 +202,20 @@ pub extern "C" fn thikbromu_sector(
     numbers: &mut [u32],
     value: &mut usize,
 ) -> u32
-    ensures number { λ r. ⌜ r ≡ numberIn (indexAnswer (now (bytes .entry)) n track side index) ⌝ }
-    ensures value { λ _. ⌜ now (value .exit) ≡ valueIn (indexAnswer (now (bytes .entry)) n track side index) ⌝ }
-    ensures numbers { λ _. ⌜ now (numbers .exit) ≡ recordLent (now (bytes .entry)) n track side index (now (numbers .entry)) ⌝ }
+    ensures number { λ r. ⌜ r ≡ numberIn (indexAnswer doubleDensity (now (bytes .entry)) n track side index) ⌝ }
+    ensures value { λ _. ⌜ now (value .exit) ≡ valueIn (indexAnswer doubleDensity (now (bytes .entry)) n track side index) ⌝ }
+    ensures numbers { λ _. ⌜ now (numbers .exit) ≡ recordLent doubleDensity (now (bytes .entry)) n track side index (now (numbers .entry)) ⌝ }
 {
-    let found = sectors::sector_by_index(bytes, n, track, side, index);
-    let sector = found.sector;
-    let made = sector_numbers(sector);
-    basis::copy_numbers(&made, numbers);
-    let answer = found.answer;
-    told(answer, value)
+    sector_told(
+        Density::Double,
+        bytes,
+        n,
+        track,
+        side,
+        index,
+        numbers,
+        value,
+    )
 }
 
 // Reads out sector `index` of a track to the front of `buffer`; `value` is the number of bytes, and `good` is 1 where their
@@ -218,13 +231,19 @@ pub extern "C" fn thikbromu_read_out(
     good: &mut u32,
     value: &mut usize,
 ) -> u32
-    ensures number { λ r. ⌜ r ≡ numberIn (dataAnswer (now (bytes .entry)) n track side index (length (now (buffer .entry)))) ⌝ }
-    ensures value { λ _. ⌜ now (value .exit) ≡ valueRead (dataAnswer (now (bytes .entry)) n track side index (length (now (buffer .entry)))) ⌝ }
-    ensures good { λ _. ⌜ now (good .exit) ≡ checkRead (dataAnswer (now (bytes .entry)) n track side index (length (now (buffer .entry)))) (now (good .entry)) ⌝ }
-    ensures buffer { λ _. ⌜ now (buffer .exit) ≡ dataAfter (now (bytes .entry)) n track side index (now (buffer .entry)) ⌝ }
+    ensures number { λ r. ⌜ r ≡ numberIn (dataAnswer doubleDensity (now (bytes .entry)) n track side index (length (now (buffer .entry)))) ⌝ }
+    ensures value { λ _. ⌜ now (value .exit) ≡ valueRead (dataAnswer doubleDensity (now (bytes .entry)) n track side index (length (now (buffer .entry)))) ⌝ }
+    ensures good { λ _. ⌜ now (good .exit) ≡ checkRead (dataAnswer doubleDensity (now (bytes .entry)) n track side index (length (now (buffer .entry)))) (now (good .entry)) ⌝ }
+    ensures buffer { λ _. ⌜ now (buffer .exit) ≡ dataAfter doubleDensity (now (bytes .entry)) n track side index (now (buffer .entry)) ⌝ }
 {
-    told_read(
-        sectors::read_out(bytes, n, track, side, index, buffer),
+    read_out_told(
+        Density::Double,
+        bytes,
+        n,
+        track,
+        side,
+        index,
+        buffer,
         good,
         value,
     )
@@ -241,13 +260,11 @@ pub extern "C" fn thikbromu_findings(
     list: &mut [u32],
     value: &mut usize,
 ) -> u32
-    ensures number { λ r. ⌜ r ≡ numberIn (findingsAnswer (now (bytes .entry)) n track side (length (now (list .entry)) / 4)) ⌝ }
-    ensures value { λ _. ⌜ now (value .exit) ≡ valueIn (findingsAnswer (now (bytes .entry)) n track side (length (now (list .entry)) / 4)) ⌝ }
-    ensures list { λ _. ⌜ now (list .exit) ≡ numbersAfter (now (bytes .entry)) n track side (now (list .entry)) ⌝ }
+    ensures number { λ r. ⌜ r ≡ numberIn (findingsAnswer doubleDensity (now (bytes .entry)) n track side (length (now (list .entry)) / 4)) ⌝ }
+    ensures value { λ _. ⌜ now (value .exit) ≡ valueIn (findingsAnswer doubleDensity (now (bytes .entry)) n track side (length (now (list .entry)) / 4)) ⌝ }
+    ensures list { λ _. ⌜ now (list .exit) ≡ numbersAfter doubleDensity (now (bytes .entry)) n track side (now (list .entry)) ⌝ }
 {
-    let found = findings::findings_as_numbers(bytes, n, track, side, list);
-    let answer = found.answer;
-    told(answer, value)
+    findings_told(Density::Double, bytes, n, track, side, list, value)
 }
 
 // As thikbromu_findings, on a list of records as C lays them out: kind and level take a byte each, place and detail four. A list
@@ -261,9 +278,78 @@ pub extern "C" fn thikbromu_finding_records(
     list: &mut [Finding],
     value: &mut usize,
 ) -> u32
-    ensures number { λ r. ⌜ r ≡ numberIn (findingsAnswer (now (bytes .entry)) n track side (length (now (list .entry)))) ⌝ }
-    ensures value { λ _. ⌜ now (value .exit) ≡ valueIn (findingsAnswer (now (bytes .entry)) n track side (length (now (list .entry)))) ⌝ }
-    ensures list { λ _. ⌜ now (list .exit) ≡ listAfter (now (bytes .entry)) n track side (now (list .entry)) ⌝ }
+    ensures number { λ r. ⌜ r ≡ numberIn (findingsAnswer doubleDensity (now (bytes .entry)) n track side (length (now (list .entry)))) ⌝ }
+    ensures value { λ _. ⌜ now (value .exit) ≡ valueIn (findingsAnswer doubleDensity (now (bytes .entry)) n track side (length (now (list .entry)))) ⌝ }
+    ensures list { λ _. ⌜ now (list .exit) ≡ listAfter doubleDensity (now (bytes .entry)) n track side (now (list .entry)) ⌝ }
 {
-    told(findings::findings(bytes, n, track, side, list), value)
+    told(
+        findings::findings(Density::Double, bytes, n, track, side, list),
+        value,
+    )
+}
+
+// Sector `index` of a track of either density, told to C.
+fn sector_told(
+    density: Density,
+    bytes: &[u8],
+    n: usize,
+    track: u32,
+    side: u32,
+    index: usize,
+    numbers: &mut [u32],
+    value: &mut usize,
+) -> u32
+    ensures number { λ r. ⌜ r ≡ numberIn (indexAnswer (layoutOf density) (now (bytes .entry)) n track side index) ⌝ }
+    ensures value { λ _. ⌜ now (value .exit) ≡ valueIn (indexAnswer (layoutOf density) (now (bytes .entry)) n track side index) ⌝ }
+    ensures numbers { λ _. ⌜ now (numbers .exit) ≡ recordLent (layoutOf density) (now (bytes .entry)) n track side index (now (numbers .entry)) ⌝ }
+{
+    let found = sectors::sector_in(density, bytes, n, track, side, index);
+    let sector = found.sector;
+    let made = sector_numbers(sector);
+    basis::copy_numbers(&made, numbers);
+    let answer = found.answer;
+    told(answer, value)
+}
+
+// Reading out, of a track of either density, told to C.
+fn read_out_told(
+    density: Density,
+    bytes: &[u8],
+    n: usize,
+    track: u32,
+    side: u32,
+    index: usize,
+    buffer: &mut [u8],
+    good: &mut u32,
+    value: &mut usize,
+) -> u32
+    ensures number { λ r. ⌜ r ≡ numberIn (dataAnswer (layoutOf density) (now (bytes .entry)) n track side index (length (now (buffer .entry)))) ⌝ }
+    ensures value { λ _. ⌜ now (value .exit) ≡ valueRead (dataAnswer (layoutOf density) (now (bytes .entry)) n track side index (length (now (buffer .entry)))) ⌝ }
+    ensures good { λ _. ⌜ now (good .exit) ≡ checkRead (dataAnswer (layoutOf density) (now (bytes .entry)) n track side index (length (now (buffer .entry)))) (now (good .entry)) ⌝ }
+    ensures buffer { λ _. ⌜ now (buffer .exit) ≡ dataAfter (layoutOf density) (now (bytes .entry)) n track side index (now (buffer .entry)) ⌝ }
+{
+    told_read(
+        sectors::read_out_in(density, bytes, n, track, side, index, buffer),
+        good,
+        value,
+    )
+}
+
+// The findings of a track of either density as numbers, told to C.
+fn findings_told(
+    density: Density,
+    bytes: &[u8],
+    n: usize,
+    track: u32,
+    side: u32,
+    list: &mut [u32],
+    value: &mut usize,
+) -> u32
+    ensures number { λ r. ⌜ r ≡ numberIn (findingsAnswer (layoutOf density) (now (bytes .entry)) n track side (length (now (list .entry)) / 4)) ⌝ }
+    ensures value { λ _. ⌜ now (value .exit) ≡ valueIn (findingsAnswer (layoutOf density) (now (bytes .entry)) n track side (length (now (list .entry)) / 4)) ⌝ }
+    ensures list { λ _. ⌜ now (list .exit) ≡ numbersAfter (layoutOf density) (now (bytes .entry)) n track side (now (list .entry)) ⌝ }
+{
+    let found = findings::findings_as_numbers_in(density, bytes, n, track, side, list);
+    let answer = found.answer;
+    told(answer, value)
 }

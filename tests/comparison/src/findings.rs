@@ -1,5 +1,6 @@
 //! Section 7 of the specification: the list of a track's findings.
 
+use crate::densities::{Calls, DOUBLE};
 use crate::report::{Element, Group, Report};
 use crate::terms::{self, answer};
 use second_program::cells;
@@ -9,7 +10,7 @@ use std::fmt::Display;
 use test_inputs::random::Random;
 use test_inputs::size_code_tracks::size_code_tracks;
 use test_inputs::track_builder::{filled, nine_sectors, odd_track, standard_track, turn, SectorPlan, TrackBuilder};
-use thikbromu::boundary::{self, FindingRecord, FINDING_NUMBERS};
+use thikbromu::boundary::{FindingRecord, FINDING_NUMBERS};
 use thikbromu::Track;
 
 /// Findings as the library's numbers, four for each.
@@ -37,6 +38,7 @@ impl Element for FindingRecord {
 
 /// A track, and what the second program finds on it, whatever the room is.
 struct Judged<'a> {
+    calls: &'static Calls,
     bytes: &'a [u8],
     n: usize,
     drive: (u32, u32),
@@ -58,7 +60,7 @@ impl Judged<'_> {
         group.same_written(
             self.bytes,
             room,
-            |input, list| boundary::findings(input, self.n, self.drive.0, self.drive.1, list),
+            |input, list| (self.calls.findings)(input, self.n, self.drive.0, self.drive.1, list),
             self.second_in_room(room / FINDING_NUMBERS).map(|list| (list.len(), numbers(&list))),
             || self.given(format!("{room} numbers")),
         );
@@ -69,24 +71,27 @@ impl Judged<'_> {
         group.same_written(
             self.bytes,
             room,
-            |input, list| boundary::finding_records(input, self.n, self.drive.0, self.drive.1, list),
+            |input, list| (self.calls.finding_records)(input, self.n, self.drive.0, self.drive.1, list),
             self.second_in_room(room).map(|list| (list.len(), records(&list))),
             || self.given(format!("{room} records")),
         );
     }
 }
 
-/// A track with a list that is too short by one number or record, just long enough, and longer.
 fn whole_track(group: &mut Group, seen: &mut [usize; 22], track_cells: &[u8], drive: (u32, u32)) {
-    let bytes = cells::pack(track_cells);
-    let n = track_cells.len();
+    packed_track(&DOUBLE, group, seen, (&cells::pack(track_cells), track_cells.len()), drive);
+}
+
+/// A track, packed bytes and the number of cells, with a list that is too short by one number or record, just long enough, and longer.
+/// `seen` counts the findings of each kind.
+pub fn packed_track(calls: &'static Calls, group: &mut Group, seen: &mut [usize; 22], (bytes, n): (&[u8], usize), drive: (u32, u32)) {
     // The second program's findings are made once.
-    let judged = Judged { bytes: &bytes, n, drive, second: findings::findings(drive.0, drive.1, &bytes, n, usize::MAX) };
+    let judged = Judged { calls, bytes, n, drive, second: (calls.second_findings)(drive.0, drive.1, bytes, n, usize::MAX) };
     let list = judged.second.clone().unwrap_or_default();
     for finding in &list {
         seen[finding.kind as usize] += 1;
     }
-    let ours = answer(Track::new(&bytes, n, drive.0, drive.1).findings());
+    let ours = answer((calls.findings_of_track)(Track::new(bytes, n, drive.0, drive.1)));
     group.same(ours.map(|list| list.into_iter().map(terms::finding).collect()), judged.second.clone(), || judged.given("all"));
     let needed = list.len();
     for room in [4 * needed, (4 * needed).saturating_sub(1), 4 * needed + 7] {

@@ -1,56 +1,64 @@
 //! Sections 3 to 5 of the specification: the separator's step on a lent residual and by value, its call on a list, border pulses, and the
 //! histogram.
 
+use crate::densities::{Calls, DOUBLE};
 use crate::report::{Group, Lent, Report};
 use crate::terms::answer;
 use second_program::cells;
 use second_program::refusal::Refusal;
-use second_program::separator::{self, SeparatorState};
+use second_program::separator;
 use test_inputs::flux_inputs::{
     border_lists, flux_track, flux_track_of, flux_track_within, one_sided_track, timings_at_the_limits, timings_of_cells,
     timings_of_steps, Choice, FluxTrack, Tolerance, AROUND_THE_LIMITS,
 };
 use test_inputs::random::Random;
-use thikbromu::{boundary, separate, Separator};
+use thikbromu::boundary;
 
 /// The list call, over the export and by the crate: answer, buffer, number of border pulses and the timings afterwards.
 fn list_case(group: &mut Group, timings: &[u32], room: usize) {
-    let second = separator::separate(timings, room);
-    let given = || format!("{} timings {:?}, room {room}", timings.len(), &timings[..timings.len().min(12)]);
-    group.same_separation(timings, room, boundary::separate, &second, given);
-    group.same_separation(timings, room, separate_and_store, &second, given);
+    list_case_in(&DOUBLE, group, timings, room);
 }
 
-/// The crate's list call, its number of border pulses stored as the export stores it.
-fn separate_and_store(timings: &[u32], packed: &mut [u8], border_pulses: &mut usize) -> Result<usize, thikbromu::Refusal> {
-    let separation = separate(timings, packed)?;
-    *border_pulses = separation.border_pulses;
-    Ok(separation.cells)
+pub fn list_case_in(calls: &Calls, group: &mut Group, timings: &[u32], room: usize) {
+    let second = (calls.second_separate)(timings, room);
+    let given = || format!("{} timings {:?}, room {room}", timings.len(), &timings[..timings.len().min(12)]);
+    group.same_separation(timings, room, calls.separate, &second, given);
+    // The crate's list call, its number of border pulses stored as the export stores it.
+    let separate_and_store = |timings: &[u32], packed: &mut [u8], border_pulses: &mut usize| {
+        let separation = (calls.separation)(timings, packed)?;
+        *border_pulses = separation.border_pulses;
+        Ok(separation.cells)
+    };
+    group.same_separation(timings, room, separate_and_store, &second, given);
 }
 
 /// What a list gives that is not refused: how many cells, and how many border pulses.
 fn numbers_of(timings: &[u32], packed: &mut [u8]) -> Result<(usize, usize), Refusal> {
-    answer(separate(timings, packed)).map(|separation| (separation.cells, separation.border_pulses))
+    numbers_in(&DOUBLE, timings, packed)
+}
+
+pub fn numbers_in(calls: &Calls, timings: &[u32], packed: &mut [u8]) -> Result<(usize, usize), Refusal> {
+    answer((calls.separation)(timings, packed)).map(|separation| (separation.cells, separation.border_pulses))
 }
 
 /// What a step gives: its cells and its offset, or a refusal.
-type StepAnswer = Result<(usize, i32), Refusal>;
+pub type StepAnswer = Result<(usize, i32), Refusal>;
 
 /// A step of the second program: what it answers, and the residual afterwards.
-fn second_step(residual: i32, timing: u32) -> (StepAnswer, i32) {
-    let (next, step) = SeparatorState { residual: i64::from(residual) }.step(timing);
-    (step.map(|step| (step.cells as usize, step.offset as i32)), next.residual as i32)
+pub fn second_step(calls: &Calls, residual: i32, timing: u32) -> (StepAnswer, i32) {
+    let (next, step) = (calls.second_step)(i64::from(residual), timing);
+    (step.map(|(cells, offset)| (cells as usize, offset as i32)), next as i32)
 }
 
 /// A step by the crate's state, by value: what it answers, and the residual afterwards.
-fn step(residual: i32, timing: u32) -> (StepAnswer, i32) {
-    let stepped = Separator::with_residual(residual).step(timing);
+pub fn step(calls: &Calls, residual: i32, timing: u32) -> (StepAnswer, i32) {
+    let stepped = (calls.separator)(residual).step(timing);
     (answer(stepped.step).map(|step| (step.cells, step.offset)), stepped.next.residual())
 }
 
 /// A step by the crate's state, in its place.
-fn step_in_place(residual: i32, timing: u32) -> (StepAnswer, i32) {
-    let mut state = Separator::with_residual(residual);
+fn step_in_place(calls: &Calls, residual: i32, timing: u32) -> (StepAnswer, i32) {
+    let mut state = (calls.separator)(residual);
     let ours = answer(state.step_in_place(timing)).map(|step| (step.cells, step.offset));
     (ours, state.residual())
 }
@@ -70,8 +78,8 @@ impl LentStep {
     }
 
     /// The number of cells, or a refusal.
-    fn step(&mut self, timing: u32) -> Result<usize, Refusal> {
-        answer(boundary::step(&mut self.residual.part()[0], timing, &mut self.offset.part()[0]))
+    fn step(&mut self, calls: &Calls, timing: u32) -> Result<usize, Refusal> {
+        answer((calls.step)(&mut self.residual.part()[0], timing, &mut self.offset.part()[0]))
     }
 
     /// The residual and the offset with their margins.
@@ -86,28 +94,58 @@ impl LentStep {
 }
 
 /// A step over the export: what it answers, and what is lent afterwards, with its margins.
-fn step_lent(residual: i32, timing: u32) -> (Result<usize, Refusal>, [Vec<i32>; 2]) {
+fn step_lent(calls: &Calls, residual: i32, timing: u32) -> (Result<usize, Refusal>, [Vec<i32>; 2]) {
     let mut lent = LentStep::new(residual);
-    let ours = lent.step(timing);
+    let ours = lent.step(calls, timing);
     (ours, lent.into_all())
 }
 
 /// One step in all three ways: the cells and the offset, or a refusal, and the residual, which beside a refusal is the one that came. A
 /// lent offset is then kept as well.
 fn step_case(group: &mut Group, residual: i32, timing: u32, expected: (StepAnswer, i32), given: impl Fn() -> String) {
+    step_case_in(&DOUBLE, group, residual, timing, expected, given);
+}
+
+pub fn step_case_in(
+    calls: &Calls,
+    group: &mut Group,
+    residual: i32,
+    timing: u32,
+    expected: (StepAnswer, i32),
+    given: impl Fn() -> String,
+) {
     let after = if expected.0.is_err() { residual } else { expected.1 };
     let offset = expected.0.ok().map(|(_, offset)| offset);
     let lent = (expected.0.map(|(count, _)| count), LentStep::expected(after, offset));
     group.same(
-        (step(residual, timing), step_in_place(residual, timing), step_lent(residual, timing)),
+        (step(calls, residual, timing), step_in_place(calls, residual, timing), step_lent(calls, residual, timing)),
         (expected, (expected.0, after), lent),
         given,
     );
 }
 
+/// One residual stepped on and on, as the second program's: a timing out of range, which is refused, changes nothing of what follows.
+pub fn steps_on(calls: &Calls, group: &mut Group, timings: &[u32]) {
+    let (mut ours, mut residual) = (LentStep::new(0), 0);
+    // The last offset that a step gave; before that what the variable held.
+    let mut last = None;
+    for (i, &timing) in timings.iter().enumerate() {
+        let taken = ours.step(calls, timing);
+        let (second, next) = second_step(calls, residual, timing);
+        last = second.ok().map(|(_, offset)| offset).or(last);
+        let expected = (second.map(|(count, _)| count), LentStep::expected(next, last));
+        group.same((taken, ours.clone().into_all()), expected, || format!("step {i} by {timing}"));
+        residual = next;
+    }
+}
+
 /// The bytes that the cells of timings need, whatever the room is.
 fn bytes_needed(timings: &[u32]) -> usize {
-    separator::separate(timings, usize::MAX).map_or(0, |separation| separation.bytes.len())
+    bytes_needed_in(&DOUBLE, timings)
+}
+
+pub fn bytes_needed_in(calls: &Calls, timings: &[u32]) -> usize {
+    (calls.second_separate)(timings, usize::MAX).map_or(0, |separation| separation.bytes.len())
 }
 
 /// The rows and the cells to know.
@@ -184,7 +222,7 @@ pub fn steps(report: &mut Report) {
     for _ in 0..40_000 {
         let residual = any_residual(&mut random);
         let timing = any_timing(&mut random);
-        let expected = second_step(residual, timing);
+        let expected = second_step(&DOUBLE, residual, timing);
         step_case(&mut group, residual, timing, expected, || format!("residual {residual}, timing {timing}"));
     }
     group.close(report);
@@ -209,21 +247,10 @@ pub fn steps(report: &mut Report) {
     }
     group.close(report);
 
-    // One residual stepped on and on, as the second program's: a timing out of range, which is refused, changes nothing of what follows.
     let mut group = Group::new("one residual, through timings in and out of range");
     for _ in 0..200 {
-        let (mut ours, mut residual) = (LentStep::new(0), 0);
-        // The last offset that a step gave; before that what the variable held.
-        let mut last = None;
-        for i in 0..50 {
-            let timing = any_timing(&mut random);
-            let taken = ours.step(timing);
-            let (second, next) = second_step(residual, timing);
-            last = second.ok().map(|(_, offset)| offset).or(last);
-            let expected = (second.map(|(count, _)| count), LentStep::expected(next, last));
-            group.same((taken, ours.clone().into_all()), expected, || format!("step {i} by {timing}"));
-            residual = next;
-        }
+        let timings: Vec<u32> = (0..50).map(|_| any_timing(&mut random)).collect();
+        steps_on(&DOUBLE, &mut group, &timings);
     }
     group.close(report);
 }
@@ -292,7 +319,7 @@ pub fn lists(report: &mut Report) {
         let mut border_pulses = 0;
         let mut residual = 0;
         for &timing in &timings {
-            let (ours, next) = step(residual, timing);
+            let (ours, next) = step(&DOUBLE, residual, timing);
             let (count, offset) = ours.unwrap_or((0, 0));
             if count > 0 {
                 list.resize(list.len() + count - 1, 0);
@@ -358,7 +385,7 @@ fn farthest_centre(track: &FluxTrack) -> i64 {
     let mut farthest = 0;
     let mut residual = 0;
     for (i, &timing) in track.timings.iter().enumerate() {
-        let (ours, next) = step(residual, timing);
+        let (ours, next) = step(&DOUBLE, residual, timing);
         // A refusal would leave no centre, which counts as one far off.
         let centre = track.pulses[i + 1] - ours.map_or(1_000_000, |(_, offset)| i64::from(offset));
         farthest = farthest.max((centre - track.true_places[i + 1]).abs());

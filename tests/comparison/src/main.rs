@@ -10,12 +10,14 @@
 mod block_program;
 mod blocks;
 mod coding;
+mod densities;
 mod files;
 mod findings;
 mod flux;
 mod program;
 mod report;
 mod sectors;
+mod single_density;
 mod terms;
 mod track_cells;
 
@@ -28,15 +30,19 @@ use std::thread;
 type Part = fn(&mut Report);
 
 /// The parts, by their modules. The long ones come first, so that no worker is left alone with one at the end.
-const PARTS: [(&str, Part); 43] = [
+const PARTS: [(&str, Part); 51] = [
     ("files", files::in_memory),
     ("findings", findings::any_tracks),
     ("sectors", sectors::standard),
+    ("single_density", single_density::sectors_of_tracks),
+    ("single_density", single_density::findings_of_tracks),
     ("program", program::whole_files),
     ("sectors", sectors::any_tracks),
     ("files", files::from_readers),
     ("block_program", block_program::whole_blocks),
     ("flux", flux::extremes),
+    ("single_density", single_density::both_densities),
+    ("single_density", single_density::standard),
     ("blocks", blocks::cells),
     ("blocks", blocks::portions),
     ("findings", findings::edges),
@@ -63,6 +69,10 @@ const PARTS: [(&str, Part); 43] = [
     ("flux", flux::histograms),
     ("sectors", sectors::shapes),
     ("sectors", sectors::phases_and_lengths),
+    ("single_density", single_density::lists),
+    ("single_density", single_density::distances),
+    ("single_density", single_density::refused_tracks),
+    ("single_density", single_density::steps),
     ("files", files::short_rooms),
     ("blocks", blocks::states),
     ("program", program::samples),

@@ -1,26 +1,32 @@
 //! Section 6 of the specification: records, the sector by index, and reading out.
 
+use crate::densities::{Calls, DOUBLE};
 use crate::report::{Group, Lent, Report};
 use crate::terms::{self, answer};
 use second_program::cells;
 use second_program::refusal::Refusal;
-use second_program::sectors::{self, SectorRecord};
+use second_program::sectors::SectorRecord;
 use test_inputs::random::Random;
 use test_inputs::size_code_tracks::{self, size_code_tracks};
 use test_inputs::track_builder::{filled, odd_track, standard_track, turn, SectorPlan, TrackBuilder};
 use thikbromu::boundary::{self, SECTOR_NUMBERS};
 
 /// How many numbers a record has (rule 9.34). The crate's own number is compared with it.
-const RECORD_NUMBERS: usize = 13;
+pub const RECORD_NUMBERS: usize = 13;
 
-/// A packed track: its bytes and its number of cells.
-struct Track {
-    bytes: Vec<u8>,
-    n: usize,
+/// A packed track: its bytes, its number of cells, and the calls that read it.
+pub struct Track {
+    pub bytes: Vec<u8>,
+    pub n: usize,
+    pub calls: &'static Calls,
 }
 
 fn packed(track_cells: &[u8]) -> Track {
-    Track { bytes: cells::pack(track_cells), n: track_cells.len() }
+    packed_for(&DOUBLE, track_cells)
+}
+
+pub fn packed_for(calls: &'static Calls, track_cells: &[u8]) -> Track {
+    Track { bytes: cells::pack(track_cells), n: track_cells.len(), calls }
 }
 
 /// A record as the library's numbers.
@@ -44,7 +50,7 @@ fn numbers(record: &SectorRecord) -> [u32; RECORD_NUMBERS] {
 
 /// Sector by index: the answer, the record's numbers (all zeros beside a refusal) and the bytes afterwards; and the crate's record.
 /// `second` is what the second program answers.
-fn index_answer(
+pub fn index_answer(
     group: &mut Group,
     track: &Track,
     drive: (u32, u32),
@@ -54,27 +60,28 @@ fn index_answer(
     let given = || format!("n {}, T {}, H {}, index {index}", track.n, drive.0, drive.1);
     let input = track.bytes.clone();
     let mut lent = Lent::new(RECORD_NUMBERS);
-    let ours = answer(boundary::sector(&input, track.n, drive.0, drive.1, index, lent.part()));
+    let ours = answer((track.calls.sector)(&input, track.n, drive.0, drive.1, index, lent.part()));
     let left = second.map_or([0; RECORD_NUMBERS], |(record, _)| numbers(&record));
     group.same(
         (ours, lent.into_all(), &input),
         (second.map(|(_, count)| count), Lent::expected(RECORD_NUMBERS, &left), &track.bytes),
         given,
     );
-    let ours = answer(thikbromu::Track::new(&input, track.n, drive.0, drive.1).sector(index));
+    let typed = thikbromu::Track::new(&input, track.n, drive.0, drive.1);
+    let ours = answer((track.calls.sector_of_track)(typed, index));
     group.same(ours.map(terms::record), second.map(|(record, _)| record), given);
 }
 
-fn index_case(group: &mut Group, track: &Track, drive: (u32, u32), index: usize) {
-    let second = sectors::sector_by_index(drive.0, drive.1, &track.bytes, track.n, index);
+pub fn index_case(group: &mut Group, track: &Track, drive: (u32, u32), index: usize) {
+    let second = (track.calls.second_sector)(drive.0, drive.1, &track.bytes, track.n, index);
     index_answer(group, track, drive, index, second);
 }
 
 /// Reading out: the answer, the buffer, whether the check is good (not written beside a refusal) and the bytes afterwards; and the same
 /// by the crate's track.
-fn read_case(group: &mut Group, track: &Track, drive: (u32, u32), index: usize, room: usize) {
+pub fn read_case(group: &mut Group, track: &Track, drive: (u32, u32), index: usize, room: usize) {
     let given = || format!("n {}, T {}, H {}, index {index}, room {room}", track.n, drive.0, drive.1);
-    let second = sectors::read_out(drive.0, drive.1, &track.bytes, track.n, index, room);
+    let second = (track.calls.second_read_out)(drive.0, drive.1, &track.bytes, track.n, index, room);
     let (expected, bytes, check) = match &second {
         Ok(read) => (Ok((read.length, read.check_good)), &read.bytes[..], vec![u32::from(read.check_good)]),
         Err(refusal) => (Err(*refusal), &[][..], Vec::new()),
@@ -82,14 +89,15 @@ fn read_case(group: &mut Group, track: &Track, drive: (u32, u32), index: usize, 
     let input = track.bytes.clone();
     let (mut lent, mut good) = (Lent::new(room), Lent::new(1));
     let good_number = &mut good.part()[0];
-    let ours = answer(boundary::read_out(&input, track.n, drive.0, drive.1, index, lent.part(), good_number));
+    let ours = answer((track.calls.read_out)(&input, track.n, drive.0, drive.1, index, lent.part(), good_number));
     group.same(
         (ours, lent.into_all(), good.into_all(), &input),
         (expected.map(|(length, _)| length), Lent::expected(room, bytes), Lent::expected(1, &check), &track.bytes),
         given,
     );
     let mut lent = Lent::new(room);
-    let ours = answer(thikbromu::Track::new(&input, track.n, drive.0, drive.1).read_out(index, lent.part()));
+    let typed = thikbromu::Track::new(&input, track.n, drive.0, drive.1);
+    let ours = answer((track.calls.read_out_of_track)(typed, index, lent.part()));
     group.same(
         (ours.map(|read| (read.length, read.check_good)), lent.into_all()),
         (expected, Lent::expected(room, bytes)),
@@ -97,19 +105,21 @@ fn read_case(group: &mut Group, track: &Track, drive: (u32, u32), index: usize, 
     );
 }
 
+/// The sector of an index off a list of the second program, and how many sectors there are.
+pub fn sector_of(accepted: &Result<Vec<SectorRecord>, Refusal>, index: usize) -> Result<(SectorRecord, usize), Refusal> {
+    let list = accepted.as_ref().map_err(|refusal| *refusal)?;
+    list.get(index).map(|record| (*record, list.len())).ok_or(Refusal::no_such_sector(list.len()))
+}
+
 /// All sectors of a track, one index past them, and reading out of some of them with rooms around what is needed.
-fn whole_track(group: &mut Group, random: &mut Random, track: &Track, drive: (u32, u32)) {
+pub fn whole_track(group: &mut Group, random: &mut Random, track: &Track, drive: (u32, u32)) {
     // The second program's list is made once; a sector by index is read off it.
-    let accepted = sectors::accepted_list(drive.0, drive.1, &track.bytes, track.n);
+    let accepted = (track.calls.second_sectors)(drive.0, drive.1, &track.bytes, track.n);
     let list = accepted.clone().unwrap_or_default();
     let mut shown = if list.len() > 12 { vec![0, 1, list.len() / 2, list.len() - 1] } else { (0..list.len()).collect() };
     shown.extend([list.len(), usize::MAX]);
     for index in shown {
-        let second = match &accepted {
-            Err(refusal) => Err(*refusal),
-            Ok(_) => list.get(index).map(|record| (record.clone(), list.len())).ok_or(Refusal::no_such_sector(list.len())),
-        };
-        index_answer(group, track, drive, index, second);
+        index_answer(group, track, drive, index, sector_of(&accepted, index));
     }
     let index = random.below(list.len() as u64 + 1) as usize;
     let length = list.get(index).map_or(0, |record| record.length);
@@ -336,7 +346,7 @@ pub fn any_tracks(report: &mut Report) {
                 bytes[at + 6..at + 8].copy_from_slice(&coded);
             }
         }
-        let track = Track { bytes, n };
+        let track = Track { bytes, n, calls: &DOUBLE };
         let drive = ([0, 79, 80, 83, 84, u32::MAX][random.below(6) as usize], [0, 1, 2, u32::MAX][random.below(4) as usize]);
         for drive in [drive, (83, 1)] {
             for index in [0, 1, 64] {

@@ -1,10 +1,15 @@
-//! Writes the track files and the track block of samples/ into the folder that its argument names. samples/README.md says what each shows.
+//! Writes the track files and the track block of samples/ into the folder that its argument names, and the listing of the track of single
+//! density, which no program of the library lists. samples/README.md says what each shows.
 
+use second_program::check_word::check_word;
+use second_program::single_density::{self, DELETED_DATA_MARK, ID_MARK};
+use second_program::{cells, findings};
 use std::path::Path;
 use test_inputs::block_inputs::standard_track_block;
 use test_inputs::file_inputs::{file_of_cells, file_of_timings};
 use test_inputs::flux_inputs::{flux_track_of, timings_of_steps};
 use test_inputs::random::Random;
+use test_inputs::single_density_tracks::{fm_track_with, with_cells_at, FIRST_PLACE, RECORD_CELLS};
 use test_inputs::track_builder::{nine_sectors, standard_track, turn, SectorPlan, TrackBuilder, STANDARD_TRACK_CELLS};
 
 /// The nine standard sectors of a track, each changed by `change`, with the standard track's gaps, and 4E up to its length.
@@ -137,6 +142,44 @@ fn odd_cells() -> Vec<u8> {
     file_of_cells(40, 0, &track_cells)
 }
 
+/// The track and the side of the drive that the track of single density is from.
+const SINGLE_DENSITY_PLACE: (u8, u8) = (2, 0);
+
+/// A track of single density: deleted data, data with a bad check, a number that stands twice, an ID within other data, a clock that is
+/// missing.
+fn single_density() -> Vec<u8> {
+    let (track, side) = SINGLE_DENSITY_PLACE;
+    // The hidden ID has a good check, and the data around it too, as a check does not cover clocks.
+    let hidden = [0xFE, track, side, 33, 0];
+    let hidden = [&hidden[..], &check_word(&hidden).to_be_bytes()].concat();
+    let track_cells = fm_track_with(track, side, 0x00, |plan| match plan.number {
+        4 => plan.data_mark = Some(DELETED_DATA_MARK),
+        7 => plan.data_check_error = 0x0001,
+        11 => plan.number = 10,
+        14 => plan.data[40..40 + hidden.len()].copy_from_slice(&hidden),
+        _ => {}
+    });
+    let data_of_14 = FIRST_PLACE + 13 * RECORD_CELLS + 384 + 16;
+    let track_cells = with_cells_at(&track_cells, data_of_14 + 16 * 40, ID_MARK.into(), 16);
+    // In the six bytes 00 before the last ID a clock stands at every second cell.
+    let zeros_before_18 = FIRST_PLACE + 17 * RECORD_CELLS - 6 * 16;
+    with_cells_at(&track_cells, zeros_before_18 + 20, 0, 1)
+}
+
+/// The listing of a track of single density, by the second program: the lines that a track of double density has.
+fn single_density_listing(track_cells: &[u8]) -> String {
+    let (bytes, n) = (cells::pack(track_cells), track_cells.len());
+    let (track, side) = SINGLE_DENSITY_PLACE;
+    let sectors = single_density::sectors(track.into(), side.into(), &bytes, n).expect("a track that is not refused");
+    let found = single_density::findings_of(track.into(), &bytes, n, &sectors);
+    let mut listing = format!("T{track:02} H{side} cells {n} sectors {} findings {}\n", sectors.len(), found.len());
+    for finding in found {
+        let name = findings::name_of(finding.kind);
+        listing += &format!("{} {name} level {} place {} detail {}\n", finding.kind, finding.level, finding.place, finding.detail);
+    }
+    listing
+}
+
 fn main() {
     let folder = std::env::args().nth(1).expect("the folder to write to");
     let standard = standard_track(0, 0, 0xE5);
@@ -146,6 +189,7 @@ fn main() {
     let data_mark_of_9 = 1_152 + 8 * 9_824 + 704;
     let over_index = turn(&standard, 100_000 + 200 - (data_mark_of_9 + 8_288));
     let behind_index = turn(&standard, 100_000 + 100 - data_mark_of_9);
+    let single_density = single_density();
     let samples = [
         ("standard", standard_file.clone()),
         ("standard-flux", standard_flux()),
@@ -163,6 +207,7 @@ fn main() {
         ("data-behind-index", file_of_cells(0, 0, &behind_index)),
         ("sector-within-sector", sector_within_sector()),
         ("odd-cells", odd_cells()),
+        ("single-density", file_of_cells(SINGLE_DENSITY_PLACE.0, SINGLE_DENSITY_PLACE.1, &single_density)),
         ("cut-short", standard_file[..standard_file.len() - 1].to_vec()),
     ];
     let write = |name: &str, bytes: Vec<u8>| {
@@ -172,6 +217,7 @@ fn main() {
     for (name, file) in samples {
         write(&format!("{name}.track"), file);
     }
+    write("single-density.fm-listing", single_density_listing(&single_density).into_bytes());
     // Two revolutions of the standard track, each with shifts of its own.
     write("standard-two-revolutions.block", standard_track_block(1, 0, 0, 0xE5, 2).bytes());
 }

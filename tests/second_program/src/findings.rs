@@ -122,25 +122,21 @@ fn track_detail(track: &Track, kind: u32) -> Option<usize> {
 }
 
 /// Whether a sector before this one has the same number (rule 7.36).
-fn has_earlier_duplicate(sectors: &[SectorRecord], index: usize) -> bool {
+pub(crate) fn has_earlier_duplicate(sectors: &[SectorRecord], index: usize) -> bool {
     sectors[..index]
         .iter()
         .any(|earlier| earlier.number == sectors[index].number)
 }
 
 /// Whether another sector's data covers this sector's place (rule 7.37).
-fn lies_in_other_data(track: &Track, index: usize) -> bool {
-    let p = track.sectors[index].place;
-    track
-        .sectors
-        .iter()
-        .enumerate()
-        .any(|(other_index, other)| {
-            let covered = other.data_place..other.data_end;
-            other_index != index
-                && other.has_data()
-                && (covered.contains(&p) || covered.contains(&(p + track.n)))
-        })
+pub(crate) fn lies_in_other_data(sectors: &[SectorRecord], n: usize, index: usize) -> bool {
+    let p = sectors[index].place;
+    sectors.iter().enumerate().any(|(other_index, other)| {
+        let covered = other.data_place..other.data_end;
+        other_index != index
+            && other.has_data()
+            && (covered.contains(&p) || covered.contains(&(p + n)))
+    })
 }
 
 /// How many syncs have all their cells from `start` on and before `end`.
@@ -200,7 +196,7 @@ fn sector_detail(track: &Track, kind: u32, index: usize) -> Option<usize> {
         SBD => (sector.has_data() && !sector.data_check_good, number),
         DOI if sector.has_data() && q < n && sector.data_end > n => (true, sector.data_end - n),
         DBI if sector.has_data() && q >= n => (true, q - n),
-        SWS => (lies_in_other_data(track, index), number),
+        SWS => (lies_in_other_data(track.sectors, n, index), number),
         SID => {
             let count = syncs_in_sector(track, sector);
             (count > 0, count)
@@ -211,14 +207,14 @@ fn sector_detail(track: &Track, kind: u32, index: usize) -> Option<usize> {
 }
 
 /// The places of all ones of the track, in order.
-fn places_of_ones(bytes: &[u8], n: usize) -> Vec<usize> {
+pub(crate) fn places_of_ones(bytes: &[u8], n: usize) -> Vec<usize> {
     let track_cells = cells::unpack(bytes, n);
     (0..n).filter(|&p| track_cells[p] == 1).collect()
 }
 
 /// For each one, its place and how far on the next one stands, over the index too
 /// (rules 7.39 and 7.40).
-fn distances_of_ones(ones: &[usize], n: usize) -> Vec<(usize, usize)> {
+pub(crate) fn distances_of_ones(ones: &[usize], n: usize) -> Vec<(usize, usize)> {
     let mut distances = Vec::with_capacity(ones.len());
     for pair in ones.windows(2) {
         distances.push((pair[0], pair[1] - pair[0]));
@@ -246,7 +242,7 @@ fn distance_finding(distances: &[(usize, usize)]) -> Option<Finding> {
 
 /// NFA (rules 7.21, 7.41 and 7.42): the place is where the longest run of zeros starts,
 /// the detail its length.
-fn longest_run_finding(distances: &[(usize, usize)], n: usize) -> Option<Finding> {
+pub(crate) fn longest_run_finding(distances: &[(usize, usize)], n: usize) -> Option<Finding> {
     let mut runs: Vec<(usize, usize)> = distances
         .iter()
         .map(|&(one, distance)| (cells::place_on_track(n, one, 1), distance - 1))

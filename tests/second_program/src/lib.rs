@@ -15,5 +15,6 @@ pub mod mfm;
 pub mod refusal;
 pub mod sectors;
 pub mod separator;
+pub mod single_density;
 pub mod track_block;
 pub mod track_file;

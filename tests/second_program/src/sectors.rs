@@ -54,7 +54,7 @@ pub struct SectorRecord {
     pub data_check_good: bool,
     /// The data end, perhaps above N; 0 where there is no data.
     pub data_end: usize,
-    /// The density: 2 in the record of every sector, 0 only in the record of zeros.
+    /// The density: 2 for MFM and 1 for FM; 0 only in the record of zeros.
     pub density: u8,
 }
 
@@ -187,7 +187,12 @@ pub fn list(bytes: &[u8], n: usize) -> Vec<SectorRecord> {
 }
 
 /// Refusals 1 to 3 in order: T and H, the number of cells, the bytes of cells.
-fn judge_track(drive_track: u32, drive_side: u32, bytes: &[u8], n: usize) -> Result<(), Refusal> {
+pub(crate) fn judge_track(
+    drive_track: u32,
+    drive_side: u32,
+    bytes: &[u8],
+    n: usize,
+) -> Result<(), Refusal> {
     if drive_track > HIGHEST_TRACK || drive_side > HIGHEST_SIDE {
         return Err(Refusal::drive_place_out_of_range());
     }

@@ -97,7 +97,7 @@ pub struct Row {
 }
 
 /// Refusals 6, 7 and 8 of a list of timings, in this order.
-fn judge_timings(timings: &[u32]) -> Result<(), Refusal> {
+pub(crate) fn judge_timings(timings: &[u32]) -> Result<(), Refusal> {
     if timings.is_empty() {
         return Err(Refusal::no_timings());
     }

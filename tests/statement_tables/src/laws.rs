@@ -36,11 +36,17 @@ pub const LAWS: &[Law] = &[
         "sector_records/proofs/Places",
         &["data-least", "data-none"],
     ),
-    ("6.12", "sector_records/proofs/Places", &["has-data"]),
+    ("6.12", "sector_records/proofs/MarkBytes", &["has-data"]),
     (
         "6.14",
-        "sector_records/proofs/Places",
-        &["end-without-data", "end-with-data", "data-end-below"],
+        "sector_records/proofs/MarkBytes",
+        &["end-without-data", "end-with-data"],
+    ),
+    ("6.14", "sector_records/proofs/Places", &["data-end-below"]),
+    (
+        "6.22",
+        "sector_records/proofs/MarkBytes",
+        &["single-id", "single-data"],
     ),
     ("7.4", "finding_list/proofs/Laws", &["tnf-only"]),
     (
@@ -49,6 +55,11 @@ pub const LAWS: &[Law] = &[
         &["stands-exactly", "empty-means-none", "kinds-in-range"],
     ),
     ("7.32", "finding_list/proofs/Laws", &["strictly-ordered"]),
+    (
+        "7.47",
+        "finding_list/proofs/SingleDensity",
+        &["no-nsi", "no-nsd"],
+    ),
     ("10.8", "whole_file/proofs/Laws", &["as-separated"]),
     ("11.7", "listing/proofs/Laws", &["never-five"]),
     (

@@ -1,104 +1,29 @@
--- `cell_patterns::find_gaps` meets its contract: at p it has what the cells from p to the track's end show. Assumes nothing.
-use Prim.Native.Nat.{_+_, _-_, _<_, _≤_}
-use mathlib.Core.Path.{_≡_, refl}
-use native.Mathlib.Omega.{arith}
+-- `cell_patterns::find_gaps` meets its contract: each density with its numbers. Assumes nothing.
+use mathlib.Core.Path.{refl}
+use Rattle.layouts.specs.Layouts.{doubleDensity, singleDensity}
 use borrow.Author.Needs.{needs}
-use Rattle.cells.specs.CellsAndBytes.{cell}
-use Rattle.cell_patterns.proofs.Runs.{Seen, seen-none, seen-turn, seen-all, zeros-few, one-more-fits, zeros-after-last, one-is}
 use Rattle.cell_patterns.proofs.find_gaps.Statement.{statement}
 use Rattle.cell_patterns.proofs.find_gaps.Tie as tie
 
-abbrev Inv-loop : tie.InvT-loop
-Inv-loop bytes n zeros₀ violations₀ first₀ longest₀ start₀ p₀ zeros violations first longest start p =
-    Seen (cell bytes n) n p zeros violations first longest start
+enum-told : tie.Need-enum-told
+enum-told c = search needs
 
-abbrev μ-loop : tie.MeasureT-loop
-μ-loop bytes n zeros₀ violations₀ first₀ longest₀ start₀ p₀ zeros violations first longest start p =
-    p
+gaps-between-requires : tie.Need-gaps-between-requires
+gaps-between-requires c κs = search needs
 
-zeros-at-start-requires : tie.Need-zeros-at-start-requires Inv-loop μ-loop
-zeros-at-start-requires c κs = search needs
+enum-told-2 : tie.Need-enum-told-2
+enum-told-2 c = search needs
 
-loop-holds : tie.Need-loop-holds Inv-loop μ-loop
-loop-holds c = seen-none _ _ _ (zeros-after-last (c .before .before .args .bytes .now) _ _ (c .zeros-at-start .ensures))
+gaps-between-requires-2 : tie.Need-gaps-between-requires-2
+gaps-between-requires-2 c κs = search needs
 
-sub-p : tie.Need-sub-p Inv-loop μ-loop
-sub-p c = search needs
+returns : tie.Need-returns
+unfolding singleDensity
+returns c = rw (c .before .enum-told .given .1) (c .gaps-between .ensures singleDensity refl refl)
 
-cell-at-requires : tie.Need-cell-at-requires Inv-loop μ-loop
-cell-at-requires c κs = search needs
-
-one-if-requires : tie.Need-one-if-requires Inv-loop μ-loop
-one-if-requires c κs = search needs
-
-add-violations : tie.Need-add-violations Inv-loop μ-loop
-add-violations c = omega (arith, c .one-if .ensures .1, c .before .before .before .loop .inv .few)
-
-chosen-requires : tie.Need-chosen-requires Inv-loop μ-loop
-chosen-requires c κs = search needs
-
-one-if-requires-2 : tie.Need-one-if-requires-2 Inv-loop μ-loop
-one-if-requires-2 c κs = search needs
-
-add-more : tie.Need-add-more Inv-loop μ-loop
-add-more c =
-    let l = c .before .before .before .before .before in
-    let a = l .before .before .before .args in
-    let z = zeros-few (cell (a .bytes .now) (a .n)) (a .n) (l .loop .p) in
-    let h : l .loop .zeros ≤ a .n = omega (arith, l .loop .inv .zeros-are) in
-    omega (arith, one-more-fits (l .loop .zeros) (a .n) h, c .one-if2 .ensures .0)
-
-chosen-requires-2 : tie.Need-chosen-requires-2 Inv-loop μ-loop
-chosen-requires-2 c κs = search needs
-
-chosen-requires-3 : tie.Need-chosen-requires-3 Inv-loop μ-loop
-chosen-requires-3 c κs = search needs
-
-chosen-requires-4 : tie.Need-chosen-requires-4 Inv-loop μ-loop
-chosen-requires-4 c κs = search needs
-
-loop-less : tie.Need-loop-less Inv-loop μ-loop
-loop-less c = search needs
-
-loop-again : tie.Need-loop-again Inv-loop μ-loop
-loop-again c =
-    let l = c .before .before .before .before .before .before .before .before in
-    let a = l .before .before .before .args in
-    let e : l .loop .p ≡ l .loop .p - 1 + 1 = omega arith in
-    let h : l .loop .p - 1 < a .n = omega (arith, l .loop .inv .inside) in
-    let o = one-is (a .bytes .now) (a .n) (l .loop .p - 1) _ h (c .before .before .before .before .before .before .cell-at .ensures) in
-    seen-turn (cell (a .bytes .now) (a .n)) (a .n) (l .loop .p - 1) (l .loop .p) _ _ _ _ _ _ _ _ _ _ _ _ _ e (l .loop .inv) o refl
-    (c .before .before .before .before .before .one-if .ensures .0)
-    (c .before .before .before .before .chosen .ensures)
-    (c .before .before .before .one-if2 .ensures .0)
-    (c .before .before .chosen2 .ensures)
-    (c .before .chosen3 .ensures)
-    (c .chosen4 .ensures)
-
-returns : tie.Need-returns Inv-loop μ-loop
-returns c =
-    let l = c .before in
-    let a = l .before .before .before .args in
-    seen-all (cell (a .bytes .now) (a .n)) (a .n) (l .loop .p) _ _ _ _ _ (omega arith) (l .loop .inv)
+returns-2 : tie.Need-returns-2
+unfolding doubleDensity
+returns-2 c = rw (c .before .enum-told2 .given .1) (c .gaps-between2 .ensures doubleDensity refl refl)
 
 pub find-gaps-spec : {M : Type 1} → statement M
-find-gaps-spec =
-    tie.close
-    (tie.spec
-    Inv-loop
-    μ-loop
-    zeros-at-start-requires
-    loop-holds
-    sub-p
-    cell-at-requires
-    one-if-requires
-    add-violations
-    chosen-requires
-    one-if-requires-2
-    add-more
-    chosen-requires-2
-    chosen-requires-3
-    chosen-requires-4
-    loop-less
-    loop-again
-    returns)
+find-gaps-spec = tie.close (tie.spec enum-told gaps-between-requires enum-told-2 gaps-between-requires-2 returns returns-2)

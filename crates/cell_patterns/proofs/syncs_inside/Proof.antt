@@ -1,74 +1,18 @@
 -- `cell_patterns::syncs_inside` meets its contract. Assumes nothing.
-use Prim.Native.Nat.{_+_, _<_}
-use native.Mathlib.Omega.{arith}
-use Rattle.cells.specs.CellsAndBytes.{cell}
-use Rattle.cell_patterns.proofs.Syncs.{syncs-few, inside-id, inside-both}
-use Rattle.sector_records.specs.Sectors.{markLength, idLength}
+use Rattle.cell_patterns.specs.Cells.{syncsInside}
 use borrow.Author.Needs.{needs}
 use Rattle.cell_patterns.proofs.syncs_inside.Statement.{statement}
 use Rattle.cell_patterns.proofs.syncs_inside.Tie as tie
 
-cast-p : tie.Need-cast-p
-cast-p c = search needs
+layout-of-requires : tie.Need-layout-of-requires
+layout-of-requires c κs = search needs
 
-add-syncs-between : tie.Need-add-syncs-between
-add-syncs-between c = search needs
-
-add-syncs-between-2 : tie.Need-add-syncs-between-2
-add-syncs-between-2 c = search needs
-
-syncs-between-requires : tie.Need-syncs-between-requires
-syncs-between-requires c κs = search needs
+syncs-in-requires : tie.Need-syncs-in-requires
+syncs-in-requires c κs = search needs
 
 returns : tie.Need-returns
-returns c =
-    let s = c .before .before .before .before .before .args .s in
-    inside-id _ s _ (c .before .before .syncs-between .ensures) (c .if1 .taken)
-
-cast-data : tie.Need-cast-data
-cast-data c = search needs
-
-add-data : tie.Need-add-data
-add-data c = search needs
-
-wide-requires : tie.Need-wide-requires
-wide-requires c κs = search needs
-
-syncs-between-requires-2 : tie.Need-syncs-between-requires-2
-syncs-between-requires-2 c κs = search needs
-
-add-result : tie.Need-add-result
-add-result c =
-    let a = c .before .before .before .before .before .before .before .before .args in
-    let f = cell (a .bytes .now) (a .n) in
-    let s = a .s in
-    omega (
-      arith,
-      c .before .before .before .before .before .syncs-between .ensures,
-      c .syncs-between2 .ensures,
-      c .before .wide .ensures .0,
-      c .before .wide .ensures .1,
-      syncs-few f (s .place + markLength) (s .place + idLength),
-      syncs-few f (s .«data_place» + markLength) (c .before .wide .result),
-    )
-
-returns-2 : tie.Need-returns-2
-returns-2 c =
-    let s = c .before .before .before .before .before .before .before .before .args .s in
-    inside-both _ s _ (c .before .before .before .before .before .syncs-between .ensures) _ (c .before .before .before .if1 .left) (rw (← c .before .wide .ensures .0) (c .syncs-between2 .ensures))
+unfolding syncsInside
+returns c = rw (← c .before .layout-of .ensures .0) (c .syncs-in .ensures)
 
 pub syncs-inside-spec : {M : Type 1} → statement M
-syncs-inside-spec =
-    tie.close
-    (tie.spec
-    cast-p
-    add-syncs-between
-    add-syncs-between-2
-    syncs-between-requires
-    returns
-    cast-data
-    add-data
-    wide-requires
-    syncs-between-requires-2
-    add-result
-    returns-2)
+syncs-inside-spec = tie.close (tie.spec layout-of-requires syncs-in-requires returns)

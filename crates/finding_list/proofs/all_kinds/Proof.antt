@@ -11,14 +11,16 @@ use Rattle.finding_list.specs.PrivateContracts.{sectorsIn, Added}
 use Rattle.finding_list.proofs.MostFindings.{few-findings}
 use Rattle.finding_list.proofs.Numbers.{joined-start, joined-next, joined-room}
 use Rattle.finding_list.proofs.Others.{length-kept}
+use Rattle.layouts.specs.Layouts.{layoutOf}
+use Rattle.layouts.proofs.Soundness.{sound}
 use Rattle.finding_list.proofs.all_kinds.Statement.{statement}
 use Rattle.finding_list.proofs.all_kinds.Tie as tie
 
 abbrev Inv-loop : tie.InvT-loop
-Inv-loop numbers₀ bytes n track ss gaps at₀ k₀ numbers at k = (k ≤ kinds) × Added (replicate 3604 0) 0 (joined (ofKind (cell bytes n) n track (sectorsIn ss)) k) numbers at
+Inv-loop density numbers₀ bytes n track ss gaps at₀ k₀ numbers at k = (k ≤ kinds) × Added (replicate 3604 0) 0 (joined (ofKind (layoutOf density) (cell bytes n) n track (sectorsIn ss)) k) numbers at
 
 abbrev μ-loop : tie.MeasureT-loop
-μ-loop numbers₀ bytes n track ss gaps at₀ k₀ numbers at k = kinds - k
+μ-loop density numbers₀ bytes n track ss gaps at₀ k₀ numbers at k = kinds - k
 
 clear-requires : tie.Need-clear-requires Inv-loop μ-loop
 clear-requires c κs = tt
@@ -27,10 +29,10 @@ find-gaps-requires : tie.Need-find-gaps-requires Inv-loop μ-loop
 find-gaps-requires c κs = tt
 
 -- there are never too many
-few : (a : tie.Start Inv-loop μ-loop) → length (joined (ofKind (cell (now (a .args .bytes)) (a .args .n)) (a .args .n) (a .args .track) (sectorsIn (a .args .ss))) kinds) ≤ 901
+few : (a : tie.Start Inv-loop μ-loop) → length (joined (ofKind (layoutOf (a .args .density)) (cell (now (a .args .bytes)) (a .args .n)) (a .args .n) (a .args .track) (sectorsIn (a .args .ss))) kinds) ≤ 901
 few a =
     let size : length (sectorsIn (a .args .ss)) ≤ 64 = omega (arith, length-kept (a .args .ss) (a .pre .few), a .pre .few .few) in
-    few-findings (cell (now (a .args .bytes)) (a .args .n)) (a .args .n) (a .args .track) (sectorsIn (a .args .ss)) size
+    few-findings (layoutOf (a .args .density)) (sound (a .args .density)) (cell (now (a .args .bytes)) (a .args .n)) (a .args .n) (a .args .track) (sectorsIn (a .args .ss)) size
 
 loop-holds : tie.Need-loop-holds Inv-loop μ-loop
 loop-holds c = (omega arith, rw (c .before .clear .ensures) (joined-start _ kinds (record { long = length-replicate {A = ℕ} 3604 0; fits = omega (arith, few (c .before .before .before .before)) })))
@@ -40,7 +42,7 @@ one-kind-requires c κs =
     let a = c .before .before .before .before .before .before .before in
     let l = c .before .before .loop in
     let gaps = c .before .before .before .find-gaps .ensures in
-    (a .pre, (gaps, (omega arith, joined-room (ofKind (cell (now (a .args .bytes)) (a .args .n)) (a .args .n) (a .args .track) (sectorsIn (a .args .ss))) kinds (l .k) (omega arith) (l .inv .1) (omega (arith, few a)))))
+    (a .pre, (gaps, (omega arith, joined-room (ofKind (layoutOf (a .args .density)) (cell (now (a .args .bytes)) (a .args .n)) (a .args .n) (a .args .track) (sectorsIn (a .args .ss))) kinds (l .k) (omega arith) (l .inv .1) (omega (arith, few a)))))
 
 add-k : tie.Need-add-k Inv-loop μ-loop
 add-k c = omega arith
@@ -52,7 +54,7 @@ loop-again : tie.Need-loop-again Inv-loop μ-loop
 loop-again c =
     let a = c .before .before .before .before .before .before .before .before in
     let l = c .before .before .before .loop in
-    (omega arith, joined-next (ofKind (cell (now (a .args .bytes)) (a .args .n)) (a .args .n) (a .args .track) (sectorsIn (a .args .ss))) (l .k) (l .inv .1) (c .one-kind .ensures))
+    (omega arith, joined-next (ofKind (layoutOf (a .args .density)) (cell (now (a .args .bytes)) (a .args .n)) (a .args .n) (a .args .track) (sectorsIn (a .args .ss))) (l .k) (l .inv .1) (c .one-kind .ensures))
 
 returns : tie.Need-returns Inv-loop μ-loop
 returns c =

@@ -14,18 +14,20 @@ use Rattle.finding_list.proofs.Looks.{row-on-sector, sector-kind}
 use Rattle.finding_list.proofs.Numbers.{joined-start, joined-next, joined-room}
 use Rattle.finding_list.proofs.Others.{length-kept, kept-sector}
 use Rattle.sector_records.specs.declared.Sector.{Sector}
+use Rattle.layouts.specs.Layouts.{layoutOf}
+use Rattle.layouts.proofs.Soundness.{sound}
 use Rattle.finding_list.proofs.each_sector.Statement.{statement}
 use Rattle.finding_list.proofs.each_sector.Tie as tie
 
 abbrev Inv-loop : tie.InvT-loop
-Inv-loop numbers₀ bytes n track k at ss count to₀ i₀ numbers to i = (i ≤ count) × Added numbers₀ at (joined (foundAt (cell bytes n) n track (sectorsIn ss) k) i) numbers to
+Inv-loop density numbers₀ bytes n track k at ss count to₀ i₀ numbers to i = (i ≤ count) × Added numbers₀ at (joined (foundAt (layoutOf density) (cell bytes n) n track (sectorsIn ss) k) i) numbers to
 
 abbrev μ-loop : tie.MeasureT-loop
-μ-loop numbers₀ bytes n track k at ss count to₀ i₀ numbers to i = count - i
+μ-loop density numbers₀ bytes n track k at ss count to₀ i₀ numbers to i = count - i
 
 -- the findings of the kind are those at each sector
-room : (a : tie.Start Inv-loop μ-loop) → Room (now (a .args .numbers)) (a .args .at) (joined (foundAt (cell (now (a .args .bytes)) (a .args .n)) (a .args .n) (a .args .track) (sectorsIn (a .args .t5)) (a .args .k)) (length (sectorsIn (a .args .t5))))
-room a = rw (sector-kind (cell (now (a .args .bytes)) (a .args .n)) (a .args .n) (a .args .track) (sectorsIn (a .args .t5)) (a .args .k) (omega (arith, a .pre .1 .0)) (a .pre .1 .1)) (a .pre .1 .2)
+room : (a : tie.Start Inv-loop μ-loop) → Room (now (a .args .numbers)) (a .args .at) (joined (foundAt (layoutOf (a .args .density)) (cell (now (a .args .bytes)) (a .args .n)) (a .args .n) (a .args .track) (sectorsIn (a .args .t6)) (a .args .k)) (length (sectorsIn (a .args .t6))))
+room a = rw (sector-kind (layoutOf (a .args .density)) (cell (now (a .args .bytes)) (a .args .n)) (a .args .n) (a .args .track) (sectorsIn (a .args .t6)) (a .args .k) (omega (arith, a .pre .1 .0)) (a .pre .1 .1)) (a .pre .1 .2)
 
 loop-holds : tie.Need-loop-holds Inv-loop μ-loop
 loop-holds c = (omega arith, joined-start _ _ (room (c .before)))
@@ -44,15 +46,15 @@ sector-rule-requires c κs = (c .before .before .before .before .before .pre .0,
 
 -- the row at the sector read is that of the kind's look
 row-is : (c : tie.After-sector-rule Inv-loop μ-loop) → let a = c .before .before .before .before .before .before .args in
-    c .sector-rule .result ≡ rowAt (cell (now (a .bytes)) (a .n)) (a .n) (a .track) (sectorsIn (a .t5)) (a .k) (c .before .before .before .before .loop .i)
+    c .sector-rule .result ≡ rowAt (layoutOf (a .density)) (cell (now (a .bytes)) (a .n)) (a .n) (a .track) (sectorsIn (a .t6)) (a .k) (c .before .before .before .before .loop .i)
 row-is c =
     let a = c .before .before .before .before .before .before in
     let i = c .before .before .before .before .loop .i in
     let f = cell (now (a .args .bytes)) (a .args .n) in
-    let xs = sectorsIn (a .args .t5) in
+    let xs = sectorsIn (a .args .t6) in
     c .sector-rule .ensures
-    ∙ ap (λ (s : Sector). getD (sectorRows f (a .args .n) (a .args .track) xs s) (a .args .k - 6) noRow) (sym (kept-sector (a .args .t5) i (c .before .before .before .loop-test .taken)))
-    ∙ row-on-sector f (a .args .n) (a .args .track) xs (a .args .k) (a .pre .1 .0) (a .pre .1 .1) i
+    ∙ ap (λ (s : Sector). getD (sectorRows (layoutOf (a .args .density)) f (a .args .n) (a .args .track) xs s) (a .args .k - 6) noRow) (sym (kept-sector (a .args .t6) i (c .before .before .before .loop-test .taken)))
+    ∙ row-on-sector (layoutOf (a .args .density)) f (a .args .n) (a .args .track) xs (a .args .k) (a .pre .1 .0) (a .pre .1 .1) i
 
 put-requires : tie.Need-put-requires Inv-loop μ-loop
 unfolding foundAt
@@ -60,13 +62,13 @@ put-requires c κs =
     let a = c .before .before .before .before .before .before in
     let l = c .before .before .before .before .loop in
     let f = cell (now (a .args .bytes)) (a .args .n) in
-    let xs = sectorsIn (a .args .t5) in
-    let size = length-kept (a .args .t5) (a .pre .0 .few) in
+    let xs = sectorsIn (a .args .t6) in
+    let size = length-kept (a .args .t6) (a .pre .0 .few) in
     let inside : l .i < length xs = omega (arith, size, c .before .before .before .loop-test .taken) in
     let few : length xs ≤ 64 = omega (arith, size, a .pre .0 .few .few) in (
       omega (arith, a .pre .1 .1),
-      rw (row-is c) (row-narrow f (a .args .n) (a .args .track) xs (a .pre .0 .short) few (a .args .k) (l .i) (a .pre .0 .near (l .i))),
-      rw (row-is c) (joined-room (foundAt f (a .args .n) (a .args .track) xs (a .args .k)) (length xs) (l .i) inside (l .inv .1) (room a .fits)),
+      rw (row-is c) (row-narrow (layoutOf (a .args .density)) (sound (a .args .density)) f (a .args .n) (a .args .track) xs (a .pre .0 .short) few (a .args .k) (l .i) (a .pre .0 .near (l .i))),
+      rw (row-is c) (joined-room (foundAt (layoutOf (a .args .density)) f (a .args .n) (a .args .track) xs (a .args .k)) (length xs) (l .i) inside (l .inv .1) (room a .fits)),
     )
 
 add-i : tie.Need-add-i Inv-loop μ-loop
@@ -84,8 +86,8 @@ loop-again c =
 returns : tie.Need-returns Inv-loop μ-loop
 returns c =
     let a = c .before .before .before in
-    let e : c .before .loop .i ≡ length (sectorsIn (a .args .t5)) = omega (arith, length-kept (a .args .t5) (a .pre .0 .few)) in
-    rw (e, sector-kind (cell (now (a .args .bytes)) (a .args .n)) (a .args .n) (a .args .track) (sectorsIn (a .args .t5)) (a .args .k) (omega (arith, a .pre .1 .0)) (a .pre .1 .1)) at (c .before .loop .inv .1)
+    let e : c .before .loop .i ≡ length (sectorsIn (a .args .t6)) = omega (arith, length-kept (a .args .t6) (a .pre .0 .few)) in
+    rw (e, sector-kind (layoutOf (a .args .density)) (cell (now (a .args .bytes)) (a .args .n)) (a .args .n) (a .args .track) (sectorsIn (a .args .t6)) (a .args .k) (omega (arith, a .pre .1 .0)) (a .pre .1 .1)) at (c .before .loop .inv .1)
 
 pub each-sector-spec : {M : Type 1} → statement M
 each-sector-spec =

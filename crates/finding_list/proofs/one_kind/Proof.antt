@@ -17,6 +17,9 @@ use Rattle.finding_list.proofs.Looks.{once, looks-first, looks-last, ro
 use Rattle.finding_list.proofs.Numbers.{added-same, room-same}
 use Rattle.finding_list.proofs.Others.{length-kept}
 use borrow.Author.Needs.{needs}
+use Rattle.layouts.specs.Layouts.{layoutOf}
+use Rattle.layouts.specs.declared.Layout.{Layout}
+use Rattle.layouts.proofs.Soundness.{sound}
 use Rattle.finding_list.proofs.one_kind.Statement.{statement}
 use Rattle.finding_list.proofs.one_kind.Tie as tie
 
@@ -25,53 +28,57 @@ above-5 k h e = omega arith
 
 -- the findings of the kind, and its first row
 abbrev kind : tie.Start → List Finding
-kind a = ofKind (cell (now (a .args .bytes)) (a .args .n)) (a .args .n) (a .args .track) (sectorsIn (a .args .ss)) (a .args .k)
+kind a = ofKind (layoutOf (a .args .density)) (cell (now (a .args .bytes)) (a .args .n)) (a .args .n) (a .args .track) (sectorsIn (a .args .ss)) (a .args .k)
 
 abbrev row : tie.Start → Row
-row a = rowAt (cell (now (a .args .bytes)) (a .args .n)) (a .args .n) (a .args .track) (sectorsIn (a .args .ss)) (a .args .k) 0
+row a = rowAt (layoutOf (a .args .density)) (cell (now (a .args .bytes)) (a .args .n)) (a .args .n) (a .args .track) (sectorsIn (a .args .ss)) (a .args .k) 0
 
 fits : (a : tie.Start) (r : Row) → r ≡ row a → Narrow r
 fits a r e =
     let few : length (sectorsIn (a .args .ss)) ≤ 64 = omega (arith, length-kept (a .args .ss) (a .pre .0 .few), a .pre .0 .few .few) in
-    rw e (row-narrow (cell (now (a .args .bytes)) (a .args .n)) (a .args .n) (a .args .track) (sectorsIn (a .args .ss)) (a .pre .0 .short) few (a .args .k) 0 (a .pre .0 .near 0))
+    rw e (row-narrow (layoutOf (a .args .density)) (sound (a .args .density)) (cell (now (a .args .bytes)) (a .args .n)) (a .args .n) (a .args .track) (sectorsIn (a .args .ss)) (a .pre .0 .short) few (a .args .k) 0 (a .pre .0 .near 0))
 
-by-track : (c : tie.After-track-rule) → c .track-rule .result ≡ row (c .before .before .before .before .before)
+by-track : (c : tie.After-track-rule) → c .track-rule .result ≡ row (c .before .before .before .before .before .before)
 by-track c =
-    let a = c .before .before .before .before .before in
+    let a = c .before .before .before .before .before .before in
     c .track-rule .ensures
-    ∙ ap (λ (m : ℕ). getD (trackRows (a .args .n) m (a .args .track)) (a .args .k) noRow) (sym (length-kept (a .args .ss) (a .pre .0 .few)))
-    ∙ row-first (cell (now (a .args .bytes)) (a .args .n)) (a .args .n) (a .args .track) (sectorsIn (a .args .ss)) (a .args .k) (c .before .before .before .if1 .taken)
+    ∙ ap (λ (layout : Layout). getD (trackRows layout (a .args .n) (a .args .ss .count) (a .args .track)) (a .args .k) noRow) (c .before .before .layout-of .ensures .0)
+    ∙ ap (λ (m : ℕ). getD (trackRows (layoutOf (a .args .density)) (a .args .n) m (a .args .track)) (a .args .k) noRow) (sym (length-kept (a .args .ss) (a .pre .0 .few)))
+    ∙ row-first (layoutOf (a .args .density)) (cell (now (a .args .bytes)) (a .args .n)) (a .args .n) (a .args .track) (sectorsIn (a .args .ss)) (a .args .k) (c .before .before .before .before .if1 .taken)
 
 by-gaps : (c : tie.After-gap-rule) → c .gap-rule .result ≡ row (c .before .before .before .before .before .before)
 by-gaps c =
     let a = c .before .before .before .before .before .before in
     c .gap-rule .ensures
     ∙ ap (λ (gaps : Gaps). getD (gapRows gaps) (a .args .k - 19) noRow) (a .pre .1 .0)
-    ∙ row-last (cell (now (a .args .bytes)) (a .args .n)) (a .args .n) (a .args .track) (sectorsIn (a .args .ss)) (a .args .k) (c .before .before .if3 .left)
+    ∙ row-last (layoutOf (a .args .density)) (cell (now (a .args .bytes)) (a .args .n)) (a .args .n) (a .args .track) (sectorsIn (a .args .ss)) (a .args .k) (c .before .before .if3 .left)
 
 -- a kind that looks once finds what its row finds
-track-found : (c : tie.After-track-rule) → let a = c .before .before .before .before .before in foundBy (a .args .k) (c .track-rule .result) ≡ kind a
+track-found : (c : tie.After-track-rule) → let a = c .before .before .before .before .before .before in foundBy (a .args .k) (c .track-rule .result) ≡ kind a
 track-found c =
-    let a = c .before .before .before .before .before in
-    once _ _ _ (sectorsIn (a .args .ss)) (a .args .k) (c .track-rule .result) (looks-first (sectorsIn (a .args .ss)) (a .args .k) (c .before .before .before .if1 .taken)) (by-track c)
+    let a = c .before .before .before .before .before .before in
+    once _ _ _ _ (sectorsIn (a .args .ss)) (a .args .k) (c .track-rule .result) (looks-first (sectorsIn (a .args .ss)) (a .args .k) (c .before .before .before .before .if1 .taken)) (by-track c)
 
 gaps-found : (c : tie.After-gap-rule) → let a = c .before .before .before .before .before .before in foundBy (a .args .k) (c .gap-rule .result) ≡ kind a
 gaps-found c =
     let a = c .before .before .before .before .before .before in
-    once _ _ _ (sectorsIn (a .args .ss)) (a .args .k) (c .gap-rule .result) (looks-last (sectorsIn (a .args .ss)) (a .args .k) (c .before .before .if3 .left)) (by-gaps c)
+    once _ _ _ _ (sectorsIn (a .args .ss)) (a .args .k) (c .gap-rule .result) (looks-last (sectorsIn (a .args .ss)) (a .args .k) (c .before .before .if3 .left)) (by-gaps c)
+
+layout-of-requires : tie.Need-layout-of-requires
+layout-of-requires c κs = search needs
 
 cast-track-rule : tie.Need-cast-track-rule
-cast-track-rule c = omega (arith, c .before .before .before .pre .0 .short)
+cast-track-rule c = omega (arith, c .before .before .before .before .pre .0 .short)
 
 cast-track-rule-2 : tie.Need-cast-track-rule-2
-cast-track-rule-2 c = omega (arith, c .before .before .before .before .pre .0 .few .few)
+cast-track-rule-2 c = omega (arith, c .before .before .before .before .before .pre .0 .few .few)
 
 track-rule-requires : tie.Need-track-rule-requires
 track-rule-requires c κs = search needs
 
 put-requires : tie.Need-put-requires
 put-requires c κs =
-    let a = c .before .before .before .before .before in
+    let a = c .before .before .before .before .before .before in
     (a .pre .1 .1 .0, fits a _ (by-track c), room-same refl refl (sym (track-found c)) (a .pre .1 .1 .1))
 
 returns : tie.Need-returns
@@ -80,12 +87,12 @@ returns c = added-same refl refl (track-found (c .before)) (c .put .ensures)
 duplicates-requires : tie.Need-duplicates-requires
 duplicates-requires c κs =
     let a = c .before .before .before .before in
-    (a .pre .0 .few, room-same refl refl (sym (twice-kind (cell (now (a .args .bytes)) (a .args .n)) (a .args .n) (a .args .track) (sectorsIn (a .args .ss)) (a .args .k) (c .before .if2 .taken))) (a .pre .1 .1 .1))
+    (a .pre .0 .few, room-same refl refl (sym (twice-kind (layoutOf (a .args .density)) (cell (now (a .args .bytes)) (a .args .n)) (a .args .n) (a .args .track) (sectorsIn (a .args .ss)) (a .args .k) (c .before .if2 .taken))) (a .pre .1 .1 .1))
 
 returns-2 : tie.Need-returns-2
 returns-2 c =
     let a = c .before .before .before .before .before in
-    added-same refl refl (twice-kind (cell (now (a .args .bytes)) (a .args .n)) (a .args .n) (a .args .track) (sectorsIn (a .args .ss)) (a .args .k) (c .before .before .if2 .taken)) (c .duplicates .ensures)
+    added-same refl refl (twice-kind (layoutOf (a .args .density)) (cell (now (a .args .bytes)) (a .args .n)) (a .args .n) (a .args .track) (sectorsIn (a .args .ss)) (a .args .k) (c .before .before .if2 .taken)) (c .duplicates .ensures)
 
 each-sector-requires : tie.Need-each-sector-requires
 each-sector-requires c κs =
@@ -110,6 +117,7 @@ pub one-kind-spec : {M : Type 1} → statement M
 one-kind-spec =
     tie.close
     (tie.spec
+    layout-of-requires
     cast-track-rule
     cast-track-rule-2
     track-rule-requires

@@ -12,6 +12,8 @@ use Rattle.sectors.specs.Calls.{sectorsAnswer}
 use Rattle.sector_records.specs.Sectors.{sectorsOf, kept}
 use Rattle.sectors.proofs.Calls.{list-accepted, listed-sectors}
 use borrow.Author.Needs.{needs}
+use Rattle.layouts.specs.Layouts.{layoutOf}
+use Rattle.layouts.proofs.Soundness.{sound}
 use Rattle.finding_list.proofs.survey.Statement.{statement}
 use Rattle.finding_list.proofs.survey.Tie as tie
 
@@ -19,16 +21,16 @@ use Rattle.finding_list.proofs.survey.Tie as tie
 abbrev count : tie.After-known-told2 → ℕ
 count k = k .before .answer2 .given .0 .0
 
-accepted : (k : tie.After-known-told2) → let a = k .before .before .before .before .before .before .args in sectorsAnswer (now (a .bytes)) (a .n) (a .track) (a .side) ≡ gives (count k)
-accepted k = sym (k .before .before .before .before .sectors-of .ensures .0) ∙ ap countedAnswer (k .before .answer2 .given .1)
+accepted : (k : tie.After-known-told2) → let a = k .before .before .before .before .before .before .args in sectorsAnswer (layoutOf (a .density)) (now (a .bytes)) (a .n) (a .track) (a .side) ≡ gives (count k)
+accepted k = sym (k .before .before .before .before .sectors-in .ensures .0) ∙ ap countedAnswer (k .before .answer2 .given .1)
 
-are : (k : tie.After-known-told2) → let a = k .before .before .before .before .before .before .args in k .before .before .before .before .sectors-of .result .sectors ≡ kept (sectorsOf (now (a .bytes)) (a .n))
+are : (k : tie.After-known-told2) → let a = k .before .before .before .before .before .before .args in k .before .before .before .before .sectors-in .result .sectors ≡ kept (sectorsOf (layoutOf (a .density)) (now (a .bytes)) (a .n))
 are k =
     let a = k .before .before .before .before .before .before .args in
-    listed-sectors (now (a .bytes)) (a .n) (a .track) (a .side) (count k) (sym (accepted k)) _ (k .before .before .before .before .sectors-of .ensures .1)
+    listed-sectors (layoutOf (a .density)) (now (a .bytes)) (a .n) (a .track) (a .side) (count k) (sym (accepted k)) _ (k .before .before .before .before .sectors-in .ensures .1)
 
-sectors-of-requires : tie.Need-sectors-of-requires
-sectors-of-requires c κs = search needs
+sectors-in-requires : tie.Need-sectors-in-requires
+sectors-in-requires c κs = search needs
 
 enum-known-answer : tie.Need-enum-known-answer
 enum-known-answer c = search needs
@@ -40,28 +42,28 @@ all-kinds-requires : tie.Need-all-kinds-requires
 all-kinds-requires c κs =
     let k = c .before in
     let a = k .before .before .before .before .before .before .args in
-    let l = list-accepted (now (a .bytes)) (a .n) (a .track) (a .side) (count k) (accepted k) in
-    let few : length (sectorsOf (now (a .bytes)) (a .n)) ≤ 64 = omega (arith, l .0, l .1) in
-    sectors-on (now (a .bytes)) (a .n) _ (are k) few (l .2)
+    let l = list-accepted (layoutOf (a .density)) (now (a .bytes)) (a .n) (a .track) (a .side) (count k) (accepted k) in
+    let few : length (sectorsOf (layoutOf (a .density)) (now (a .bytes)) (a .n)) ≤ 64 = omega (arith, l .0, l .1) in
+    sectors-on (layoutOf (a .density)) (now (a .bytes)) (a .n) _ (are k) few (sound (a .density)) (l .2)
 
 returns : tie.Need-returns
 returns c =
     let a = c .before .before .before .before .before .before .args in
     let v = c .before .answer .given in
-    let g = sym (ap countedAnswer (v .1)) ∙ c .before .before .before .before .sectors-of .ensures .0 in
-    survey-refused (now (a .bytes)) (a .n) (a .track) (a .side) (numberOf (v .0 .0)) (valueOf (v .0 .0)) g (now (a .numbers))
+    let g = sym (ap countedAnswer (v .1)) ∙ c .before .before .before .before .sectors-in .ensures .0 in
+    survey-refused (layoutOf (a .density)) (sound (a .density)) (now (a .bytes)) (a .n) (a .track) (a .side) (numberOf (v .0 .0)) (valueOf (v .0 .0)) g (now (a .numbers))
 
 returns-2 : tie.Need-returns-2
 returns-2 c =
     let k = c .before .before in
     let a = k .before .before .before .before .before .before .args in
-    survey-given (now (a .bytes)) (a .n) (a .track) (a .side) (count k) (accepted k) _ (are k) (now (a .numbers)) _ _ (c .all-kinds .ensures)
+    survey-given (layoutOf (a .density)) (sound (a .density)) (now (a .bytes)) (a .n) (a .track) (a .side) (count k) (accepted k) _ (are k) (now (a .numbers)) _ _ (c .all-kinds .ensures)
 
 pub survey-spec : {M : Type 1} → statement M
 survey-spec =
     tie.close
     (tie.spec
-    sectors-of-requires
+    sectors-in-requires
     enum-known-answer
     enum-known-answer-2
     all-kinds-requires

@@ -12,15 +12,15 @@ nothing-requires c κs = search needs
 
 returns : tie.Need-returns
 unfolding trackRows
-returns c = rw (c .match .keys1)
+returns c = rw (c .before .match .keys1)
 
 returns-2 : tie.Need-returns-2
 unfolding trackRows
-returns-2 c = rw (c .match .keys2)
+returns-2 c = rw (c .before .match .keys2)
 
 returns-3 : tie.Need-returns-3
 unfolding trackRows
-returns-3 c = rw (c .match .keys3)
+returns-3 c = rw (c .before .before .match .keys3)
 
 returns-4 : tie.Need-returns-4
 unfolding trackRows
@@ -32,7 +32,7 @@ returns-5 c = rw (c .match .keys5)
 
 returns-6 : tie.Need-returns-6
 unfolding trackRows
-returns-6 c = let a = c .before .before .args in c .nothing .ensures ∙ no-row (trackRows (a .n) (a .sectors) (a .track)) (a .k) (omega arith)
+returns-6 c = let a = c .before .before .args in c .nothing .ensures ∙ no-row (trackRows (a .layout) (a .n) (a .sectors) (a .track)) (a .k) (omega arith)
 
 pub track-rule-spec : {M : Type 1} → statement M
 track-rule-spec =

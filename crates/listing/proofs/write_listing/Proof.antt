@@ -1,4 +1,5 @@
 -- `listing::write_listing` meets its contract. Assumes nothing.
+use Rattle.layouts.specs.Layouts.{doubleDensity}
 use Prim.Native.Nat.{ℕ}
 use mathlib.Core.Path.{_≡_, sym, ap, _∙_}
 use native.Mathlib.Omega.{arith}
@@ -31,7 +32,7 @@ enum-known-answer-2 : tie.Need-enum-known-answer-2
 enum-known-answer-2 c = search needs
 
 -- the number of findings, and that it is what the call gives
-accepted : (d : tie.After-answer2) → (let a = d .before .before .before .before .before .before .before .args in findingsAnswer (now (a .bytes)) (a .n) (a .track) (a .side) 901) ≡ gives (d .answer2 .given .0 .0)
+accepted : (d : tie.After-answer2) → (let a = d .before .before .before .before .before .before .before .args in findingsAnswer doubleDensity (now (a .bytes)) (a .n) (a .track) (a .side) 901) ≡ gives (d .answer2 .given .0 .0)
 accepted d = sym (d .before .before .before .findings-as-numbers .ensures .0) ∙ ap countedAnswer (d .answer2 .given .1)
 
 cast-sectors : tie.Need-cast-sectors

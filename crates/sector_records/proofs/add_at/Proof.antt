@@ -16,8 +16,8 @@ add-next c =
     let s = c .before in
     let a = s .args in
     let f = cell (a .bytes .now) (a .n) in
-    let e : a .sectors .count ≡ kept (joined (sectorsAt f) (a .p)) .count = ap (λ (x : Sectors). x .count) (s .pre .1) in
-    omega (arith, e, kept-count (joined (sectorsAt f) (a .p)), sectors-few f (a .p), s .pre .0)
+    let e : a .sectors .count ≡ kept (joined (sectorsAt (a .layout) f) (a .p)) .count = ap (λ (x : Sectors). x .count) (s .pre .2) in
+    omega (arith, e, kept-count (joined (sectorsAt (a .layout) f) (a .p)), sectors-few (a .layout) f (a .p), s .pre .1)
 
 sector-at-requires : tie.Need-sector-at-requires
 sector-at-requires c κs = search needs
@@ -33,14 +33,14 @@ returns c =
     let s = c .before .before .before in
     let a = s .args in
     let f = cell (a .bytes .now) (a .n) in
-    rw (sectors-here f (a .p) (s .pre .2), c .sector-at .ensures) (kept-more (joined (sectorsAt f) (a .p)) (sectorAt f (a .p)) (a .sectors) (s .pre .1) (c .before .if1 .taken))
+    rw (sectors-here (a .layout) f (a .p) (s .pre .3), c .sector-at .ensures) (kept-more (joined (sectorsAt (a .layout) f) (a .p)) (sectorAt (a .layout) f (a .p)) (a .sectors) (s .pre .2) (c .before .if1 .taken))
 
 returns-2 : tie.Need-returns-2
 returns-2 c =
     let s = c .before .before in
     let a = s .args in
     let f = cell (a .bytes .now) (a .n) in
-    rw (sectors-here f (a .p) (s .pre .2)) (kept-full (joined (sectorsAt f) (a .p)) (sectorAt f (a .p)) (a .sectors) (s .pre .1) (c .if1 .left))
+    rw (sectors-here (a .layout) f (a .p) (s .pre .3)) (kept-full (joined (sectorsAt (a .layout) f) (a .p)) (sectorAt (a .layout) f (a .p)) (a .sectors) (s .pre .2) (c .if1 .left))
 
 pub add-at-spec : {M : Type 1} → statement M
 add-at-spec =

@@ -26,7 +26,7 @@ check-bytes-requires : tie.Need-check-bytes-requires
 check-bytes-requires c κs = search needs
 
 returns : tie.Need-returns
-returns c = good-is _ _ _ _ _ (c .before .check-word .ensures) (c .check-bytes .ensures)
+returns c = good-is _ _ _ _ _ _ (c .before .before .check-word .ensures) (c .check-bytes .ensures)
 
 pub check-good-spec : {M : Type 1} → statement M
 check-good-spec =

@@ -11,10 +11,10 @@ use Rattle.sector_records.proofs.check_word.Statement.{statement}
 use Rattle.sector_records.proofs.check_word.Tie as tie
 
 abbrev Inv-loop : tie.InvT-loop
-Inv-loop bytes n p k word₀ i₀ word i = (i ≤ k) × (word ≡ checkWordFrom 0xCDB4 (bytesFrom (cell bytes n) p i))
+Inv-loop start bytes n p k word₀ i₀ word i = (i ≤ k) × (word ≡ checkWordFrom start (bytesFrom (cell bytes n) p i))
 
 abbrev μ-loop : tie.MeasureT-loop
-μ-loop bytes n p k word₀ i₀ word i = k - i
+μ-loop start bytes n p k word₀ i₀ word i = k - i
 
 loop-holds : tie.Need-loop-holds Inv-loop μ-loop
 loop-holds c = (search needs, check-none _ _ _)

@@ -1,5 +1,6 @@
 -- `sector_records::sector_at` meets its contract. Assumes nothing.
 use Rattle.sector_records.proofs.Records.{record-is}
+use native.Mathlib.Omega.{arith}
 use borrow.Author.Needs.{needs}
 use Rattle.sector_records.proofs.sector_at.Statement.{statement}
 use Rattle.sector_records.proofs.sector_at.Tie as tie
@@ -35,25 +36,31 @@ place-if-requires : tie.Need-place-if-requires
 place-if-requires c κs = search needs
 
 mark-if-requires : tie.Need-mark-if-requires
-mark-if-requires c κs = search needs
+mark-if-requires c κs =
+    let s = c .before .before .before .before .before .before .before .before .before .before .before in
+    (s .pre .0 .byte, omega (arith, s .pre .1, c .before .before .find-data .ensures .1))
 
 length-if-requires : tie.Need-length-if-requires
 length-if-requires c κs = search needs
 
 data-good-requires : tie.Need-data-good-requires
-data-good-requires c κs = search needs
+data-good-requires c κs =
+    let s = c .before .before .before .before .before .before .before .before .before .before .before .before .before in
+    (s .pre .0, omega (arith, s .pre .1, c .before .before .before .before .find-data .ensures .1), c .length-if .ensures .1)
 
 end-if-requires : tie.Need-end-if-requires
-end-if-requires c κs = search needs
+end-if-requires c κs =
+    let s = c .before .before .before .before .before .before .before .before .before .before .before .before .before .before in
+    (s .pre .0 .mark, omega (arith, s .pre .1, c .before .before .before .before .before .find-data .ensures .1), c .before .length-if .ensures .1)
 
-cast-t18 : tie.Need-cast-t18
-cast-t18 c = search needs
+cast-t19 : tie.Need-cast-t19
+cast-t19 c = omega (arith, c .before .before .before .before .before .before .before .before .before .before .before .before .before .before .before .pre .1)
 
 returns : tie.Need-returns
 returns c =
-    record-is _ _ _ _ _ _ _ _ _ _ _ _ _ _
-    (c .before .before .before .before .before .before .before .before .before .before .before .byte-on .ensures) (c .before .before .before .before .before .before .before .before .before .before .id-byte .ensures) (c .before .before .before .before .before .before .before .before .before .id-byte2 .ensures) (c .before .before .before .before .before .before .before .before .id-byte3 .ensures) (c .before .before .before .before .before .before .before .id-byte4 .ensures) (c .before .before .before .before .before .before .check-good .ensures)
-    (c .before .before .before .before .before .find-data .ensures .0) (c .before .before .before .before .place-if .ensures) (c .before .before .before .mark-if .ensures) (c .before .before .length-if .ensures .0) (c .before .data-good .ensures) (c .end-if .ensures)
+    record-is _ _ _ _ _ _ _ _ _ _ _ _ _ _ _
+    (c .before .before .before .before .before .before .before .before .before .before .before .before .byte-on .ensures) (c .before .before .before .before .before .before .before .before .before .before .before .id-byte .ensures) (c .before .before .before .before .before .before .before .before .before .before .id-byte2 .ensures) (c .before .before .before .before .before .before .before .before .before .id-byte3 .ensures) (c .before .before .before .before .before .before .before .before .id-byte4 .ensures) (c .before .before .before .before .before .before .before .check-good .ensures)
+    (c .before .before .before .before .before .before .find-data .ensures .0) (c .before .before .before .before .place-if .ensures) (c .before .before .before .mark-if .ensures) (c .before .before .length-if .ensures .0) (c .before .data-good .ensures) (c .end-if .ensures)
 
 pub sector-at-spec : {M : Type 1} → statement M
 sector-at-spec =
@@ -73,5 +80,5 @@ sector-at-spec =
     length-if-requires
     data-good-requires
     end-if-requires
-    cast-t18
+    cast-t19
     returns)

@@ -19,6 +19,9 @@ returns-2 : tie.Need-returns-2
 unfolding bufferAfter
 returns-2 c = answer-and-buffer _ _ (refuses-13 _ _ (c .before .before .if1 .left) (c .if2 .taken)) refl
 
+mark-length-requires : tie.Need-mark-length-requires
+mark-length-requires c κs = search needs
+
 cast-write-data : tie.Need-cast-write-data
 cast-write-data c = search needs
 
@@ -33,7 +36,11 @@ same-length c = search needs
 
 returns-3 : tie.Need-returns-3
 unfolding bufferAfter dataBytes
-returns-3 c = answer-and-buffer _ _ (data-accepted _ _ (c .before .before .before .before .before .before .before .if1 .left) (c .before .before .before .before .before .if2 .left)) (c .before .before .write-data .ensures)
+returns-3 c =
+    let e = c .before .before .before .before .before .mark-length .ensures .0 in
+    answer-and-buffer _ _
+    (data-accepted _ _ (c .before .before .before .before .before .before .before .before .if1 .left) (c .before .before .before .before .before .before .if2 .left))
+    (rw (← e) (c .before .before .write-data .ensures))
 
 pub read-sector-spec : {M : Type 1} → statement M
 read-sector-spec =
@@ -42,6 +49,7 @@ read-sector-spec =
     returns
     cast-size
     returns-2
+    mark-length-requires
     cast-write-data
     add-write-data
     write-data-requires

@@ -1,101 +1,27 @@
--- `separation::separate` meets its contract. Assumes nothing.
+-- `separation::separate` meets its contract: the call at the half window of double density, and demand 3. Assumes nothing.
 use Prim.Native.Nat.{ℕ}
-use mathlib.Core.Path.{_≡_, _∙_, ap}
-use mathlib.Core.List.{List}
-use native.Mathlib.Omega.{arith}
+use mathlib.Core.Path.{refl, sym, ap, _∙_}
+use mathlib.Core.Logic.{inl}
 use borrow.Author.Needs.{needs}
-use lib.ListN.{length}
-use Rattle.cells.specs.CellsAndBytes.{bytesFor}
-use Rattle.flux_timings.specs.Timings.{firstOut}
-use Rattle.separation.specs.Separation.{cellsJudged, separation}
-use Rattle.flux_timings.proofs.FirstOut.{out-within}
-use Rattle.flux_timings.proofs.Judging.{no-timings, too-many-timings, timing-out-of-range, timings-accepted}
-use Rattle.separation.proofs.CellsJudged.{too-many-cells, no-room-for-cells, cells-accepted}
-use Rattle.separation.proofs.Promise.{promised-refused, promised-cells}
+use Rattle.cells.specs.CellsAndBytes.{packed}
+use Rattle.refusals.specs.RefusedCalls.{Answer, bufferAfter}
+use Rattle.separation.specs.Separation.{cellsOf}
+use Rattle.separation.proofs.Promise.{promised}
 use Rattle.separation.proofs.separate.Statement.{statement}
 use Rattle.separation.proofs.separate.Tie as tie
 
-returns : tie.Need-returns
-returns c = let a = c .before .before .before .args in promised-refused (a .timings .now) (a .cells .now) _ (no-timings _ _ (c .if1 .taken))
-
-returns-2 : tie.Need-returns-2
-returns-2 c =
-    let a = c .before .before .before .before .args in
-    promised-refused (a .timings .now) (a .cells .now) _ (too-many-timings _ _ (c .before .if1 .left) (c .if2 .taken))
-
-first-out-requires : tie.Need-first-out-requires
-first-out-requires c κs = search needs
-
--- the timings and the room, at the call of `first_out`
-abbrev TS : tie.After-first-out → List ℕ
-TS f = f .before .before .before .before .before .args .timings .now
-
-abbrev CS : tie.After-first-out → List ℕ
-CS f = f .before .before .before .before .before .args .cells .now
-
-returns-3 : tie.Need-returns-3
-returns-3 c =
-    let f = c .before in
-    promised-refused (TS f) (CS f) _
-    (timing-out-of-range _ _ (f .before .before .if1 .left) (f .before .if2 .left) (f .first-out .ensures) (c .if3 .taken))
-
-all-in : (c : tie.Else3) → firstOut (TS (c .before)) ≡ length (TS (c .before))
-all-in c = omega (arith, out-within (TS (c .before)), c .before .first-out .ensures, c .if3 .left)
-
-count-cells-requires : tie.Need-count-cells-requires
-count-cells-requires c κs = (c .before .before .if2 .left, all-in c)
-
--- what is left to judge once the cells are counted
-judged : (d : tie.After-count-cells) → cellsJudged (d .count-cells .result .cells) (length (CS (d .before .before))) ≡ separation (TS (d .before .before)) (length (CS (d .before .before)))
-judged d =
-    let f = d .before .before in
-    ap (λ (n : ℕ). cellsJudged n (length (CS f))) (d .count-cells .ensures .0)
-    ∙ timings-accepted _ _ (f .before .before .if1 .left) (f .before .if2 .left) (all-in (d .before))
-
-returns-4 : tie.Need-returns-4
-returns-4 c =
-    let f = c .before .before .before in
-    promised-refused (TS f) (CS f) _ (too-many-cells _ _ (c .if4 .taken) ∙ judged (c .before))
-
-add-needed : tie.Need-add-needed
-add-needed c = search needs
-
-returns-5 : tie.Need-returns-5
-returns-5 c =
-    let d = c .before .before in
-    let f = d .before .before in
-    promised-refused (TS f) (CS f) _ (no-room-for-cells _ _ (c .before .if4 .left) (c .if5 .taken) ∙ judged d)
-
-write-cells-requires : tie.Need-write-cells-requires
-write-cells-requires c κs =
-    let d = c .before .before .before in
-    let e = d .count-cells .ensures .0 in
-    (all-in (d .before), omega (arith, e, c .before .before .if4 .left), ap bytesFor e, c .before .if5 .left)
+separate-by-requires : tie.Need-separate-by-requires
+separate-by-requires c κs = inl refl
 
 same-length : tie.Need-same-length
 same-length c = search needs
 
-returns-6 : tie.Need-returns-6
-returns-6 c =
-    let w = c .before .before in
-    let d = w .before .before .before .before in
-    let f = d .before .before in
-    promised-cells (TS f) (CS f) _
-    (cells-accepted _ _ (w .before .before .before .if4 .left) (w .before .before .if5 .left) ∙ judged d)
-    (w .write-cells .ensures) (d .count-cells .ensures .1)
+returns : tie.Need-returns
+returns c =
+    let s = c .before .before .separate-by .ensures in
+    let a = c .before .before .before .before .before .before .before .args in
+    let p = promised (a .timings .now) (a .cells .now) (s .0) (s .1 .0 ∙ ap (λ (x : Answer ℕ). bufferAfter x (packed (cellsOf (a .timings .now))) (a .cells .now)) (sym (s .0))) in
+    (s .0, (s .1 .0, (s .1 .1, p .1 .1)))
 
 pub separate-spec : {M : Type 1} → statement M
-separate-spec =
-    tie.close
-    (tie.spec
-    returns
-    returns-2
-    first-out-requires
-    returns-3
-    count-cells-requires
-    returns-4
-    add-needed
-    returns-5
-    write-cells-requires
-    same-length
-    returns-6)
+separate-spec = tie.close (tie.spec separate-by-requires same-length returns)

@@ -10,10 +10,10 @@ use Rattle.separation.proofs.write_cells.Statement.{statement}
 use Rattle.separation.proofs.write_cells.Tie as tie
 
 abbrev Inv-loop : tie.InvT-loop
-Inv-loop timings needed cells₀ at₀ separator₀ i₀ cells at separator i = Filled timings needed cells₀ cells at (separator .residual) i
+Inv-loop half timings needed cells₀ at₀ separator₀ i₀ cells at separator i = Filled half timings needed cells₀ cells at (separator .residual) i
 
 abbrev μ-loop : tie.MeasureT-loop
-μ-loop timings needed cells₀ at₀ separator₀ i₀ cells at separator i = length timings - i
+μ-loop half timings needed cells₀ at₀ separator₀ i₀ cells at separator i = length timings - i
 
 clear-requires : tie.Need-clear-requires Inv-loop μ-loop
 clear-requires c κs = search needs
@@ -28,16 +28,16 @@ S d = d .before .before .before .before
 loop-holds : tie.Need-loop-holds Inv-loop μ-loop
 loop-holds c =
     let d = c .before .before .before in
-    filled-start _ (S d .args .needed) (c .new .ensures) (front-cleared (S d .args .needed) (S d .args .cells .now) (S d .pre .3) (d .clear .ensures))
+    filled-start (S d .pre .4) _ (S d .args .needed) (c .new .ensures) (front-cleared (S d .args .needed) (S d .args .cells .now) (S d .pre .3) (d .clear .ensures))
 
-mul-step : tie.Need-mul-step Inv-loop μ-loop
-mul-step c = search needs
+mul-step-by : tie.Need-mul-step-by Inv-loop μ-loop
+mul-step-by c = search needs
 
-shared-slice-read-step : tie.Need-shared-slice-read-step Inv-loop μ-loop
-shared-slice-read-step c = search needs
+shared-slice-read-step-by : tie.Need-shared-slice-read-step-by Inv-loop μ-loop
+shared-slice-read-step-by c = search needs
 
-step-requires : tie.Need-step-requires Inv-loop μ-loop
-step-requires c κs = search needs
+step-by-requires : tie.Need-step-by-requires Inv-loop μ-loop
+step-by-requires c κs = search needs
 
 cells-given-requires : tie.Need-cells-given-requires Inv-loop μ-loop
 cells-given-requires c κs = search needs
@@ -50,14 +50,14 @@ module _ (c : tie.After-cells-given Inv-loop μ-loop) where
   abbrev A : tie.Start Inv-loop μ-loop
   A = S (L .before .before .before .before)
 
-  turned : Turn (A .args .timings .now) (L .loop .i) (L .loop .separator .residual) (c .cells-given .result) (c .before .before .step .result .next .residual)
+  turned : Turn (A .args .half-window) (A .args .timings .now) (L .loop .i) (L .loop .separator .residual) (c .cells-given .result) (c .before .before .step-by .result .next .residual)
   turned =
-      turn _ _ _ (A .pre .0) (c .before .before .before .before .loop-test .taken) (L .loop .inv .walked .kept)
-      (c .before .before .step .ensures .0) (c .before .before .step .ensures .1 .1) (c .cells-given .ensures)
+      turn _ _ _ _ (A .pre .0) (c .before .before .before .before .loop-test .taken) (L .loop .inv .walked .kept)
+      (c .before .before .step-by .ensures .0) (c .before .before .step-by .ensures .1 .1) (c .cells-given .ensures)
 
   within : L .loop .at + c .cells-given .result ≤ 131072
   within =
-      omega (arith, A .pre .1, filled-within (L .loop .inv) (A .pre .2) turned)
+      omega (arith, A .pre .1, filled-within (A .pre .4) (L .loop .inv) (A .pre .2) turned)
 
 put-cells-requires : tie.Need-put-cells-requires Inv-loop μ-loop
 put-cells-requires c κs = within (c .before)
@@ -75,7 +75,7 @@ loop-again : tie.Need-loop-again Inv-loop μ-loop
 loop-again c =
     let p = c .before .before .before in
     let d = p .before .before in
-    filled-next (L d .loop .inv) (A d .pre .2) (turned d) _
+    filled-next (A d .pre .4) (L d .loop .inv) (A d .pre .2) (turned d) _
     (p .put-cells .ensures) (p .put-cells .kept .0)
 
 same-length : tie.Need-same-length Inv-loop μ-loop
@@ -95,9 +95,9 @@ write-cells-spec =
     clear-requires
     new-requires
     loop-holds
-    mul-step
-    shared-slice-read-step
-    step-requires
+    mul-step-by
+    shared-slice-read-step-by
+    step-by-requires
     cells-given-requires
     put-cells-requires
     add-at

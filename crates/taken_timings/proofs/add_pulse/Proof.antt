@@ -14,7 +14,7 @@ border-pulses-at-requires : tie.Need-border-pulses-at-requires
 border-pulses-at-requires c κs = search needs
 
 add-result : tie.Need-add-result
-add-result c = omega (arith, one-at-most _ (c .border-pulses-at .ensures), c .before .if1 .taken)
+add-result c = omega (arith, one-at-most _ _ (c .border-pulses-at .ensures), c .before .if1 .taken)
 
 returns : tie.Need-returns
 returns c =

@@ -1,0 +1,21 @@
+-- `sector_records::find_id_mark` meets its contract. Assumes nothing.
+use mathlib.Core.Path.{_∙_}
+use Rattle.sector_records.proofs.Marks.{word-found, id-single, id-double}
+use borrow.Author.Needs.{needs}
+use Rattle.sector_records.proofs.find_id_mark.Statement.{statement}
+use Rattle.sector_records.proofs.find_id_mark.Tie as tie
+
+find-word-requires : tie.Need-find-word-requires
+find-word-requires c κs = search needs
+
+returns : tie.Need-returns
+returns c = word-found _ _ _ _ _ _ (c .find-word .ensures) ∙ id-single _ _ _ _ (c .before .if1 .taken)
+
+find-mark-requires : tie.Need-find-mark-requires
+find-mark-requires c κs = search needs
+
+returns-2 : tie.Need-returns-2
+returns-2 c = c .find-mark .ensures ∙ id-double _ _ _ _ (c .before .if1 .left)
+
+pub find-id-mark-spec : {M : Type 1} → statement M
+find-id-mark-spec = tie.close (tie.spec find-word-requires returns find-mark-requires returns-2)
