@@ -4,7 +4,30 @@ ghost use lib.ListN.{getD};
 ghost use Rattle.levels.specs.Levels.{levels};
 
 // From kind 1 on.
-const LEVELS: [u8; 22] = [1, 1, 3, 2, 2, 1, 1, 2, 2, 2, 2, 2, 1, 1, 1, 1, 1, 1, 3, 3, 1, 1];
+const LEVELS: [u8; 22] = [
+    1,
+    1,
+    3,
+    2,
+    2,
+    1,
+    1,
+    2,
+    2,
+    2,
+    2,
+    2,
+    1,
+    1,
+    1,
+    1,
+    1,
+    1,
+    3,
+    3,
+    1,
+    1,
+];
 
 // The level of a kind, which is given by its index, from 0; 0 where no kind has that index.
 pub fn level(k: usize) -> u32

@@ -8,6 +8,7 @@
 // passed, and a bool is 0 or 1. The routines ask nothing of the values.
 mod blocks;
 mod files;
+mod reads;
 
 pub use blocks::thikbromu_revolution_cells;
 pub use blocks::thikbromu_revolution_portion;
@@ -16,6 +17,8 @@ pub use files::thikbromu_file_cells;
 pub use files::thikbromu_file_listing;
 pub use files::thikbromu_listing;
 use findings::Finding;
+pub use reads::thikbromu_compare_reads;
+pub use reads::thikbromu_good_read;
 use telling::sector_numbers;
 use telling::told;
 use telling::told_read;

@@ -1,3 +1,4 @@
 pub mod Pairs
 pub mod Parts
 pub mod Branches
+pub mod Laws

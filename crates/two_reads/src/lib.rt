@@ -44,7 +44,12 @@ pub fn compare_reads(first: &[u8], second: &[u8], data_mark: u8) -> Compared
         return none(Counted::Count(0));
     }
     Compared {
-        numbers: [FUZZY, levels::level(FUZZY as usize - 1), place as u32, differing_bits(first, second)],
+        numbers: [
+            FUZZY,
+            levels::level(FUZZY as usize - 1),
+            place as u32,
+            differing_bits(first, second),
+        ],
         answer: Counted::Count(1),
     }
 }
@@ -56,7 +61,10 @@ pub fn good_read<'a>(first: &'a [u8], second: &'a [u8], data_mark: u8) -> &'a [u
 {
     let part = good_part(first, second, data_mark);
     match part {
-        GoodPart::Of { second: of_second, count } => {
+        GoodPart::Of {
+            second: of_second,
+            count,
+        } => {
             if of_second {
                 return &second[..count];
             }
