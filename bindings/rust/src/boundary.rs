@@ -6,7 +6,8 @@
 //! `side` are the drive's. A cell for which there is no byte is 0, and so are all cells of a track of none. A place may lie behind the
 //! index (rule 1.2).
 //!
-//! A refused call writes nothing, except that it sets the numbers of a record or the counts of a histogram to 0 (rules 8.31 and 8.32).
+//! A refused call writes nothing, except that it sets the numbers of a record or of the finding of two reads, or the counts of a histogram, to
+//! 0 (rules 8.31 and 8.32).
 //!
 //! ```
 //! use thikbromu::boundary::{finding_records, FindingRecord};
@@ -46,7 +47,7 @@ pub const PLACE_NUMBERS: usize = 2;
 #[repr(C)]
 #[derive(Clone, Copy, Debug, Default, PartialEq, Eq)]
 pub struct FindingRecord {
-    /// The number of its [`Kind`](crate::Kind), 1 to 21.
+    /// The number of its [`Kind`](crate::Kind), 1 to 21: no track has kind 22.
     pub kind: u8,
     /// The kind's level, 1 to 3.
     pub level: u8,
@@ -162,6 +163,25 @@ extern "C" {
         room: usize,
         value: *mut usize,
     ) -> u32;
+    fn thikbromu_compare_reads(
+        first: *const u8,
+        first_length: usize,
+        second: *const u8,
+        second_length: usize,
+        data_mark: u32,
+        numbers: *mut u32,
+        room: usize,
+        value: *mut usize,
+    ) -> u32;
+    fn thikbromu_good_read(
+        first: *const u8,
+        first_length: usize,
+        second: *const u8,
+        second_length: usize,
+        data_mark: u32,
+        which: *mut usize,
+        value: *mut usize,
+    ) -> u32;
     fn thikbromu_file_cells(
         file: *const u8,
         length: usize,
@@ -196,7 +216,7 @@ fn answer(call: impl FnOnce(&mut usize) -> u32) -> Result<usize, Refusal> {
 
 #[cold]
 fn refusal_of(number: u32, value: usize) -> Refusal {
-    Refusal::try_from((number, value)).expect("the library gives refusals 1 to 17 alone")
+    Refusal::try_from((number, value)).expect("the library gives refusals 1 to 19 alone")
 }
 
 /// The cell at a place, 0 or 1.
@@ -494,6 +514,41 @@ pub fn finding_records(
             list.len(),
             value,
         )
+    })
+}
+
+/// Compares two reads of one sector (rules 9.51 and 9.53). Gives how many findings they have: 0 where they are equal, and else 1. Its four
+/// numbers go to the front of `numbers`, or as many as there is room for: kind, level, the index of the first byte that differs, and how many
+/// bits differ. They are 0 where there is no finding. [`compare_reads`](crate::compare_reads) says what a read is. Of a data mark above 255
+/// the low byte counts.
+///
+/// Refuses [`LengthsDiffer`](Refusal::LengthsDiffer), [`NotASectorLength`](Refusal::NotASectorLength), all numbers then 0.
+#[inline]
+pub fn compare_reads(first: &[u8], second: &[u8], data_mark: u32, numbers: &mut [u32]) -> Result<usize, Refusal> {
+    // SAFETY: each address and length are those of one slice; `numbers` and `value` are lent to this call alone.
+    answer(|value| unsafe {
+        thikbromu_compare_reads(
+            first.as_ptr(),
+            first.len(),
+            second.as_ptr(),
+            second.len(),
+            data_mark,
+            numbers.as_mut_ptr(),
+            numbers.len(),
+            value,
+        )
+    })
+}
+
+/// Which of two reads has a good check (rules 9.52 and 9.54): `which` becomes 0 for the first, also where both are good, and 1 for the second.
+/// Gives how many data bytes it has. Both are 0 where neither check is good. Of a data mark above 255 the low byte counts.
+///
+/// Refuses [`LengthsDiffer`](Refusal::LengthsDiffer), [`NotASectorLength`](Refusal::NotASectorLength), `which` then 0.
+#[inline]
+pub fn good_read(first: &[u8], second: &[u8], data_mark: u32, which: &mut usize) -> Result<usize, Refusal> {
+    // SAFETY: each address and length are those of one slice; `which` and `value` are lent to this call alone.
+    answer(|value| unsafe {
+        thikbromu_good_read(first.as_ptr(), first.len(), second.as_ptr(), second.len(), data_mark, which, value)
     })
 }
 

@@ -34,6 +34,7 @@ mod sector;
 mod track;
 mod track_block;
 mod track_file;
+mod two_reads;
 
 #[doc(inline)]
 pub use boundary::{check_word, check_word_from, clear, decode, encode, put_one};
@@ -48,3 +49,4 @@ pub use sector::{ReadOut, Sector, SectorData, Sectors, LONGEST_SECTOR};
 pub use track::{Track, FEWEST_CELLS, HIGHEST_SIDE, HIGHEST_TRACK, MOST_CELLS, MOST_CELL_BYTES, MOST_SECTORS};
 pub use track_block::{RevolutionReader, TakenPortion, TrackBlock};
 pub use track_file::{TrackCells, TrackFile, LONGEST_FILE, LONGEST_LISTING};
+pub use two_reads::{compare_reads, good_read, CHECK_BYTES, LONGEST_READ};
