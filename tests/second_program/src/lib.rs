@@ -17,3 +17,4 @@ pub mod sectors;
 pub mod separator;
 pub mod track_block;
 pub mod track_file;
+pub mod two_reads;

@@ -11,5 +11,6 @@ pub mod block_inputs;
 pub mod file_inputs;
 pub mod flux_inputs;
 pub mod random;
+pub mod read_pairs;
 pub mod size_code_tracks;
 pub mod track_builder;
