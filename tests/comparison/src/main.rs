@@ -18,6 +18,7 @@ mod report;
 mod sectors;
 mod terms;
 mod track_cells;
+mod two_reads;
 
 use report::Report;
 use std::collections::BTreeMap;
@@ -28,7 +29,7 @@ use std::thread;
 type Part = fn(&mut Report);
 
 /// The parts, by their modules. The long ones come first, so that no worker is left alone with one at the end.
-const PARTS: [(&str, Part); 43] = [
+const PARTS: [(&str, Part); 45] = [
     ("files", files::in_memory),
     ("findings", findings::any_tracks),
     ("sectors", sectors::standard),
@@ -45,6 +46,8 @@ const PARTS: [(&str, Part); 43] = [
     ("program", program::portions),
     ("blocks", blocks::timings),
     ("blocks", blocks::short_rooms),
+    ("two_reads", two_reads::pairs),
+    ("two_reads", two_reads::data_marks),
     ("terms", terms::tables),
     ("track_cells", track_cells::reading),
     ("track_cells", track_cells::finding),
