@@ -17,26 +17,35 @@ use Rattle.two_reads.specs.declared.GoodPart.{GoodPart}
 use Rattle.two_reads.specs.declared.GoodPart.the-variants.{Of, Refused}
 
 -- a part of reads that lies within the one that it is of
-abbrev Within : (first second : List ℕ) → Part → Type 0
-Within first second part = part .count ≤ length (cond (part .second) second first)
+record Within (first second : List ℕ) (part : Part) : Type 0 where
+  few : part .count ≤ length (cond (part .second) second first)
+
+either : (first second : List ℕ) (b : Bool) {x y : Part} → Within first second x → Within first second y → Within first second (cond b x y)
+either first second true p q = p
+either first second false p q = q
+
+of-first : (first second : List ℕ) → Within first second (record { second = false; count = dataBytes first })
+of-first first second = record { few = omega arith }
+
+of-second : (first second : List ℕ) → Within first second (record { second = true; count = dataBytes second })
+of-second first second = record { few = omega arith }
+
+of-none : (first second : List ℕ) → Within first second emptyPart
+of-none first second = record { few = omega arith }
+
+good-within : (first second : List ℕ) (mark : ℕ) → Within first second (goodPartOf first second mark)
+unfolding goodPartOf
+good-within first second mark = search (either, of-first, of-second, of-none)
 
 within : (first second : List ℕ) (mark : ℕ) → Within first second (partGiven (partAnswer first second mark))
-unfolding partAnswer pairJudged goodPartOf
-within first second mark = go (eqb (length first) (length second)) (isReadLength (length first)) (checkIsGood first mark) (checkIsGood second mark)
+unfolding partAnswer pairJudged
+within first second mark = go (eqb (length first) (length second)) (isReadLength (length first)) (good-within first second mark)
   where
-    go : (a b c d : Bool)
-        → Within first second
-        (partGiven
-        (cond a
-        (cond b
-        (gives (cond c (record { second = false; count = dataBytes first }) (cond d (record { second = true; count = dataBytes second }) emptyPart)))
-        (refusedWith NotASectorLength))
-        (refusedWith LengthsDiffer)))
-    go false b c d = omega arith
-    go true false c d = omega arith
-    go true true true d = omega arith
-    go true true false true = omega arith
-    go true true false false = omega arith
+    go : (a b : Bool) {part : Part} → Within first second part
+        → Within first second (partGiven (cond a (cond b (gives part) (refusedWith NotASectorLength)) (refusedWith LengthsDiffer)))
+    go false b h = of-none first second
+    go true false h = of-none first second
+    go true true h = h
 
 -- what the code's answer says of the part
 module _ (first second : List ℕ) (mark : ℕ) {answer : GoodPart} (e : goodPartAnswer answer ≡ partAnswer first second mark) where
@@ -47,7 +56,7 @@ module _ (first second : List ℕ) (mark : ℕ) {answer : GoodPart} (e : goodPar
   none-is p = ap partGiven (rw p at e)
 
   pub fits : {b : Bool} {n : ℕ} → answer ≡ Of b n → (side : Bool) → b ≡ side → n ≤ length (cond side second first)
-  fits {b} {n} p side s = rw (← s) (rw (← part-is p) at (within first second mark))
+  fits {b} {n} p side s = rw (← s) ((rw (← part-is p) at (within first second mark)) .few)
 
 -- a slice is the part
 module _ (first second : RefT (List ℕ)) (mark : ℕ) {answer : GoodPart} (e : goodPartAnswer answer ≡ partAnswer (now first) (now second) mark) where

@@ -21,10 +21,12 @@ unfolding partAnswer
 returns-2 c = sym (no-read-length _ _ _ (c .before .before .if1 .left) (sym (c .before .is-read-length .ensures) ∙ not-true _ (c .if2 .taken)))
 
 is-good-requires : tie.Need-is-good-requires
-is-good-requires c κs = bounds _ (sym (c .before .is-read-length .ensures) ∙ not-false _ (c .if2 .left)) .0
+is-good-requires c κs = omega (arith, c .before .before .if1 .left, bounds _ (sym (c .before .is-read-length .ensures) ∙ not-false _ (c .if2 .left)) .0)
 
 sub-t12 : tie.Need-sub-t12
-sub-t12 c = bounds _ (sym (c .before .before .before .is-read-length .ensures) ∙ not-false _ (c .before .before .if2 .left)) .0
+sub-t12 c =
+    let t = c .before .before in
+    omega (arith, t .before .before .if1 .left, bounds _ (sym (t .before .is-read-length .ensures) ∙ not-false _ (t .if2 .left)) .0)
 
 returns-3 : tie.Need-returns-3
 unfolding partAnswer goodPartOf
@@ -35,12 +37,12 @@ returns-3 c =
 is-good-requires-2 : tie.Need-is-good-requires-2
 is-good-requires-2 c κs =
     let t = c .before .before in
-    rw (← t .before .before .if1 .left) (bounds _ (sym (t .before .is-read-length .ensures) ∙ not-false _ (t .if2 .left)) .0)
+    omega (arith, t .before .before .if1 .left, bounds _ (sym (t .before .is-read-length .ensures) ∙ not-false _ (t .if2 .left)) .0)
 
 sub-t15 : tie.Need-sub-t15
 sub-t15 c =
     let t = c .before .before .before .before in
-    rw (← t .before .before .if1 .left) (bounds _ (sym (t .before .is-read-length .ensures) ∙ not-false _ (t .if2 .left)) .0)
+    omega (arith, t .before .before .if1 .left, bounds _ (sym (t .before .is-read-length .ensures) ∙ not-false _ (t .if2 .left)) .0)
 
 returns-4 : tie.Need-returns-4
 unfolding partAnswer goodPartOf
