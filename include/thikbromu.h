@@ -6,8 +6,8 @@
  *
  * Answers (rules 8.31 to 8.33 and 9.31). A routine of which some calls are refused returns 0 where it accepts the call, else the refusal's
  * number (enum thikbromu_refusal). At `value` it stores what the call gives, or what is given beside the refusal. A refused call writes
- * nothing else, except that it sets the numbers of a record or the counts of a histogram to 0. The refusals of a routine are judged in the
- * order in which its comment names them, and the first that holds is given.
+ * nothing else, except that it sets the numbers of a record, of a histogram or of the finding of two reads to 0. The refusals of a routine
+ * are judged in the order in which its comment names them, and the first that holds is given.
  *
  * What a caller must see to:
  * - each address is valid for its length, counted in elements, and aligned for its type; it is not NULL, also where the length is 0;
@@ -101,7 +101,7 @@ enum thikbromu_kind {
     THIKBROMU_KIND_SID = 19,  /* level 3: syncs stand in the ID or in the data (rule 7.38); detail: how many */
     THIKBROMU_KIND_MTV = 20,  /* level 3: ones with a distance of 1, or of 5 or more, to the next; place: the first, detail: how many */
     THIKBROMU_KIND_NFA = 21,  /* level 1: a run of 1,000 zeros or more; place: the start of the longest, detail: its length */
-    THIKBROMU_KIND_FZD = 22   /* level 1: two reads of a sector differ; place: the index of the first byte that does, detail: how many bits */
+    THIKBROMU_KIND_FZD = 22   /* level 1: two reads of a sector differ; place: the least index at which they do, detail: how many bits */
 };
 
 /* A finding (rule 7.31): its kind, the level of the kind, its place in cells, and its detail. Two bytes lie unused after the level, so
@@ -250,8 +250,8 @@ uint32_t thikbromu_finding_records(const uint8_t *bytes, size_t length, size_t n
  */
 
 /* Compares two reads (rules 9.51 and 9.53). Gives how many findings they have: 0 where they are equal, and else 1, which is FZD. Its four
- * numbers go to the front of `numbers`, or as many as there is room for: kind, level, the index of the first byte that differs, and how many
- * bits differ in all. The check bytes count too. Where there is no finding and beside a refusal the numbers are 0. */
+ * numbers go to the front of `numbers`, or as many as there is room for: kind, level, the least index at which the reads differ, and how many
+ * bits differ. The check bytes count too. Where there is no finding and beside a refusal the numbers are 0. */
 uint32_t thikbromu_compare_reads(const uint8_t *first, size_t first_length, const uint8_t *second, size_t second_length, uint32_t data_mark,
                                  uint32_t *numbers, size_t room, size_t *value);
 

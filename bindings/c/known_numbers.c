@@ -1,5 +1,5 @@
 /*
- * The numbers that docs/SPECIFICATION.md gives to know (rules 1.17, 2.4, 3.13, 3.14, 6.19 and 11.10), and a small track block, through
+ * The numbers that docs/SPECIFICATION.md gives to know (rules 1.17, 2.4, 3.13, 3.14, 6.19, 11.10 and 14.10), and a small track block, through
  * include/thikbromu.h: every routine is called, and every refusal is given.
  * The argument is samples/standard.track. It compiles as C99 and as C++.
  */
@@ -315,7 +315,7 @@ static void test_standard_track(const uint8_t *cells)
     REFUSES(thikbromu_read_out(room, TRACK_BYTES, TRACK_CELLS, 0, 0, 0, data, sizeof data, &good, &value), NO_DATA, 0);
 }
 
-/* Two reads of a sector: 512 bytes E5 after the mark FB, whose check bytes are C4 0B, and the same with bits changed. */
+/* Two reads of a sector, as rule 14.10 has them. */
 static void test_two_reads(void)
 {
     enum { LENGTH = 512 + THIKBROMU_CHECK_BYTES };

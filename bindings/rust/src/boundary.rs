@@ -518,7 +518,7 @@ pub fn finding_records(
 }
 
 /// Compares two reads of one sector (rules 9.51 and 9.53). Gives how many findings they have: 0 where they are equal, and else 1. Its four
-/// numbers go to the front of `numbers`, or as many as there is room for: kind, level, the index of the first byte that differs, and how many
+/// numbers go to the front of `numbers`, or as many as there is room for: kind, level, the least index at which the reads differ, and how many
 /// bits differ. They are 0 where there is no finding. [`compare_reads`](crate::compare_reads) says what a read is. Of a data mark above 255
 /// the low byte counts.
 ///

@@ -53,7 +53,7 @@ pub enum Kind {
     Mtv = 20,
     /// A run of 1,000 zeros or more. Place: the start of the longest. Detail: its length.
     Nfa = 21,
-    /// Two reads of a sector differ. Place: the index of the first byte that does. Detail: how many bits do. No track has it.
+    /// Two reads of a sector differ. Place: the least index of a byte that does. Detail: how many bits do. No track has it.
     Fzd = 22,
 }
 
@@ -158,7 +158,8 @@ impl Error for NotAKind {}
 pub struct Finding {
     /// What was found.
     pub kind: Kind,
-    /// Where, in cells: the sector's place for the kinds on sectors, 0 for those on the whole track. Of [`Fzd`](Kind::Fzd) the index of a byte.
+    /// Where, in cells: the sector's place for the kinds on sectors, 0 for those on the whole track. For [`Fzd`](Kind::Fzd) it is the index
+    /// of a byte.
     pub place: u32,
     /// What [`Kind`] says of it.
     pub detail: u32,

@@ -12,7 +12,7 @@ pub const CHECK_BYTES: usize = 2;
 pub const LONGEST_READ: usize = LONGEST_SECTOR + CHECK_BYTES;
 
 /// Compares two reads of one sector (rules 14.2 to 14.5). A read is the data bytes, 128, 256, 512 or 1,024, with the two check bytes behind
-/// them. Equal reads have no finding; others have [`Fzd`](Kind::Fzd), whose place is the index of the first byte that differs and whose
+/// them. Equal reads have no finding; others have [`Fzd`](Kind::Fzd), whose place is the least index at which they differ and whose
 /// detail is how many bits differ. A sector that gives such reads is weak.
 ///
 /// Refuses [`LengthsDiffer`](Refusal::LengthsDiffer), [`NotASectorLength`](Refusal::NotASectorLength).

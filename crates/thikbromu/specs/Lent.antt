@@ -1,6 +1,6 @@
--- Section 9 of the specification, rules 9.34, 9.35 and 9.53: the list that a caller from C lends for a record, for counts or for the finding
+-- Section 9 of the specification, rules 9.34, 9.35, 9.53 and 9.55: the list that a caller from C lends for a record, for counts or for the finding
 -- of two reads, after the call. The main property: it gets as much as it has room for, and all zeros beside a refusal. Assumes nothing.
-use Prim.Native.Nat.{ℕ}
+use Prim.Native.Nat.{ℕ, _%_}
 use mathlib.Core.List.{List}
 use lib.ListN.{length, take}
 use Rattle.basis.specs.Lists.{writtenOver}
@@ -21,3 +21,7 @@ recordLent bytes N T H index list =
 -- 8.32, 9.53: a list lent for the finding of two reads after their comparison: its four numbers at the front, or as many as there is room for
 abbrev pub findingLent : (first second : List ℕ) → List ℕ → List ℕ
 findingLent first second list = writtenOver (take (length list) (numbersGiven (comparison first second) (fuzzyNumbers first second))) list
+
+-- 9.55: what counts of a number that is given as a data mark: its low byte
+abbrev pub lowByte : ℕ → ℕ
+lowByte mark = mark % 256

@@ -2,7 +2,7 @@
 //
 // A routine of which some calls are refused returns a number: 0 where the call is accepted, else the number of the refusal (section 8 of
 // the specification). What the call gives, or what is given beside the refusal, is stored at `value`; beside a refusal nothing else is
-// written, but that a record or a table of counts is set to zeros (rule 8.32).
+// written, but that a record, a table of counts or the finding of two reads is set to zeros (rule 8.32).
 //
 // What the boundary asks of a caller in another language: each address is valid for its length, lent memory does not overlap what else is
 // passed, and a bool is 0 or 1. The routines ask nothing of the values.

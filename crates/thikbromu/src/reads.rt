@@ -2,14 +2,13 @@
 use telling::told;
 use telling::told_part;
 ghost use mathlib.Core.Path.{_≡_};
-ghost use Prim.Native.Nat.{_%_};
 ghost use Rattle.telling.specs.Numbers.{numberIn, valueIn, partLength, whichRead};
-ghost use Rattle.thikbromu.specs.Lent.{findingLent};
+ghost use Rattle.thikbromu.specs.Lent.{findingLent, lowByte};
 ghost use Rattle.two_reads.specs.Comparison.{comparison};
 ghost use Rattle.two_reads.specs.GoodRead.{partAnswer};
 
 // Compares two reads; `value` is how many findings they have, 0 or 1. The finding, FZD, is four numbers at the front of `numbers`: kind,
-// level, the index of the first byte that differs, and how many bits differ; zeros where there is none and beside a refusal.
+// level, the least index at which the reads differ, and how many bits differ; zeros where there is none and beside a refusal.
 #[no_mangle]
 pub extern "C" fn thikbromu_compare_reads(
     first: &[u8],
@@ -39,9 +38,9 @@ pub extern "C" fn thikbromu_good_read(
     which: &mut usize,
     value: &mut usize,
 ) -> u32
-    ensures number { λ r. ⌜ r ≡ numberIn (partAnswer (now (first .entry)) (now (second .entry)) («data_mark» % 256)) ⌝ }
-    ensures value { λ _. ⌜ now (value .exit) ≡ partLength (partAnswer (now (first .entry)) (now (second .entry)) («data_mark» % 256)) ⌝ }
-    ensures which { λ _. ⌜ now (which .exit) ≡ whichRead (partAnswer (now (first .entry)) (now (second .entry)) («data_mark» % 256)) ⌝ }
+    ensures number { λ r. ⌜ r ≡ numberIn (partAnswer (now (first .entry)) (now (second .entry)) (lowByte «data_mark»)) ⌝ }
+    ensures value { λ _. ⌜ now (value .exit) ≡ partLength (partAnswer (now (first .entry)) (now (second .entry)) (lowByte «data_mark»)) ⌝ }
+    ensures which { λ _. ⌜ now (which .exit) ≡ whichRead (partAnswer (now (first .entry)) (now (second .entry)) (lowByte «data_mark»)) ⌝ }
 {
     told_part(
         two_reads::good_part(first, second, low_byte(data_mark)),
@@ -52,7 +51,7 @@ pub extern "C" fn thikbromu_good_read(
 
 // A data mark above 255 counts as its low byte.
 fn low_byte(x: u32) -> u8
-    ensures { λ r. ⌜ r ≡ x % 256 ⌝ }
+    ensures { λ r. ⌜ r ≡ lowByte x ⌝ }
 {
     (x % 256) as u8
 }

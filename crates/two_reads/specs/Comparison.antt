@@ -30,7 +30,7 @@ pairJudged first second next =
 abbrev pub differAt : (first second : List ℕ) → ℕ → Bool
 differAt first second i = not (eqb (getD first i 0) (getD second i 0))
 
--- 14.3: the index of the first byte that differs; the number of bytes where none does
+-- 14.3: the least index at which the reads differ; the number of bytes where there is none
 unfoldable pub firstDifference : (first second : List ℕ) → ℕ
 firstDifference first second = least (differAt first second) (length first) 0
 

@@ -27,8 +27,8 @@ pub enum GoodPart {
 // The kind of the finding: FZD.
 pub const FUZZY: u32 = 22;
 
-// FZD, where two reads differ: its place is the index of the first byte that differs, its detail how many bits differ. The data mark is
-// part of no read, so it changes nothing here.
+// FZD, where two reads differ: its place is the least index at which they do, its detail how many bits differ. The data mark is part of no
+// read, so it changes nothing here.
 pub fn compare_reads(first: &[u8], second: &[u8], data_mark: u8) -> Compared
     ensures answer { λ r. ⌜ countedAnswer (r .answer) ≡ comparison (now (first .entry)) (now (second .entry)) ⌝ }
     ensures numbers { λ r. ⌜ r .numbers ≡ numbersGiven (comparison (now (first .entry)) (now (second .entry))) (fuzzyNumbers (now (first .entry)) (now (second .entry))) ⌝ }
@@ -122,7 +122,7 @@ fn is_read_length(n: usize) -> bool
     (n == 130) | (n == 258) | (n == 514) | (n == 1026)
 }
 
-// The index of the first byte that differs; the number of bytes where none does.
+// The least index at which the reads differ; the number of bytes where there is none.
 fn first_difference(first: &[u8], second: &[u8]) -> usize
     requires { ⌜ length (now first) ≡ length (now second) ⌝ }
     ensures { λ r. ⌜ r ≡ firstDifference (now (first .entry)) (now (second .entry)) ⌝ }
