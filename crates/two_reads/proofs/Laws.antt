@@ -1,7 +1,7 @@
 -- What follows of kind 22 from the definitions: two reads that are accepted have no finding exactly where they are equal. Assumes nothing.
-use Prim.Native.Nat.{ℕ, zero, suc, _+_, _≤_, _<_, zero-le}
-use mathlib.Core.Path.{_≡_, refl, sym, ap, _∙_}
-use mathlib.Core.Bool.{Bool, true, false, not, cond}
+use Prim.Native.Nat.{ℕ, _≤_, zero-le}
+use mathlib.Core.Path.{_≡_, refl, sym}
+use mathlib.Core.Bool.{Bool, true, false, cond}
 use mathlib.Core.List.{List}
 use native.Mathlib.Omega.{arith}
 use borrow.Author.Tests.{eqb-true, ltb-false, eq-eqb, not-false}
@@ -9,7 +9,7 @@ use lib.Dec.{eqb, ltb}
 use lib.ListN.{length, getD}
 use lib.Seq.{ext-getD}
 use Rattle.basis.proofs.Search.{least-before, least-none}
-use Rattle.refusals.specs.RefusedCalls.{Answer, refusedWith}
+use Rattle.refusals.specs.RefusedCalls.{refusedWith}
 use Rattle.refusals.specs.RefusedCalls.Answer.{gives}
 use Rattle.refusals.specs.declared.Refusal.the-variants.{LengthsDiffer, NotASectorLength}
 use Rattle.two_reads.specs.Comparison.{isReadLength, pairJudged, differAt, firstDifference, comparison}

@@ -1,18 +1,18 @@
 -- The part that is handed back: it lies within the read that it is of, and a slice of that read is the part. Assumes nothing.
 use Prim.Native.Nat.{ℕ, _≤_}
 use denote.Ref.{RefT, ptr, now}
-use mathlib.Core.Path.{_≡_, refl, sym, ap}
+use mathlib.Core.Path.{_≡_, ap}
 use mathlib.Core.Bool.{Bool, true, false, cond}
 use mathlib.Core.List.{List}
 use native.Mathlib.Omega.{arith}
 use lib.Dec.{eqb}
 use lib.ListN.{length, take}
-use Rattle.refusals.specs.RefusedCalls.{Answer, refusedWith}
+use Rattle.refusals.specs.RefusedCalls.{refusedWith}
 use Rattle.refusals.specs.RefusedCalls.Answer.{gives}
 use Rattle.refusals.specs.declared.Refusal.{Refusal}
 use Rattle.refusals.specs.declared.Refusal.the-variants.{LengthsDiffer, NotASectorLength}
 use Rattle.two_reads.specs.Comparison.{isReadLength, pairJudged}
-use Rattle.two_reads.specs.GoodRead.{dataBytes, checkIsGood, Part, emptyPart, goodPartOf, partAnswer, goodPartAnswer, partGiven, IsPart}
+use Rattle.two_reads.specs.GoodRead.{dataBytes, Part, emptyPart, goodPartOf, partAnswer, goodPartAnswer, partGiven, IsPart}
 use Rattle.two_reads.specs.declared.GoodPart.{GoodPart}
 use Rattle.two_reads.specs.declared.GoodPart.the-variants.{Of, Refused}
 

@@ -166,11 +166,11 @@ fn is_good(read: &[u8], data_mark: u8) -> bool
     let size = read.len() - CHECK_BYTES;
     let before = crc::check_word(&[0xA1, 0xA1, 0xA1, data_mark]);
     let word = crc::check_word_from(before, &read[..size]);
-    word == joined(read[size], read[size + 1])
+    word == check_bytes(read[size], read[size + 1])
 }
 
 // Two check bytes as one number.
-fn joined(high: u8, low: u8) -> u16
+fn check_bytes(high: u8, low: u8) -> u16
     ensures { λ r. ⌜ r ≡ high * 256 + low ⌝ }
 {
     wide(high) * 256 + wide(low)

@@ -1,5 +1,5 @@
 -- `two_reads::first_difference` meets its contract: what is left of the search finds what all of it does. Assumes nothing.
-use Prim.Native.Nat.{ℕ, _+_, _-_, _≤_, _<_}
+use Prim.Native.Nat.{ℕ, _-_, _≤_}
 use mathlib.Core.Path.{_≡_, refl, sym, _∙_}
 use mathlib.Core.Bool.{not, true, false}
 use native.Mathlib.Nat.{sub-zero}
