@@ -23,8 +23,8 @@ fn judge_reads(first: &[u8], second: &[u8]) -> Result<(), Refusal> {
     Ok(())
 }
 
-/// Compares two reads of one sector: FZD where they differ. Its place is the index of the
-/// first byte that differs, its detail the number of bits that differ. Check bytes count
+/// Compares two reads of one sector: FZD where they differ. Its place counts the bytes before
+/// the first difference, its detail the bits that are not the same. Check bytes count
 /// like data bytes, and the data mark decides nothing here. Refusals in order: 18, 19.
 pub fn compare_reads(
     first: &[u8],
@@ -63,8 +63,8 @@ pub struct GoodRead<'a> {
     pub part: &'a [u8],
 }
 
-/// The data of the read whose check is good: of the first where both are, an empty part of
-/// the first where neither is. Reads that cannot be compared have no good one.
+/// The data of the read whose check is good: that of the first read goes before. Without a
+/// good check, and of reads that cannot be compared, it is empty and counts as the first's.
 pub fn good_read<'a>(first: &'a [u8], second: &'a [u8], data_mark: u8) -> GoodRead<'a> {
     if compare_reads(first, second, data_mark).is_ok() {
         for (read, bytes) in [first, second].into_iter().enumerate() {
