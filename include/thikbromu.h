@@ -6,8 +6,8 @@
  *
  * Answers (rules 8.31 to 8.33 and 9.31). A routine of which some calls are refused returns 0 where it accepts the call, else the refusal's
  * number (enum thikbromu_refusal). At `value` it stores what the call gives, or what is given beside the refusal. A refused call writes
- * nothing else, except that it sets the numbers of a record or the counts of a histogram to 0. The refusals of a routine are judged in the
- * order in which its comment names them, and the first that holds is given.
+ * nothing else, except that it sets the numbers of a record, of a histogram or of the finding of two reads to 0. The refusals of a routine
+ * are judged in the order in which its comment names them, and the first that holds is given.
  *
  * What a caller must see to:
  * - each address is valid for its length, counted in elements, and aligned for its type; it is not NULL, also where the length is 0;
@@ -47,6 +47,8 @@ extern "C" {
 #define THIKBROMU_FINDING_NUMBERS 4
 #define THIKBROMU_MOST_FINDINGS 901 /* no track of 64 sectors brings more (rule 7.35) */
 #define THIKBROMU_LONGEST_SECTOR 1024
+#define THIKBROMU_CHECK_BYTES 2
+#define THIKBROMU_LONGEST_READ 1026 /* the longest sector with its check bytes */
 #define THIKBROMU_PLACE_NUMBERS 2 /* the track and the side */
 #define THIKBROMU_LONGEST_LISTING 65536
 #define THIKBROMU_LONGEST_FILE 278542 /* both sections at their longest; a longer file is answered as its first 278,543 bytes are */
@@ -69,12 +71,15 @@ enum thikbromu_refusal {
     THIKBROMU_REFUSED_TOO_MANY_BYTES = 14,      /* over 8,192 bytes to code, or 16,384 to decode; how many */
     THIKBROMU_REFUSED_NOT_A_TRACK_FILE = 15,    /* the bytes are no track file; 0 */
     THIKBROMU_REFUSED_NOT_A_TRACK_BLOCK = 16,   /* the bytes are no track block; 0 */
-    THIKBROMU_REFUSED_NO_SUCH_REVOLUTION = 17   /* the block has no such revolution; 0 */
+    THIKBROMU_REFUSED_NO_SUCH_REVOLUTION = 17,  /* the block has no such revolution; 0 */
+    THIKBROMU_REFUSED_LENGTHS_DIFFER = 18,      /* two reads of a sector differ in length; 0 */
+    THIKBROMU_REFUSED_NOT_A_SECTOR_LENGTH = 19  /* the reads have not 130, 258, 514 or 1,026 bytes; 0 */
 };
 
-/* The kinds of findings by their numbers, with their levels: rule 7.K is that of kind K. T is the track of the drive, N how many cells
- * there are, p the place of a sector, q that of its data mark. The finding's place is 0 for kinds 1 to 5 and p for kinds 6 to 19. The
- * numbers of LGT, SHT, NOS, SSZ, SID and MTV are those of double density; the routines of single density below have others. */
+/* The kinds of findings by their numbers, with their levels: rule 7.K is that of kind K, up to 21. T is the track of the drive, N how many
+ * cells there are, p the place of a sector, q that of its data mark. The finding's place is 0 for kinds 1 to 5 and p for kinds 6 to 19. The
+ * numbers of LGT, SHT, NOS, SSZ, SID and MTV are those of double density; the routines of single density below have others. Kind 22 is that
+ * of two reads (rule 14.3), and no track has it. */
 enum thikbromu_kind {
     THIKBROMU_KIND_LGT = 1,   /* level 1: N is more than 103,000; detail: N */
     THIKBROMU_KIND_SHT = 2,   /* level 1: N is less than 97,000; detail: N */
@@ -96,7 +101,8 @@ enum thikbromu_kind {
     THIKBROMU_KIND_SWS = 18,  /* level 1: the data of another sector covers p (rule 7.37); detail: the number */
     THIKBROMU_KIND_SID = 19,  /* level 3: syncs stand in the ID or in the data (rule 7.38); detail: how many */
     THIKBROMU_KIND_MTV = 20,  /* level 3: ones with a distance of 1, or of 5 or more, to the next; place: the first, detail: how many */
-    THIKBROMU_KIND_NFA = 21   /* level 1: a run of 1,000 zeros or more; place: the start of the longest, detail: its length */
+    THIKBROMU_KIND_NFA = 21,  /* level 1: a run of 1,000 zeros or more; place: the start of the longest, detail: its length */
+    THIKBROMU_KIND_FZD = 22   /* level 1: two reads of a sector differ; place: the least index at which they do, detail: how many bits */
 };
 
 /* A finding (rule 7.31): its kind, the level of the kind, its place in cells, and its detail. Two bytes lie unused after the level, so
@@ -272,6 +278,24 @@ uint32_t thikbromu_fm_findings(const uint8_t *bytes, size_t length, size_t n, ui
 /* As thikbromu_finding_records. */
 uint32_t thikbromu_fm_finding_records(const uint8_t *bytes, size_t length, size_t n, uint32_t track, uint32_t side,
                                       struct thikbromu_finding *list, size_t room, size_t *value);
+
+/*
+ * Two reads of one sector (rules 14.1 to 14.9): of each the data bytes, 128, 256, 512 or 1,024, with the two check bytes behind them, the
+ * high one first. `data_mark` is the byte of the data mark, by which the check goes; any byte will do, and of a greater number the low byte
+ * counts. Both routines refuse 18 where the lengths differ, and then 19 where the length is another.
+ */
+
+/* Compares two reads (rules 9.51 and 9.53). Gives how many findings they have: 0 where they are equal, and else 1, which is FZD. Its four
+ * numbers go to the front of `numbers`, or as many as there is room for: kind, level, the least index at which the reads differ, and how many
+ * bits differ. The check bytes count too. Where there is no finding and beside a refusal the numbers are 0. */
+uint32_t thikbromu_compare_reads(const uint8_t *first, size_t first_length, const uint8_t *second, size_t second_length, uint32_t data_mark,
+                                 uint32_t *numbers, size_t room, size_t *value);
+
+/* Says which of two reads has a good check (rules 9.52 and 9.54): `which` becomes 0 for the first, also where both are good, and 1 for the
+ * second. Gives how many data bytes it has, which are the front of that read. Both are 0 where neither check is good, and beside a
+ * refusal. */
+uint32_t thikbromu_good_read(const uint8_t *first, size_t first_length, const uint8_t *second, size_t second_length, uint32_t data_mark,
+                             size_t *which, size_t *value);
 
 /*
  * A track file, whole in memory (rules 10.1 to 10.3): the number 2, the track and the side; how many cells there are, and these, packed; how

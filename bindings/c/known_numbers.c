@@ -1,5 +1,5 @@
 /*
- * The numbers that docs/SPECIFICATION.md gives to know (rules 1.17, 2.4, 3.13, 3.14, 6.19 and 11.10), a small track block, and a track of
+ * The numbers that docs/SPECIFICATION.md gives to know (rules 1.17, 2.4, 3.13, 3.14, 6.19, 11.10 and 14.10), a small track block, and a track of
  * single density, through include/thikbromu.h: every routine is called, and every refusal is given.
  * The argument is samples/standard.track. It compiles as C99 and as C++.
  */
@@ -313,6 +313,44 @@ static void test_standard_track(const uint8_t *cells)
     memcpy(room, cells, TRACK_BYTES);
     thikbromu_clear(room + (1152 + 704) / 8, 6, 6);
     REFUSES(thikbromu_read_out(room, TRACK_BYTES, TRACK_CELLS, 0, 0, 0, data, sizeof data, &good, &value), NO_DATA, 0);
+}
+
+/* Two reads of a sector, as rule 14.10 has them. */
+static void test_two_reads(void)
+{
+    enum { LENGTH = 512 + THIKBROMU_CHECK_BYTES };
+    uint8_t first[LENGTH];
+    uint8_t second[LENGTH];
+    uint32_t numbers[THIKBROMU_FINDING_NUMBERS + 1] = {7, 7, 7, 7, 7};
+    size_t which = 77;
+    memset(first, 0xE5, sizeof first);
+    first[512] = 0xC4;
+    first[513] = 0x0B;
+    memcpy(second, first, sizeof second);
+
+    GIVES(thikbromu_compare_reads(first, LENGTH, second, LENGTH, 0xFB, numbers, THIKBROMU_FINDING_NUMBERS, &value), 0);
+    EXPECT(numbers[0] == 0 && numbers[1] == 0 && numbers[2] == 0 && numbers[3] == 0 && numbers[4] == 7);
+    GIVES(thikbromu_good_read(first, LENGTH, second, LENGTH, 0xFB, &which, &value), 512);
+    EXPECT(which == 0);
+    GIVES(thikbromu_good_read(first, LENGTH, second, LENGTH, 0x100FB, &which, &value), 512);
+    GIVES(thikbromu_good_read(first, LENGTH, second, LENGTH, 0xFA, &which, &value), 0);
+    EXPECT(which == 0);
+
+    first[100] ^= 0x03;
+    first[513] ^= 0x80;
+    GIVES(thikbromu_compare_reads(first, LENGTH, second, LENGTH, 0xFB, numbers, THIKBROMU_FINDING_NUMBERS, &value), 1);
+    EXPECT(numbers[0] == THIKBROMU_KIND_FZD && numbers[1] == 1 && numbers[2] == 100 && numbers[3] == 3 && numbers[4] == 7);
+    GIVES(thikbromu_good_read(first, LENGTH, second, LENGTH, 0xFB, &which, &value), 512);
+    EXPECT(which == 1);
+
+    REFUSES(thikbromu_compare_reads(first, LENGTH, second, LENGTH - 1, 0xFB, numbers, 1, &value), LENGTHS_DIFFER, 0);
+    EXPECT(numbers[0] == 0 && numbers[1] == 1);
+    REFUSES(thikbromu_good_read(first, LENGTH - 1, second, LENGTH, 0xFB, &which, &value), LENGTHS_DIFFER, 0);
+    EXPECT(which == 0);
+    which = 77;
+    REFUSES(thikbromu_compare_reads(first, 512, second, 512, 0xFB, numbers, 0, &value), NOT_A_SECTOR_LENGTH, 0);
+    REFUSES(thikbromu_good_read(first, 512, second, 512, 0xFB, &which, &value), NOT_A_SECTOR_LENGTH, 0);
+    EXPECT(which == 0);
 }
 
 static void test_findings(const uint8_t *cells)
@@ -671,6 +709,7 @@ int main(int count, char **arguments)
     test_track_blocks();
     test_portions();
     test_standard_track(file + BEFORE_CELLS);
+    test_two_reads();
     test_findings(file + BEFORE_CELLS);
     test_records(file + BEFORE_CELLS);
     test_too_many_sectors();

@@ -9,7 +9,8 @@
 //! The functions on a track and on timings are those of double density (MFM). Those whose name begins with `fm` are of single density: each
 //! takes, gives and refuses what its namesake does, by the rules of that density (rule 9.41).
 //!
-//! A refused call writes nothing, except that it sets the numbers of a record or the counts of a histogram to 0 (rules 8.31 and 8.32).
+//! A refused call writes nothing, except that it sets the numbers of a record or of the finding of two reads, or the counts of a histogram, to
+//! 0 (rules 8.31 and 8.32).
 //!
 //! ```
 //! use thikbromu::boundary::{finding_records, FindingRecord};
@@ -163,6 +164,25 @@ extern "C" {
         side: u32,
         list: *mut FindingRecord,
         room: usize,
+        value: *mut usize,
+    ) -> u32;
+    fn thikbromu_compare_reads(
+        first: *const u8,
+        first_length: usize,
+        second: *const u8,
+        second_length: usize,
+        data_mark: u32,
+        numbers: *mut u32,
+        room: usize,
+        value: *mut usize,
+    ) -> u32;
+    fn thikbromu_good_read(
+        first: *const u8,
+        first_length: usize,
+        second: *const u8,
+        second_length: usize,
+        data_mark: u32,
+        which: *mut usize,
         value: *mut usize,
     ) -> u32;
     fn thikbromu_fm_step(residual: *mut i32, timing: u32, offset: *mut i32, value: *mut usize) -> u32;
@@ -549,6 +569,41 @@ pub fn finding_records(
             list.len(),
             value,
         )
+    })
+}
+
+/// Compares two reads of one sector (rules 9.51 and 9.53). Gives how many findings they have: 0 where they are equal, and else 1. Its four
+/// numbers go to the front of `numbers`, or as many as there is room for: kind, level, the least index at which the reads differ, and how many
+/// bits differ. They are 0 where there is no finding. [`compare_reads`](crate::compare_reads) says what a read is. Of a data mark above 255
+/// the low byte counts.
+///
+/// Refuses [`LengthsDiffer`](Refusal::LengthsDiffer), [`NotASectorLength`](Refusal::NotASectorLength), all numbers then 0.
+#[inline]
+pub fn compare_reads(first: &[u8], second: &[u8], data_mark: u32, numbers: &mut [u32]) -> Result<usize, Refusal> {
+    // SAFETY: each address and length are those of one slice; `numbers` and `value` are lent to this call alone.
+    answer(|value| unsafe {
+        thikbromu_compare_reads(
+            first.as_ptr(),
+            first.len(),
+            second.as_ptr(),
+            second.len(),
+            data_mark,
+            numbers.as_mut_ptr(),
+            numbers.len(),
+            value,
+        )
+    })
+}
+
+/// Which of two reads has a good check (rules 9.52 and 9.54): `which` becomes 0 for the first, also where both are good, and 1 for the second.
+/// Gives how many data bytes it has. Both are 0 where neither check is good. Of a data mark above 255 the low byte counts.
+///
+/// Refuses [`LengthsDiffer`](Refusal::LengthsDiffer), [`NotASectorLength`](Refusal::NotASectorLength), `which` then 0.
+#[inline]
+pub fn good_read(first: &[u8], second: &[u8], data_mark: u32, which: &mut usize) -> Result<usize, Refusal> {
+    // SAFETY: each address and length are those of one slice; `which` and `value` are lent to this call alone.
+    answer(|value| unsafe {
+        thikbromu_good_read(first.as_ptr(), first.len(), second.as_ptr(), second.len(), data_mark, which, value)
     })
 }
 

@@ -1,4 +1,4 @@
-//! The findings of a track.
+//! The findings of a track, and the one of two reads of a sector.
 
 use crate::boundary::FindingRecord;
 use std::error::Error;
@@ -7,8 +7,8 @@ use std::fmt;
 /// The most findings of a track: 64 sectors bring no more (rule 7.35).
 pub const MOST_FINDINGS: usize = 901;
 
-/// The kinds of findings, in the order of their numbers: rule 7.K is that of kind K. Where a kind has other numbers in single density, they
-/// are named after those of double density (rules 7.44 to 7.46).
+/// The kinds of findings, in the order of their numbers: rule 7.K is that of kind K, up to 21. Kind 22 is that of two reads (rule 14.3). Where
+/// a kind has other numbers in single density, they are named after those of double density (rules 7.44 to 7.46).
 #[derive(Clone, Copy, Debug, PartialEq, Eq, PartialOrd, Ord, Hash)]
 #[repr(u8)]
 pub enum Kind {
@@ -55,11 +55,13 @@ pub enum Kind {
     Mtv = 20,
     /// A run of 1,000 zeros or more. Place: the start of the longest. Detail: its length.
     Nfa = 21,
+    /// Two reads of a sector differ. Place: the least index of a byte that does. Detail: how many bits do. No track has it.
+    Fzd = 22,
 }
 
 impl Kind {
     /// All kinds, in the order of their numbers.
-    pub const ALL: [Kind; 21] = [
+    pub const ALL: [Kind; 22] = [
         Kind::Lgt,
         Kind::Sht,
         Kind::Nos,
@@ -81,9 +83,10 @@ impl Kind {
         Kind::Sid,
         Kind::Mtv,
         Kind::Nfa,
+        Kind::Fzd,
     ];
 
-    /// Its number, 1 to 21.
+    /// Its number, 1 to 22.
     pub const fn number(self) -> u8 {
         self as u8
     }
@@ -100,7 +103,7 @@ impl Kind {
 }
 
 /// Names and levels, by kind.
-const NAMES_AND_LEVELS: [(&str, u8); 21] = [
+const NAMES_AND_LEVELS: [(&str, u8); 22] = [
     ("LGT", 1),
     ("SHT", 1),
     ("NOS", 3),
@@ -122,6 +125,7 @@ const NAMES_AND_LEVELS: [(&str, u8); 21] = [
     ("SID", 3),
     ("MTV", 3),
     ("NFA", 1),
+    ("FZD", 1),
 ];
 
 /// A number that is no kind.
@@ -156,7 +160,8 @@ impl Error for NotAKind {}
 pub struct Finding {
     /// What was found.
     pub kind: Kind,
-    /// Where, in cells: the sector's place for the kinds on sectors, 0 for those on the whole track.
+    /// Where, in cells: the sector's place for the kinds on sectors, 0 for those on the whole track. For [`Fzd`](Kind::Fzd) it is the index
+    /// of a byte.
     pub place: u32,
     /// What [`Kind`] says of it.
     pub detail: u32,
@@ -201,7 +206,7 @@ mod tests {
 
     #[test]
     fn other_numbers_are_no_kinds() {
-        for number in [0, 22, 255] {
+        for number in [0, 23, 255] {
             assert_eq!(Kind::try_from(number), Err(NotAKind(number)));
         }
     }

@@ -36,6 +36,7 @@ mod sector;
 mod track;
 mod track_block;
 mod track_file;
+mod two_reads;
 
 #[doc(inline)]
 pub use boundary::{check_word, check_word_from, clear, decode, encode, put_one};
@@ -53,3 +54,4 @@ pub use track::{
 };
 pub use track_block::{RevolutionReader, TakenPortion, TrackBlock};
 pub use track_file::{TrackCells, TrackFile, LONGEST_FILE, LONGEST_LISTING};
+pub use two_reads::{compare_reads, good_read, CHECK_BYTES, LONGEST_READ};

@@ -40,10 +40,14 @@ pub enum Refusal {
     NotATrackBlock,
     /// 17: the block has no revolution of that index (rule 12.12).
     NoSuchRevolution,
+    /// 18: two reads of a sector differ in length (rule 14.2).
+    LengthsDiffer,
+    /// 19: the reads have not 130, 258, 514 or 1,026 bytes (rule 14.2).
+    NotASectorLength,
 }
 
 impl Refusal {
-    /// Its number, 1 to 17.
+    /// Its number, 1 to 19.
     pub const fn number(self) -> u32 {
         match self {
             Refusal::TrackOrSide => 1,
@@ -63,6 +67,8 @@ impl Refusal {
             Refusal::NotATrackFile => 15,
             Refusal::NotATrackBlock => 16,
             Refusal::NoSuchRevolution => 17,
+            Refusal::LengthsDiffer => 18,
+            Refusal::NotASectorLength => 19,
         }
     }
 
@@ -85,7 +91,9 @@ impl Refusal {
             | Refusal::NoData
             | Refusal::NotATrackFile
             | Refusal::NotATrackBlock
-            | Refusal::NoSuchRevolution => 0,
+            | Refusal::NoSuchRevolution
+            | Refusal::LengthsDiffer
+            | Refusal::NotASectorLength => 0,
         }
     }
 }
@@ -122,6 +130,8 @@ impl TryFrom<(u32, usize)> for Refusal {
             (15, 0) => Refusal::NotATrackFile,
             (16, 0) => Refusal::NotATrackBlock,
             (17, 0) => Refusal::NoSuchRevolution,
+            (18, 0) => Refusal::LengthsDiffer,
+            (19, 0) => Refusal::NotASectorLength,
             _ => return Err(NotARefusal { number, value }),
         })
     }
@@ -148,6 +158,8 @@ impl fmt::Display for Refusal {
             Refusal::NotATrackFile => write!(out, "not a track file"),
             Refusal::NotATrackBlock => write!(out, "not a track block"),
             Refusal::NoSuchRevolution => write!(out, "the track block lacks that revolution"),
+            Refusal::LengthsDiffer => write!(out, "the two reads differ in length"),
+            Refusal::NotASectorLength => write!(out, "the reads have not 130, 258, 514 or 1,026 bytes"),
         }
     }
 }
@@ -169,8 +181,8 @@ mod tests {
     #[test]
     fn numbers_and_values_are_those_of_the_table() {
         // The refusals beside which 0 is given.
-        let without_value = [1, 6, 12, 15, 16, 17];
-        for number in 1..=17 {
+        let without_value = [1, 6, 12, 15, 16, 17, 18, 19];
+        for number in 1..=19 {
             for value in [0, 7] {
                 let refusal = Refusal::try_from((number, value));
                 if value != 0 && without_value.contains(&number) {
@@ -184,7 +196,7 @@ mod tests {
 
     #[test]
     fn other_numbers_are_no_refusals() {
-        for number in [0, 18, u32::MAX] {
+        for number in [0, 20, u32::MAX] {
             assert_eq!(Refusal::try_from((number, 0)), Err(NotARefusal { number, value: 0 }));
         }
     }

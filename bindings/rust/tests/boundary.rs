@@ -120,3 +120,43 @@ fn as_much_of_a_listing_as_there_is_room_for() {
         }
     }
 }
+
+#[test]
+fn the_finding_of_two_reads_in_any_room() {
+    let first = [0; 258];
+    let mut second = first;
+    (second[3], second[257]) = (0x81, 0xFF);
+    for room in 0..=FINDING_NUMBERS + 1 {
+        let front = room.min(FINDING_NUMBERS);
+        let mut numbers = vec![7; room];
+        assert_eq!(compare_reads(&first, &second, 0xFB, &mut numbers), Ok(1));
+        assert_eq!(numbers[..front], [22, 1, 3, 10][..front]);
+        assert!(numbers[front..].iter().all(|&number| number == 7));
+        // Zeros where there is none, and beside a refusal.
+        assert_eq!(compare_reads(&first, &first, 0xFB, &mut numbers), Ok(0));
+        assert!(numbers[..front].iter().all(|&number| number == 0));
+        numbers.fill(7);
+        assert_eq!(compare_reads(&first, &second[1..], 0xFB, &mut numbers), Err(Refusal::LengthsDiffer));
+        assert!(numbers[..front].iter().all(|&number| number == 0));
+        assert!(numbers[front..].iter().all(|&number| number == 7));
+    }
+}
+
+#[test]
+fn the_low_byte_of_a_data_mark_counts() {
+    // 128 zeros after A1 A1 A1 FB, and their check bytes.
+    let mut read = [0; 130];
+    let word = check_word_from(0xE295, &read[..128]);
+    read[128..].copy_from_slice(&word.to_be_bytes());
+    for (data_mark, length) in [(0xFB, 128), (0x1FB, 128), (0xFFFF_FFFB, 128), (0xFA, 0), (0xFB00, 0)] {
+        let mut which = 7;
+        assert_eq!(good_read(&read, &read, data_mark, &mut which), Ok(length));
+        assert_eq!(which, 0);
+    }
+    let mut which = 7;
+    assert_eq!(good_read(&read, &read[..129], 0xFB, &mut which), Err(Refusal::LengthsDiffer));
+    assert_eq!(which, 0);
+    which = 7;
+    assert_eq!(good_read(&read[..129], &read[..129], 0xFB, &mut which), Err(Refusal::NotASectorLength));
+    assert_eq!(which, 0);
+}

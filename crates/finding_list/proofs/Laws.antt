@@ -6,7 +6,7 @@
 --   empty-means-none    the list is empty exactly when no rule holds
 --   strictly-ordered    a later finding has a later kind, or the same kind and a later place
 --   kinds-in-range      kinds are 1 to 21, and each has its level
---   levels-all          there are as many levels as kinds, and as many rows in the table
+--   rows-all            there are as many rows in the table as kinds
 --   tnf-only            kind 4 stands only with level 2, place 0, detail 0, and T at most 79
 --
 -- The rows are those of finding_rules/specs/Rules. Assumes nothing.
@@ -24,11 +24,12 @@ use lib.ListN.{length, getD}
 use Rattle.cells.specs.CellsAndBytes.{cell}
 use Rattle.finding_rules.specs.Rules.{trackRows, idRows, dataRows, sectorRows, gapRows, rows}
 use Rattle.finding_rules.specs.declared.Row.{Row}
-use Rattle.finding_list.specs.Findings.{kinds, levels, looks, rowAt, foundBy, foundAt, ofKind, findingsOf}
+use Rattle.finding_list.specs.Findings.{kinds, looks, rowAt, foundBy, foundAt, ofKind, findingsOf}
 use Rattle.finding_list.specs.declared.Finding.{Finding}
 use Rattle.finding_list.proofs.Looks.{looks-first, looks-sectors, looks-last, sector-place}
 use Rattle.finding_list.proofs.Members.{joined-from, joined-has, no-members, Ordered, ordered-joined, ordered-at}
 use Rattle.layouts.specs.declared.Layout.{Layout}
+use Rattle.levels.specs.Levels.{levels}
 use Rattle.sector_records.specs.Sectors.{sectorsOf}
 use Rattle.sector_records.specs.declared.Sector.{Sector}
 use Rattle.sector_records.proofs.Places.{sectors-ordered}
@@ -61,10 +62,10 @@ NoRule layout bytes N T = (kind look : ℕ) → 1 ≤ kind → kind ≤ kinds �
 abbrev pub Before : Finding → Finding → Type 0
 Before x y = (x .kind < y .kind) ⊎ ((x .kind ≡ y .kind) × (x .place < y .place))
 
--- there are as many levels as kinds, and as many rows in the table
-pub levels-all : (layout : Layout) (f : ℕ → ℕ) (N T : ℕ) (ss : List Sector) (i : ℕ) → (length levels ≡ kinds) × (length (rows layout f N T ss i) ≡ kinds)
-unfolding levels rows trackRows sectorRows idRows dataRows gapRows
-levels-all layout f N T ss i = (refl, refl)
+-- there are as many rows in the table as kinds
+pub rows-all : (layout : Layout) (f : ℕ → ℕ) (N T : ℕ) (ss : List Sector) (i : ℕ) → length (rows layout f N T ss i) ≡ kinds
+unfolding rows trackRows sectorRows idRows dataRows gapRows
+rows-all layout f N T ss i = refl
 
 -- a test that does not pass fails
 fails : (test : Bool) → (test ≡ true → ⊥) → test ≡ false

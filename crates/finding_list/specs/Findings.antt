@@ -12,16 +12,13 @@ use Rattle.finding_rules.specs.Rules.{noRow, rows}
 use Rattle.finding_rules.specs.declared.Row.{Row}
 use Rattle.finding_list.specs.declared.Finding.{Finding}
 use Rattle.layouts.specs.declared.Layout.{Layout}
+use Rattle.levels.specs.Levels.{levels}
 use Rattle.sector_records.specs.Sectors.{sectorsOf}
 use Rattle.sector_records.specs.declared.Sector.{Sector}
 
--- 7.31: how many kinds there are
+-- 7.31: how many kinds a track's findings have
 abbrev pub kinds : ℕ
 kinds = 21
-
--- 7.33: the levels of the kinds, from kind 1 to kind 21
-unfoldable pub levels : List ℕ
-levels = 1 ∷ 1 ∷ 3 ∷ 2 ∷ 2 ∷ 1 ∷ 1 ∷ 2 ∷ 2 ∷ 2 ∷ 2 ∷ 2 ∷ 1 ∷ 1 ∷ 1 ∷ 1 ∷ 1 ∷ 1 ∷ 3 ∷ 3 ∷ 1 ∷ []
 
 -- 7.32: how often a kind is judged: kinds 6 to 19 once for each sector, the others once for the track
 unfoldable pub looks : List Sector → (k : ℕ) → ℕ

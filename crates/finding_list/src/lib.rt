@@ -14,7 +14,7 @@ ghost use Rattle.basis.specs.Lists.{joined};
 ghost use Rattle.cells.specs.CellsAndBytes.{cell};
 ghost use Rattle.cell_patterns.specs.Cells.{gapsOf};
 ghost use Rattle.finding_rules.specs.Rules.{noRow, startsInData, someSector, sectorRows};
-ghost use Rattle.finding_list.specs.Findings.{kinds, levels, foundBy, ofKind, findingsOf};
+ghost use Rattle.finding_list.specs.Findings.{kinds, foundBy, ofKind, findingsOf};
 ghost use Rattle.finding_list.specs.Calls.{surveyAnswer, sectorsGiven, arrayAfter};
 ghost use Rattle.refusals.specs.RefusedCalls.{countedAnswer};
 ghost use Rattle.layouts.specs.Layouts.{layoutOf};
@@ -71,32 +71,8 @@ pub fn survey(
     }
 }
 
-// How many kinds there are, and the level of each, from kind 1 on.
+// How many kinds a track's findings have.
 const KINDS: usize = 21;
-
-const LEVELS: [u8; 21] = [
-    1,
-    1,
-    3,
-    2,
-    2,
-    1,
-    1,
-    2,
-    2,
-    2,
-    2,
-    2,
-    1,
-    1,
-    1,
-    1,
-    1,
-    1,
-    3,
-    3,
-    1,
-];
 
 // The index of the kind that looks for duplicated numbers, that of the first of the kinds after it, which look at each sector by itself,
 // and that of the first of those after these, which look at the whole track again.
@@ -292,7 +268,7 @@ fn put(numbers: &mut [u32; NUMBERS], at: usize, k: usize, row: Row) -> usize
     if row.holds {
         let b = 4 * at;
         numbers[b] = k as u32 + 1;
-        numbers[b + 1] = level(k);
+        numbers[b + 1] = levels::level(k);
         numbers[b + 2] = row.place as u32;
         numbers[b + 3] = row.detail as u32;
         at + 1
@@ -306,18 +282,4 @@ fn clear(numbers: &mut [u32; NUMBERS])
     ensures { λ _. ⌜ now (numbers .exit) ≡ replicate 3604 0 ⌝ }
 {
     *numbers = [0; NUMBERS];
-}
-
-// The level of a kind.
-fn level(k: usize) -> u32
-    requires { ⌜ k < kinds ⌝ }
-    ensures { λ r. ⌜ r ≡ getD levels k 0 ⌝ }
-{
-    wide(LEVELS[k])
-}
-
-fn wide(x: u8) -> u32
-    ensures { λ r. ⌜ r ≡ x ⌝ }
-{
-    x as u32
 }

@@ -14,10 +14,11 @@ use Rattle.basis.proofs.Lists.{is-listed, listed-more}
 use Rattle.basis.proofs.Tables.{below, passes-below}
 use Rattle.findings.specs.Calls.{findingsAnswer, listAfter}
 use Rattle.finding_list.specs.Calls.{numbersOf}
-use Rattle.finding_list.specs.Findings.{kinds, levels, rowAt, foundBy, foundAt, ofKind, findingsOf}
+use Rattle.finding_list.specs.Findings.{kinds, rowAt, foundBy, foundAt, ofKind, findingsOf}
 use Rattle.findings.specs.PrivateContracts.{countWritten, findingAt}
 use Rattle.finding_rules.specs.declared.Row.{Row}
 use Rattle.finding_list.specs.declared.Finding.{Finding}
+use Rattle.levels.specs.Levels.{levels}
 use Rattle.findings.proofs.Outcome.{written-few, findings-written}
 use Rattle.cells.specs.CellsAndBytes.{cell}
 use Rattle.layouts.specs.declared.Layout.{Layout}

@@ -13,20 +13,20 @@ use Rattle.lines.proofs.Writing.{none}
 
 -- the code's row of names, four bytes for each
 unfoldable pub table : List ℕ
-table = bytesOf "LGT SHT NOS TNF EXT DSN ISN ITN IIF SSZ NSI NSD SBI SND SBD DOI DBI SWS SID MTV NFA "
+table = bytesOf "LGT SHT NOS TNF EXT DSN ISN ITN IIF SSZ NSI NSD SBI SND SBD DOI DBI SWS SID MTV NFA FZD "
 
 unfoldable entry : ℕ → List ℕ
 entry i = take 3 (drop (4 * i) table)
 
-table-is : listed entry 21 ≡ map bytesOf names
+table-is : listed entry 22 ≡ map bytesOf names
 unfolding listed entry table names bytesOf
 table-is = refl
 
-entry-is : (i : ℕ) → i < 21 → entry i ≡ nameOf (suc i)
+entry-is : (i : ℕ) → i < 22 → entry i ≡ nameOf (suc i)
 unfolding nameOf bytesOf
-entry-is i h = sym (getD-listed entry [] 21 i h) ∙ rw table-is (List·getD-map bytesOf names i "")
+entry-is i h = sym (getD-listed entry [] 22 i h) ∙ rw table-is (List·getD-map bytesOf names i "")
 
-no-name : (kind : ℕ) → 21 < kind → nameOf kind ≡ []
+no-name : (kind : ℕ) → 22 < kind → nameOf kind ≡ []
 unfolding nameOf names bytesOf
 no-name kind h = ap bytesOf (List·getD-eq-default ("" ∷ names) "" {n = kind} (omega arith))
 
@@ -35,11 +35,11 @@ pub wrote-none : (l : List ℕ) (i kind : ℕ) → kind ≡ 0 → Wrote l i (nam
 unfolding nameOf bytesOf
 wrote-none l i kind e = rw e (none l i 3)
 
-pub wrote-none-above : (l : List ℕ) (i kind : ℕ) → 21 < kind → Wrote l i (nameOf kind) 3 l i
+pub wrote-none-above : (l : List ℕ) (i kind : ℕ) → 22 < kind → Wrote l i (nameOf kind) 3 l i
 wrote-none-above l i kind h = rw (no-name kind h) (none l i 3)
 
 -- a kind's name, from the row
-pub wrote-name : {a b : List ℕ} {i j m : ℕ} (kind : ℕ) → 1 ≤ kind → kind ≤ 21
+pub wrote-name : {a b : List ℕ} {i j m : ℕ} (kind : ℕ) → 1 ≤ kind → kind ≤ 22
     → Wrote a i (take (4 * (kind - 1) + 3 - 4 * (kind - 1)) (drop (4 * (kind - 1)) table)) m b j → Wrote a i (nameOf kind) 3 b j
 unfolding entry
 wrote-name kind low high w =

@@ -37,7 +37,7 @@ decimalOf n = digitsWithin (suc n) n
 unfoldable pub twoDigits : ℕ → List ℕ
 twoDigits T = digit (T / 10) ∷ digit T ∷ []
 
--- 11.6: the names of the kinds, from kind 1 to kind 21
+-- 11.6: the names of the kinds, from kind 1 to kind 22
 unfoldable pub names : List String
 names =
     "LGT"
@@ -61,6 +61,7 @@ names =
     ∷ "SID"
     ∷ "MTV"
     ∷ "NFA"
+    ∷ "FZD"
     ∷ []
 
 -- 11.6: the name of a kind; a number that is no kind has none

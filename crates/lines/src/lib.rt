@@ -77,8 +77,8 @@ pub fn two_digits(out: &mut [u8], track: u32) -> usize
 }
 
 // The names of the kinds, from kind 1 on, each with a space after it.
-const NAMES: [u8; 84] =
-    *b"LGT SHT NOS TNF EXT DSN ISN ITN IIF SSZ NSI NSD SBI SND SBD DOI DBI SWS SID MTV NFA ";
+const NAMES: [u8; 88] =
+    *b"LGT SHT NOS TNF EXT DSN ISN ITN IIF SSZ NSI NSD SBI SND SBD DOI DBI SWS SID MTV NFA FZD ";
 
 // The functions below write from place `at` on and answer the place after what they wrote. No place passes 33 bits, so
 // that no sum can overflow.
@@ -105,7 +105,7 @@ fn write_name(out: &mut [u8], at: usize, kind: u32) -> usize
     if kind < 1 {
         return at;
     }
-    if kind > 21 {
+    if kind > 22 {
         return at;
     }
     let names: &[u8] = &NAMES;

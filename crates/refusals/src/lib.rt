@@ -38,6 +38,10 @@ pub enum Refusal {
     NotATrackBlock,
     // 17: the block lacks the revolution.
     NoSuchRevolution,
+    // 18: two reads of one sector differ in length.
+    LengthsDiffer,
+    // 19: the length of the reads is that of no sector.
+    NotASectorLength,
 }
 
 // What a call answers that counts something, as bytes written or findings: their number, or a refusal.
@@ -69,6 +73,8 @@ impl Refusal {
             Refusal::NotATrackFile => 15,
             Refusal::NotATrackBlock => 16,
             Refusal::NoSuchRevolution => 17,
+            Refusal::LengthsDiffer => 18,
+            Refusal::NotASectorLength => 19,
         }
     }
 
@@ -94,6 +100,8 @@ impl Refusal {
             Refusal::NotATrackFile => 0,
             Refusal::NotATrackBlock => 0,
             Refusal::NoSuchRevolution => 0,
+            Refusal::LengthsDiffer => 0,
+            Refusal::NotASectorLength => 0,
         }
     }
 }

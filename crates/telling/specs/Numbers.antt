@@ -1,4 +1,4 @@
--- Section 9 of the specification, rules 9.31 to 9.34 and 9.37: answers as callers from C get them. The main property: a call returns a
+-- Section 9 of the specification, rules 9.31 to 9.34, 9.37 and 9.54: answers as callers from C get them. The main property: a call returns a
 -- number, 0 where it is accepted and else the refusal's, and stores the value beside it. Assumes nothing.
 use Prim.Native.Nat.{ℕ}
 use mathlib.Core.Bool.{cond}
@@ -11,6 +11,7 @@ use Rattle.refusals.specs.RefusedCalls.Answer.{gives, refused}
 use Rattle.sectors.specs.Calls.{DataRead}
 use Rattle.sector_records.specs.declared.Sector.{Sector}
 use Rattle.track_file.specs.TrackFile.{Content}
+use Rattle.two_reads.specs.GoodRead.{Part}
 
 -- 9.31: the number that a call returns, whatever it gives: 0 where it is accepted, and else the number of the refusal
 abbrev pub numberIn : {A : Type 0} → Answer A → ℕ
@@ -46,6 +47,16 @@ valueGiven (refused number value) = value
 abbrev pub placeGiven : Answer Content → List ℕ → List ℕ
 placeGiven (gives content) place = writtenOver (take (length place) (content .track ∷ content .side ∷ [])) place
 placeGiven (refused number value) place = place
+
+-- 9.31, 9.54: the part of a good read stores how many bytes it has, and which read it is of: 0 for the first and 1 for the second. A
+-- refused call stores 0 for it
+abbrev pub partLength : Answer Part → ℕ
+partLength (gives part) = part .count
+partLength (refused number value) = value
+
+abbrev pub whichRead : Answer Part → ℕ
+whichRead (gives part) = cond (part .second) 1 0
+whichRead (refused number value) = 0
 
 -- 9.34: a sector's record as thirteen numbers, in the order of rule 6.16, with 1 for a good check and 0 for a bad one
 unfoldable pub sectorNumbers : Sector → List ℕ

@@ -8,6 +8,7 @@ use sectors::ReadOut;
 use separator::Given;
 use separator::Taken;
 use track_file::Read;
+use two_reads::GoodPart;
 ghost use mathlib.Core.Path.{_≡_};
 ghost use mathlib.Core.Bool.{cond};
 ghost use Rattle.reader_as_number.specs.Numbers.{numberKept};
@@ -15,7 +16,8 @@ ghost use Rattle.refusals.specs.RefusedCalls.{countedAnswer};
 ghost use Rattle.sectors.specs.Calls.{readOutAnswer};
 ghost use Rattle.separator.specs.Rule.{takenAnswer};
 ghost use Rattle.track_file.specs.Portions.{readAnswer};
-ghost use Rattle.telling.specs.Numbers.{numberIn, valueIn, offsetStored, sectorNumbers, valueRead, checkRead, valueGiven, placeGiven};
+ghost use Rattle.two_reads.specs.GoodRead.{goodPartAnswer};
+ghost use Rattle.telling.specs.Numbers.{numberIn, valueIn, offsetStored, sectorNumbers, valueRead, checkRead, valueGiven, placeGiven, partLength, whichRead};
 
 // Tells a count: every routine that counts something does it by this function.
 pub fn told(counted: Counted, value: &mut usize) -> u32
@@ -83,6 +85,24 @@ pub fn told_file(read: Read, place: &mut [u32], value: &mut usize) -> u32
         }
         Read::Refused(refusal) => {
             *value = refusal.value();
+            refusal.number()
+        }
+    }
+}
+
+// Tells how long the part of a good read is, and stores which read it is of: 1 for the second, 0 for the first and beside a refusal.
+pub fn told_part(part: GoodPart, which: &mut usize, value: &mut usize) -> u32
+    ensures { λ r. ⌜ (r ≡ numberIn (goodPartAnswer part)) × (now (value .exit) ≡ partLength (goodPartAnswer part)) × (now (which .exit) ≡ whichRead (goodPartAnswer part)) ⌝ }
+{
+    match part {
+        GoodPart::Of { second, count } => {
+            *value = count;
+            *which = one_if(second) as usize;
+            0
+        }
+        GoodPart::Refused(refusal) => {
+            *value = refusal.value();
+            *which = 0;
             refusal.number()
         }
     }

@@ -2,12 +2,13 @@
 //
 // A routine of which some calls are refused returns a number: 0 where the call is accepted, else the number of the refusal (section 8 of
 // the specification). What the call gives, or what is given beside the refusal, is stored at `value`; beside a refusal nothing else is
-// written, but that a record or a table of counts is set to zeros (rule 8.32).
+// written, but that a record, a table of counts or the finding of two reads is set to zeros (rule 8.32).
 //
 // What the boundary asks of a caller in another language: each address is valid for its length, lent memory does not overlap what else is
 // passed, and a bool is 0 or 1. The routines ask nothing of the values.
 mod blocks;
 mod files;
+mod reads;
 mod single_density;
 
 pub use blocks::thikbromu_revolution_cells;
@@ -18,6 +19,8 @@ pub use files::thikbromu_file_listing;
 pub use files::thikbromu_listing;
 use findings::Finding;
 use layouts::Density;
+pub use reads::thikbromu_compare_reads;
+pub use reads::thikbromu_good_read;
 pub use single_density::thikbromu_fm_finding_records;
 pub use single_density::thikbromu_fm_findings;
 pub use single_density::thikbromu_fm_read_out;

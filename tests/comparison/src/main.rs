@@ -20,6 +20,7 @@ mod sectors;
 mod single_density;
 mod terms;
 mod track_cells;
+mod two_reads;
 
 use report::Report;
 use std::collections::BTreeMap;
@@ -30,7 +31,7 @@ use std::thread;
 type Part = fn(&mut Report);
 
 /// The parts, by their modules. The long ones come first, so that no worker is left alone with one at the end.
-const PARTS: [(&str, Part); 51] = [
+const PARTS: [(&str, Part); 53] = [
     ("files", files::in_memory),
     ("findings", findings::any_tracks),
     ("sectors", sectors::standard),
@@ -51,6 +52,8 @@ const PARTS: [(&str, Part); 51] = [
     ("program", program::portions),
     ("blocks", blocks::timings),
     ("blocks", blocks::short_rooms),
+    ("two_reads", two_reads::pairs),
+    ("two_reads", two_reads::data_marks),
     ("terms", terms::tables),
     ("track_cells", track_cells::reading),
     ("track_cells", track_cells::finding),

@@ -29,6 +29,8 @@ fn refusal(ours: thikbromu::Refusal) -> Refusal {
         Ours::NotATrackFile => Refusal::not_a_track_file(),
         Ours::NotATrackBlock => Refusal::not_a_track_block(),
         Ours::NoSuchRevolution => Refusal::no_such_revolution(),
+        Ours::LengthsDiffer => Refusal::reads_differ_in_length(),
+        Ours::NotASectorLength => Refusal::no_length_of_a_read(),
     }
 }
 
@@ -88,6 +90,8 @@ pub fn tables(report: &mut Report) {
         Refusal::not_a_track_file(),
         Refusal::not_a_track_block(),
         Refusal::no_such_revolution(),
+        Refusal::reads_differ_in_length(),
+        Refusal::no_length_of_a_read(),
     ];
     for row in rows {
         let ours = thikbromu::Refusal::try_from((row.number, row.value as usize));
@@ -101,7 +105,7 @@ pub fn tables(report: &mut Report) {
             group.same(ours, Err(NotARefusal { number, value }), || format!("{row:?} with {value}"));
         }
     }
-    for kind in 1..=findings::KINDS as u8 {
+    for kind in 1..=findings::FZD as u8 {
         let number = u32::from(kind);
         let ours = Kind::try_from(kind).map(|kind| (kind.number(), kind.name(), u32::from(kind.level())));
         let second = (kind, findings::name_of(number), findings::level_of(number));

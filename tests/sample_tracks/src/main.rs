@@ -9,6 +9,7 @@ use test_inputs::block_inputs::standard_track_block;
 use test_inputs::file_inputs::{file_of_cells, file_of_timings};
 use test_inputs::flux_inputs::{flux_track_of, timings_of_steps};
 use test_inputs::random::Random;
+use test_inputs::read_pairs::read_of;
 use test_inputs::single_density_tracks::{fm_track_with, with_cells_at, FIRST_PLACE, RECORD_CELLS};
 use test_inputs::track_builder::{nine_sectors, standard_track, turn, SectorPlan, TrackBuilder, STANDARD_TRACK_CELLS};
 
@@ -122,6 +123,31 @@ fn checks() -> Vec<u8> {
     file_of_cells(30, 0, &track_cells)
 }
 
+/// Sets the data of a sector, and keeps the check bytes of the data that it has.
+fn misread(plan: &mut SectorPlan, data: Vec<u8>) {
+    let check_of = |data: &[u8]| read_of(data, 0xFB, 0).split_off(512);
+    let differing = check_of(&data).into_iter().zip(check_of(&plan.data)).map(|(a, b)| a ^ b);
+    plan.data_check_error = differing.fold(0, |bits, byte| bits << 8 | u16::from(byte));
+    plan.data = data;
+}
+
+/// A read of a track on which sector 7 is weak: its bytes 256 to 271 read otherwise each time. In the second read two bits of sector 4 are
+/// wrong also.
+fn weak_sector(read: u64) -> Vec<u8> {
+    let track_cells = changed(9, |plan| {
+        let mut data = plan.data.clone();
+        if plan.number == 7 {
+            let mut random = Random::new(read);
+            data[256..272].fill_with(|| random.byte());
+        }
+        if plan.number == 4 && read == 2 {
+            data[100] ^= 0x11;
+        }
+        misread(plan, data);
+    });
+    file_of_cells(9, 0, &track_cells)
+}
+
 /// A sector hidden in the data of another: its ID stands in the data of sector 5.
 fn sector_within_sector() -> Vec<u8> {
     let mut track_cells = standard_track(3, 0, 0xE5);
@@ -203,6 +229,8 @@ fn main() {
         ("id-fields", id_fields()),
         ("size-code-6", size_code_6()),
         ("checks", checks()),
+        ("weak-sector-first-read", weak_sector(1)),
+        ("weak-sector-second-read", weak_sector(2)),
         ("data-over-index", file_of_cells(0, 0, &over_index)),
         ("data-behind-index", file_of_cells(0, 0, &behind_index)),
         ("sector-within-sector", sector_within_sector()),

@@ -49,26 +49,29 @@ pub const MTV: u32 = 20;
 /// Rule 7.21: no flux area.
 pub const NFA: u32 = 21;
 
-/// How many kinds there are.
+/// Fuzzy data: two reads of one sector differ.
+pub const FZD: u32 = 22;
+
+/// How many kinds a track can have. Kind 22 is about two reads and not about a track.
 pub const KINDS: usize = 21;
 
 /// The names of the kinds, from kind 1 on (rule 11.6).
-const NAMES: [&str; KINDS] = [
+const NAMES: [&str; KINDS + 1] = [
     "LGT", "SHT", "NOS", "TNF", "EXT", "DSN", "ISN", "ITN", "IIF", "SSZ", "NSI", "NSD", "SBI",
-    "SND", "SBD", "DOI", "DBI", "SWS", "SID", "MTV", "NFA",
+    "SND", "SBD", "DOI", "DBI", "SWS", "SID", "MTV", "NFA", "FZD",
 ];
 
 /// The levels of the kinds, from kind 1 on (rule 7.33).
-const LEVELS: [u32; KINDS] = [
-    1, 1, 3, 2, 2, 1, 1, 2, 2, 2, 2, 2, 1, 1, 1, 1, 1, 1, 3, 3, 1,
+const LEVELS: [u32; KINDS + 1] = [
+    1, 1, 3, 2, 2, 1, 1, 2, 2, 2, 2, 2, 1, 1, 1, 1, 1, 1, 3, 3, 1, 1,
 ];
 
-/// The name of a kind, 1 to 21.
+/// The name of a kind, 1 to 22.
 pub fn name_of(kind: u32) -> &'static str {
     NAMES[kind as usize - 1]
 }
 
-/// The level of a kind, 1 to 21.
+/// The level of a kind, 1 to 22.
 pub fn level_of(kind: u32) -> u32 {
     LEVELS[kind as usize - 1]
 }
@@ -76,18 +79,18 @@ pub fn level_of(kind: u32) -> u32 {
 /// A finding (rule 7.31).
 #[derive(Clone, Copy, Debug, Default, PartialEq, Eq)]
 pub struct Finding {
-    /// The kind, 1 to 21.
+    /// The kind, 1 to 22.
     pub kind: u32,
     /// The level of the kind.
     pub level: u32,
-    /// The place, 0 to N - 1.
+    /// The place, 0 to N - 1; of kind 22, the index of a byte.
     pub place: usize,
     /// The detail.
     pub detail: usize,
 }
 
 impl Finding {
-    /// A finding of a kind, 1 to 21, with the level of its kind.
+    /// A finding of a kind, 1 to 22, with the level of its kind.
     pub fn new(kind: u32, place: usize, detail: usize) -> Finding {
         Finding {
             kind,

@@ -18,3 +18,4 @@ pub mod separator;
 pub mod single_density;
 pub mod track_block;
 pub mod track_file;
+pub mod two_reads;

@@ -22,7 +22,7 @@ pub const MOST_BYTES_TO_DECODE: usize = 16_384;
 /// A refused call: the number of the refusal, and what is given beside it.
 #[derive(Clone, Copy, Debug, PartialEq, Eq)]
 pub struct Refusal {
-    /// The number, 1 to 17.
+    /// The number, 1 to 19.
     pub number: u32,
     /// What is given beside it.
     pub value: u64,
@@ -125,6 +125,16 @@ impl Refusal {
     pub fn no_such_revolution() -> Refusal {
         Refusal::new(17, 0)
     }
+
+    /// 18: two reads of one sector are not equally long. Beside it: 0.
+    pub fn reads_differ_in_length() -> Refusal {
+        Refusal::new(18, 0)
+    }
+
+    /// 19: both reads have a length that no size code gives. Beside it: 0.
+    pub fn no_length_of_a_read() -> Refusal {
+        Refusal::new(19, 0)
+    }
 }
 
 #[cfg(test)]
@@ -152,6 +162,8 @@ mod tests {
             (Refusal::not_a_track_file(), 15, 0),
             (Refusal::not_a_track_block(), 16, 0),
             (Refusal::no_such_revolution(), 17, 0),
+            (Refusal::reads_differ_in_length(), 18, 0),
+            (Refusal::no_length_of_a_read(), 19, 0),
         ];
         for (refusal, number, value) in rows {
             assert_eq!(refusal, Refusal { number, value });

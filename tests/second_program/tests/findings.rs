@@ -78,6 +78,7 @@ fn names_and_levels_of_the_table() {
         (19, "SID", 3),
         (20, "MTV", 3),
         (21, "NFA", 1),
+        (22, "FZD", 1),
     ];
     for (kind, name, level) in table {
         assert_eq!(name_of(kind), name);

@@ -98,6 +98,11 @@ pub const LAWS: &[Law] = &[
         &["read-back", "number-back", "calls-by-numbers"],
     ),
     ("13.6", "file_listing/proofs/Laws", &["never-ten"]),
+    (
+        "14.3",
+        "two_reads/proofs/Laws",
+        &["equal-reads", "no-finding-means-equal"],
+    ),
 ];
 
 /// A rule that no function promises, or, where it is only run, that no test names; and why.

@@ -11,6 +11,7 @@ pub mod block_inputs;
 pub mod file_inputs;
 pub mod flux_inputs;
 pub mod random;
+pub mod read_pairs;
 pub mod single_density_flux;
 pub mod single_density_tracks;
 pub mod size_code_tracks;
