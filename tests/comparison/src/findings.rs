@@ -84,7 +84,13 @@ fn whole_track(group: &mut Group, seen: &mut [usize; 22], track_cells: &[u8], dr
 
 /// A track, packed bytes and the number of cells, with a list that is too short by one number or record, just long enough, and longer.
 /// `seen` counts the findings of each kind.
-pub fn packed_track(calls: &'static Calls, group: &mut Group, seen: &mut [usize; 22], (bytes, n): (&[u8], usize), drive: (u32, u32)) {
+pub fn packed_track(
+    calls: &'static Calls,
+    group: &mut Group,
+    seen: &mut [usize; 22],
+    (bytes, n): (&[u8], usize),
+    drive: (u32, u32),
+) {
     // The second program's findings are made once.
     let judged = Judged { calls, bytes, n, drive, second: (calls.second_findings)(drive.0, drive.1, bytes, n, usize::MAX) };
     let list = judged.second.clone().unwrap_or_default();

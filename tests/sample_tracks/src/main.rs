@@ -1,9 +1,10 @@
 //! Writes the track files and the track block of samples/ into the folder that its argument names, and the listing of the track of single
 //! density, which no program of the library lists. samples/README.md says what each shows.
 
+use second_program::cells;
 use second_program::check_word::check_word;
+use second_program::findings::{self, Finding};
 use second_program::single_density::{self, DELETED_DATA_MARK, ID_MARK};
-use second_program::{cells, findings};
 use std::path::Path;
 use test_inputs::block_inputs::standard_track_block;
 use test_inputs::file_inputs::{file_of_cells, file_of_timings};
@@ -199,9 +200,8 @@ fn single_density_listing(track_cells: &[u8]) -> String {
     let sectors = single_density::sectors(track.into(), side.into(), &bytes, n).expect("a track that is not refused");
     let found = single_density::findings_of(track.into(), &bytes, n, &sectors);
     let mut listing = format!("T{track:02} H{side} cells {n} sectors {} findings {}\n", sectors.len(), found.len());
-    for finding in found {
-        let name = findings::name_of(finding.kind);
-        listing += &format!("{} {name} level {} place {} detail {}\n", finding.kind, finding.level, finding.place, finding.detail);
+    for Finding { kind, level, place, detail } in found {
+        listing += &format!("{kind} {} level {level} place {place} detail {detail}\n", findings::name_of(kind));
     }
     listing
 }
