@@ -253,7 +253,7 @@ uint32_t thikbromu_finding_records(const uint8_t *bytes, size_t length, size_t n
  * - a mark is one word of 16 cells: F57E for an ID, F56F for data (its byte is FB), F56A for deleted data (F8). The ID ends at p + 112, and
  *   a data mark is looked for from there to p + 576. A check begins with the mark's own byte;
  * - LGT has more than 51,500 cells and SHT less than 48,500, NOS other than 18 sectors, SSZ a size code other than 0, which is that of 128
- *   bytes. SID counts the word F57E, and MTV the distances other than 1 and 2. NSI and NSD do not occur.
+ *   bytes. SID counts the word F57E, and MTV a next one that is 3 cells on or more. No track has NSI or NSD.
  * Listings are those of double density alone, and so are the cells that thikbromu_file_cells and thikbromu_revolution_cells make of timings.
  */
 
