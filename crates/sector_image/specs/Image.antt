@@ -5,7 +5,7 @@
 -- The main property: sector k stands from byte 512 * (k - 1) on, and there is an image only where the track has just the sectors 1 to 9, each
 -- once and whole. `bytes` are the packed cells of a track of N cells in double density; T and H are the track and the side of the drive.
 -- Assumes nothing.
-use Prim.Native.Nat.{ℕ, suc, _+_}
+use Prim.Native.Nat.{ℕ, _+_}
 use mathlib.Core.Bool.{Bool, not, cond, _&&_, _||_}
 use mathlib.Core.List.{List}
 use lib.Dec.{eqb, ltb, leb}
@@ -60,7 +60,7 @@ imageJudged sectors room =
 
 -- 15.1, 15.3: the image: the data bytes of sector 1, those of sector 2, and so on up to sector 9
 unfoldable pub imageOf : (ℕ → ℕ) → List Sector → List ℕ
-imageOf f sectors = joined (λ i. dataBytes 64 f (getD sectors (indexOf sectors (suc i)) noSector)) 9
+imageOf f sectors = joined (λ i. dataBytes 64 f (getD sectors (indexOf sectors (i + 1)) noSector)) 9
 
 -- 9.61: the call: refusals 1 to 4, 24 and 13, in this order, and else 4,608
 unfoldable pub imageAnswer : List ℕ → (N T H room : ℕ) → Answer ℕ

@@ -1,5 +1,5 @@
 -- What the contracts of private functions need: what they ask of the sectors that they are handed. Assumes nothing.
-use Prim.Native.Nat.{ℕ, suc, _<_, _≤_}
+use Prim.Native.Nat.{ℕ, _+_, _<_, _≤_}
 use mathlib.Core.Path.{_≡_}
 use mathlib.Core.Bool.{true}
 use mathlib.Core.List.{List}
@@ -26,5 +26,5 @@ pub record OfTrack (ss : Sectors) : Type 0 where
 -- each of the numbers 1 to 9 is there, with 512 bytes
 pub record AllThere (ss : Sectors) : Type 0 where
   pub kept : AtMost64 ss
-  pub there : (i : ℕ) → i < 9 → indexOf (sectorsIn ss) (suc i) < ss .count
-  pub long : (i : ℕ) → i < 9 → getD (sectorsIn ss) (indexOf (sectorsIn ss) (suc i)) noSector .«data_length» ≡ 512
+  pub there : (i : ℕ) → i < 9 → indexOf (sectorsIn ss) (i + 1) < ss .count
+  pub long : (i : ℕ) → i < 9 → getD (sectorsIn ss) (indexOf (sectorsIn ss) (i + 1)) noSector .«data_length» ≡ 512

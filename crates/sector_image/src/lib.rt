@@ -139,10 +139,16 @@ fn write_image(bytes: &[u8], n: usize, ss: Sectors, image: &mut [u8])
     let mut i: usize = 0;
     while i < SECTORS {
         let index = find(ss, i as u8 + 1, 0);
-        let place = ss.all[index].data_place as usize + MARK_LENGTH;
-        write_sector(bytes, n, place, SECTOR * i, image);
+        write_sector(bytes, n, data_at(ss.all[index]), SECTOR * i, image);
         i += 1;
     }
+}
+
+// The cell after a sector's data mark.
+fn data_at(sector: Sector) -> usize
+    ensures { λ r. ⌜ (r ≡ sector .«data_place» + 64) × (r ≤ 0x1_0000_0040) ⌝ }
+{
+    sector.data_place as usize + MARK_LENGTH
 }
 
 // Decodes the 512 bytes from cell p on into the image from byte `at` on.

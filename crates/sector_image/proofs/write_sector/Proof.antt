@@ -1,58 +1,65 @@
+-- `sector_image::write_sector` meets its contract: after i turns the first i bytes of the sector are stored. Assumes nothing.
+use Prim.Native.Nat.{_+_, _-_, _≤_, _<_}
+use mathlib.Core.Path.{_≡_, refl, sym}
+use native.Mathlib.Omega.{arith}
+use lib.ListN.{length, length-set}
+use lib.Seq.{sets}
+use Rattle.basis.specs.Lists.{listed}
+use Rattle.cells.specs.CellsAndBytes.{cell}
+use Rattle.sector_records.specs.Sectors.{byteFrom, bytesFrom}
+use borrow.Author.Needs.{needs}
+use Rattle.sector_image.proofs.Parts.{stored-more}
 use Rattle.sector_image.proofs.write_sector.Statement.{statement}
 use Rattle.sector_image.proofs.write_sector.Tie as tie
-use Rattle.sector_image.proofs.write_sector.Reads as reads
-use Rattle.sector_image.proofs.write_sector.Lts as lts
-use Rattle.mfm.proofs.byte_on.Reads as byte-on-reads
 
 abbrev Inv-loop : tie.InvT-loop
-Inv-loop bytes n p at image₀ i₀ image i = ?
+Inv-loop bytes n p at image₀ i₀ image i = (i ≤ 512) × (length image ≡ length image₀) × (image ≡ sets image₀ at (listed (byteFrom (cell bytes n) p) i))
 
 abbrev μ-loop : tie.MeasureT-loop
-μ-loop bytes n p at image₀ i₀ image i = ?
+μ-loop bytes n p at image₀ i₀ image i = 512 - i
 
--- src/lib.rt:154:5
 loop-holds : tie.Need-loop-holds Inv-loop μ-loop
-loop-holds c = ?
+unfolding listed
+loop-holds c = (search needs, refl, refl)
 
--- src/lib.rt:155:52
 mul-byte-on : tie.Need-mul-byte-on Inv-loop μ-loop
-mul-byte-on c = ?
+mul-byte-on c = search needs
 
--- src/lib.rt:155:48
 add-byte-on : tie.Need-add-byte-on Inv-loop μ-loop
-add-byte-on c = ?
+add-byte-on c = search needs
 
--- src/lib.rt:155:25
 byte-on-requires : tie.Need-byte-on-requires Inv-loop μ-loop
-byte-on-requires c κs = ?
+byte-on-requires c κs = search needs
 
--- src/lib.rt:155:15
 add-image : tie.Need-add-image Inv-loop μ-loop
-add-image c = ?
+add-image c = search needs
 
--- src/lib.rt:155:9
 slice-write-image : tie.Need-slice-write-image Inv-loop μ-loop
-slice-write-image c = ?
+slice-write-image c = search needs
 
--- src/lib.rt:156:9
 add-i : tie.Need-add-i Inv-loop μ-loop
-add-i c = ?
+add-i c = search needs
 
--- src/lib.rt:154:5
 loop-less : tie.Need-loop-less Inv-loop μ-loop
-loop-less c = ?
+loop-less c = search needs
 
--- src/lib.rt:154:5
 loop-again : tie.Need-loop-again Inv-loop μ-loop
-loop-again c = ?
+unfolding byteFrom
+loop-again c =
+    let l = c .before .before in
+    let a = l .before .before .before .args in
+    let inv = l .loop .inv in
+    (search needs, simp length-set (inv .1), stored-more (byteFrom (cell (a .bytes .now) (a .n)) (a .p)) (a .image .now) (a .at) (l .loop .i) _ _ (inv .2) (c .byte-on .ensures))
 
--- src/lib.rt:149:1
 same-length : tie.Need-same-length Inv-loop μ-loop
-same-length c = ?
+same-length c = c .before .loop .inv .1
 
--- src/lib.rt:149:1
 returns : tie.Need-returns Inv-loop μ-loop
-returns c = ?
+unfolding bytesFrom
+returns c =
+    let l = c .before .loop in
+    let e : l .i ≡ 512 = omega arith in
+    rw e at (l .inv .2)
 
 pub write-sector-spec : {M : Type 1} → statement M
 write-sector-spec =
