@@ -47,14 +47,14 @@ module _ (sectors : List Sector) (number all : ℕ) (len : length sectors ≡ al
     unfolding fits
     fits-twice l =
         let z : times ≡ 1 + (1 + count test (all - (second + 1)) (second + 1)) =
-            from-first first e ∙ rw (lt-ltb first all h, from-second, lt-ltb second all l) in
+        from-first first e ∙ rw (lt-ltb first all h, from-second, lt-ltb second all l) in
         rw (len, ne-eqb times 1 (λ o. omega (arith, z, o)))
 
     pub fits-once : (b : Bool) → all ≤ second → b ≡ isPlain (getD sectors first noSector) → b ≡ fits sectors number
     unfolding fits
     fits-once b l p =
         let z : times ≡ 1 =
-            from-first first e ∙ rw (lt-ltb first all h, from-second, le-ltb second all l, count-end test all (second + 1) (omega arith)) in
+        from-first first e ∙ rw (lt-ltb first all h, from-second, le-ltb second all l, count-end test all (second + 1) (omega arith)) in
         rw (len, eq-eqb times 1 z, ← index-is first e) p
 
 module _ (sectors : List Sector) (number : ℕ) (e : fits sectors number ≡ true) where

@@ -2,3 +2,4 @@ pub mod Kept
 pub mod Conditions
 pub mod Parts
 pub mod Calls
+pub mod Laws
