@@ -168,7 +168,7 @@ impl fmt::Display for Refusal {
             Refusal::NotASectorLength => write!(out, "the reads have not 130, 258, 514 or 1,026 bytes"),
             Refusal::NoPlainImage(0) => write!(out, "no plain image: there is a sector besides 1 to 9"),
             Refusal::NoPlainImage(number) => {
-                write!(out, "no plain image: sector {number} is missing, stands twice, or has another size or a bad check")
+                write!(out, "no plain image: sector {number} is missing, double, of another size or with a bad check")
             }
         }
     }
