@@ -10,17 +10,14 @@ use lib.IntN.{ℤ, pos, negsuc}
 use lib.ListN.{length, take, length-append}
 use lib.Signed.{ltZ}
 use Rattle.io.specs.Counts.{clamped}
-use Rattle.lines.specs.Lines.{outAfter}
-use Rattle.listing.proofs.Laws.{front-in-room}
-use Rattle.file_listing.specs.ListingOfFile.{fileListing, WholeListing}
-use Rattle.track_file.specs.Portions.{startOf, startCells, readerAfter, cellsAfter, readerAfterAll, cellsAfterAll, wholeOf, isStopped}
+use Rattle.track_file.specs.Portions.{startOf, startCells, readerAfter, cellsAfter, readerAfterAll, cellsAfterAll, readerThrough, cellsThrough, isStopped}
 use Rattle.file_reader.specs.declared.Reader.{Reader}
 use Rattle.track_file.proofs.Portions.{cells-then}
-use Rattle.track_listing.specs.declared.Input.{Input}
-use Rattle.track_listing.specs.declared.Input.the-variants.{Open, Ended, Failed}
-use Rattle.track_listing.specs.Reading.{bytesRead, inputWith, inputAfter, OneRead, Leads, portionsOf, AllReads, listedOf, ListedInput}
-use Rattle.track_listing.specs.Reading.Leads.{none, one}
-use Rattle.track_listing.specs.PrivateContracts.{TakenRead, ReadThrough}
+use Rattle.track_input.specs.declared.Input.{Input}
+use Rattle.track_input.specs.declared.Input.the-variants.{Open, Ended, Failed}
+use Rattle.track_input.specs.Reading.{bytesRead, inputWith, inputAfter, OneRead, Leads, portionsOf, AllReads, ReadThrough}
+use Rattle.track_input.specs.Reading.Leads.{none, one}
+use Rattle.track_input.specs.PrivateContracts.{TakenRead}
 
 -- the three answers of a read, by the tests on its number
 module _ (reader : Reader) where
@@ -158,35 +155,17 @@ module _ {first : Reader} {before : List ℕ} {reader : Reader} {cells : List �
       let m = reading .turns-are in
       record { reads = reading .reads; all = record { leads = reading .leads; to-end = λ at same. omega arith }; cells-are = reading .cells-are }
 
--- the listing, from the reads that led to its reader
+-- where `start` was called before: the reader and the cells are those of the portions, from the buffer on
 module _ (buffer : List ℕ) {first : Reader} {cleared : List ℕ} (started : (first ≡ startOf (length buffer)) × (cleared ≡ startCells buffer))
     {input : Input} {cells : List ℕ} (through : ReadThrough first cleared input cells) where
-  all-from-start : AllReads (startOf (length buffer)) (through .reads) input
+  pub all-from-start : AllReads (startOf (length buffer)) (through .reads) input
   all-from-start = subst (λ (x : Reader). AllReads x (through .reads) input) (started .0) (through .all)
 
-  listed : {answer : ℕ} {out : List ℕ} → answer ≡ length (listedOf (length buffer) input (through .reads)) → take answer out ≡ listedOf (length buffer) input (through .reads)
-      → ListedInput buffer answer out
-  listed a f = record { reads = through .reads; last = input; all = all-from-start; answer-is = a; front-is = f }
+  pub reader-from-start : {reader : Reader} → input ≡ Ended reader → reader ≡ readerThrough buffer (portionsOf (through .reads))
+  reader-from-start e = led (rw e at (all-from-start .leads)) (startOf (length buffer)) refl
 
-  pub still-open : (out : List ℕ) {reader : Reader} → input ≡ Open reader → ListedInput buffer 0 out
-  unfolding listedOf
-  still-open out e = listed (rw e) (rw e)
-
-  pub read-failed : (out : List ℕ) → input ≡ Failed → ListedInput buffer 0 out
-  unfolding listedOf
-  read-failed out e = listed (rw e) (rw e)
-
-  pub has-ended : {reader : Reader} {before out : List ℕ} {answer : ℕ} → input ≡ Ended reader → WholeListing reader cells answer before out → answer ≤ length before
-      → ListedInput buffer answer out
-  unfolding listedOf
-  has-ended {reader} {before} {out} {answer} e listing room =
+  pub cells-from-start : cells ≡ cellsThrough buffer (portionsOf (through .reads))
+  cells-from-start =
       let portions = portionsOf (through .reads) in
-      let made = fileListing (length buffer) (wholeOf portions) in
-      let at = led (rw e at (all-from-start .leads)) (startOf (length buffer)) refl in
-      let c = through .cells-are ∙ ap (λ (x : Reader). cellsAfterAll x portions cleared) (started .0)
-      ∙ ap (cellsAfterAll (startOf (length buffer)) portions) (started .1) in
-      let whole = listing .whole buffer portions at c in
-      listed (rw e (whole .0))
-      (rw e
-      (ap (take answer) (whole .1) ∙ ap (λ (n : ℕ). take n (outAfter made before)) (whole .0)
-      ∙ front-in-room made before (subst (λ (n : ℕ). n ≤ length before) (whole .0) room)))
+      through .cells-are ∙ ap (λ (x : Reader). cellsAfterAll x portions cleared) (started .0)
+      ∙ ap (cellsAfterAll (startOf (length buffer)) portions) (started .1)

@@ -1,18 +1,18 @@
--- `track_listing::read_all` meets its contract: the reads so far led to the reader and the cells. Assumes nothing but the contract of the
+-- `track_input::read_all` meets its contract: the reads so far led to the reader and the cells. Assumes nothing but the contract of the
 -- system's `read`.
 use mathlib.Core.Path.{_≡_}
 use native.Mathlib.Omega.{arith}
 use borrow.Author.Needs.{needs}
 use lib.ListN.{length}
-use Rattle.track_listing.proofs.Reading.{Reading, no-reads, one-read, read-to-end, failed-read, no-turns}
-use Rattle.track_listing.proofs.read_all.Statement.{statement}
-use Rattle.track_listing.proofs.read_all.Tie as tie
+use Rattle.track_input.proofs.Reading.{Reading, no-reads, one-read, read-to-end, failed-read, no-turns}
+use Rattle.track_input.proofs.read_all.Statement.{statement}
+use Rattle.track_input.proofs.read_all.Tie as tie
 
 abbrev Inv-loop : tie.InvT-loop
-Inv-loop portion₀ cells₀ at₀ turns₀ portion cells at turns = (length portion ≡ length portion₀) × ((length cells ≡ length cells₀) × Reading at₀ cells₀ at cells turns)
+Inv-loop from portion₀ cells₀ at₀ turns₀ portion cells at turns = (length portion ≡ length portion₀) × ((length cells ≡ length cells₀) × Reading at₀ cells₀ at cells turns)
 
 abbrev μ-loop : tie.MeasureT-loop
-μ-loop portion₀ cells₀ at₀ turns₀ portion cells at turns = turns
+μ-loop from portion₀ cells₀ at₀ turns₀ portion cells at turns = turns
 
 loop-holds : tie.Need-loop-holds Inv-loop μ-loop
 loop-holds c = (search needs, (search needs, no-reads _ _))

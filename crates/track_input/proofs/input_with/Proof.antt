@@ -1,13 +1,13 @@
--- `track_listing::input_with` meets its contract. Assumes nothing.
+-- `track_input::input_with` meets its contract. Assumes nothing.
 use mathlib.Core.Path.{sym, ap, _∙_}
 use mathlib.Core.Bool.{true, false}
 use lib.IntN.{ℤ}
 use mir.Facts.{toZ-ofZ}
-use Rattle.track_listing.specs.Reading.{inputWith}
-use Rattle.track_listing.proofs.Reading.{failed, brought, at-end}
+use Rattle.track_input.specs.Reading.{inputWith}
+use Rattle.track_input.proofs.Reading.{failed, brought, at-end}
 use borrow.Author.Needs.{needs}
-use Rattle.track_listing.proofs.input_with.Statement.{statement}
-use Rattle.track_listing.proofs.input_with.Tie as tie
+use Rattle.track_input.proofs.input_with.Statement.{statement}
+use Rattle.track_input.proofs.input_with.Tie as tie
 
 returns : tie.Need-returns
 returns c =

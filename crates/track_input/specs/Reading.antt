@@ -1,6 +1,6 @@
--- Section 13 of the specification, rules 13.1 to 13.6: what track_listing makes of its input. The contract of the system's `read` says how
--- many bytes it may put at the start of a portion, and not which. So a read is here a number that was answered and a portion that was left,
--- and the promises say that there are reads of which all this holds; that they are those of standard input is seen in the code of
+-- Section 13 of the specification, rules 13.1, 13.2 and 13.5: how a track file is read from an input. The contract of the system's `read`
+-- says how many bytes it may put at the start of a portion, and not which. So a read is here a number that was answered and a portion that was
+-- left, and the promises say that there are reads of which all this holds; that they are those of the descriptor is seen in the code of
 -- `read_portion`, and a program that reads nothing and takes its first read for a failure meets them too. Assumes nothing.
 use Prim.Native.Nat.{ℕ, zero, suc}
 use mathlib.Core.Path.{_≡_}
@@ -8,11 +8,10 @@ use mathlib.Core.Bool.{cond}
 use mathlib.Core.List.{List, [], _∷_}
 use lib.IntN.{ℤ, pos, negsuc}
 use lib.ListN.{length, take}
-use Rattle.file_listing.specs.ListingOfFile.{fileListing}
-use Rattle.track_file.specs.Portions.{startOf, readerAfter, wholeOf, isStopped}
+use Rattle.track_file.specs.Portions.{readerAfter, cellsAfterAll, isStopped}
 use Rattle.file_reader.specs.declared.Reader.{Reader}
-use Rattle.track_listing.specs.declared.Input.{Input}
-use Rattle.track_listing.specs.declared.Input.the-variants.{Open, Ended, Failed}
+use Rattle.track_input.specs.declared.Input.{Input}
+use Rattle.track_input.specs.declared.Input.the-variants.{Open, Ended, Failed}
 
 -- 13.1, 13.2: the bytes that a read brought, which answered this and left this portion: none at the end of the input, and none where it
 -- failed
@@ -54,17 +53,8 @@ pub record AllReads (first : Reader) (reads : List OneRead) (last : Input) : Typ
   pub leads : Leads (Open first) reads last
   pub to-end : (reader : Reader) → last ≡ Open reader → length reads ≡ 18446744073709551615
 
--- 13.2, 13.4, 13.6: what is listed of an input that the reads brought to this, with a cell buffer of `room` bytes: where it has ended, the
--- file that their bytes make up, and else nothing. The program has 16,384 bytes, so that 10 is not given
-unfoldable pub listedOf : ℕ → Input → List OneRead → List ℕ
-listedOf room (Open reader) reads = []
-listedOf room (Ended reader) reads = fileListing room (wholeOf (portionsOf reads))
-listedOf room Failed reads = []
-
--- 13.1, 13.4: there are reads of which what is listed stands at the front of `out`; the answer is its number of bytes
-pub record ListedInput (buffer : List ℕ) (answer : ℕ) (out : List ℕ) : Type 0 where
+-- 13.1: what reading leaves: there are reads that led from the first reader to this input, and the cells are those of their portions
+pub record ReadThrough (first : Reader) (before : List ℕ) (last : Input) (after : List ℕ) : Type 0 where
   pub reads : List OneRead
-  pub last : Input
-  pub all : AllReads (startOf (length buffer)) reads last
-  pub answer-is : answer ≡ length (listedOf (length buffer) last reads)
-  pub front-is : take answer out ≡ listedOf (length buffer) last reads
+  pub all : AllReads first reads last
+  pub cells-are : after ≡ cellsAfterAll first (portionsOf reads) before

@@ -1,9 +1,9 @@
--- `track_listing::take_read` meets its contract. Assumes nothing.
+-- `track_input::take_read` meets its contract. Assumes nothing.
 use mir.Facts.{toZ-ofZ}
-use Rattle.track_listing.proofs.Reading.{taken}
+use Rattle.track_input.proofs.Reading.{taken}
 use borrow.Author.Needs.{needs}
-use Rattle.track_listing.proofs.take_read.Statement.{statement}
-use Rattle.track_listing.proofs.take_read.Tie as tie
+use Rattle.track_input.proofs.take_read.Statement.{statement}
+use Rattle.track_input.proofs.take_read.Tie as tie
 
 count-requires : tie.Need-count-requires
 count-requires c κs = search needs
