@@ -10,7 +10,7 @@ use track_input::Input;
 ghost use mathlib.Core.Path.{_≡_};
 ghost use Prim.Native.Nat.{_≤_};
 ghost use lib.ListN.{length};
-ghost use Rattle.lines.specs.Lines.{outAfter};
+ghost use Rattle.lines.specs.Lines.{digit, outAfter};
 ghost use Rattle.refusals.specs.RefusedCalls.{numberOf, valueOf};
 ghost use Rattle.st_track.specs.ImageOfInput.{numberLine, refusalLine, unreadableLine, ImagedInput};
 
@@ -73,9 +73,16 @@ fn write_number(value: usize, out: &mut [u8]) -> usize
     ensures out { λ _. ⌜ now (out .exit) ≡ outAfter (numberLine value) (now (out .entry)) ⌝ }
 {
     let mut line = *b"refused 24 number 0\n";
-    line[18] = b'0' + (value % 10) as u8;
+    line[18] = last_digit(value);
     basis::copy_bytes(&line, out);
     20
+}
+
+// The last decimal digit of a number, as a character.
+fn last_digit(n: usize) -> u8
+    ensures { λ r. ⌜ r ≡ digit n ⌝ }
+{
+    b'0' + (n % 10) as u8
 }
 
 // Writes the line of an input that cannot be read to its end.
