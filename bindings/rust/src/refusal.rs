@@ -44,7 +44,7 @@ pub enum Refusal {
     LengthsDiffer,
     /// 19: the reads have not 130, 258, 514 or 1,026 bytes (rule 14.2).
     NotASectorLength,
-    /// 24: the track has no plain image (rule 15.2). The least of the numbers 1 to 9 that stands in the way, or 0 where only a number besides
+    /// 24: the track has no plain image (rule 15.2). The first number from 1 to 9 that stands in the way, or 0 where only a number besides
     /// these does (rule 15.4).
     NoPlainImage(usize),
 }

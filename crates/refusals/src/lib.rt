@@ -42,7 +42,7 @@ pub enum Refusal {
     LengthsDiffer,
     // 19: the length of the reads is that of no sector.
     NotASectorLength,
-    // 24: the track has no plain image: the least of the numbers 1 to 9 that stands in the way, or 0.
+    // 24: the track has no plain image: the first number from 1 to 9 that stands in the way, or 0.
     NoPlainImage(usize),
 }
 

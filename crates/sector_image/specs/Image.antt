@@ -38,7 +38,7 @@ indexOf sectors number = least (numbered sectors number) (length sectors) 0
 unfoldable pub fits : List Sector → ℕ → Bool
 fits sectors number = eqb (count (numbered sectors number) (length sectors) 0) 1 && isPlain (getD sectors (indexOf sectors number) noSector)
 
--- 15.4: the least of the numbers 1 to 9 that is not in order; 10 where all are
+-- 15.4: the first number from 1 to 9 that is not in order; 10 where all are
 unfoldable pub firstUnfit : List Sector → ℕ
 firstUnfit sectors = least (λ number. not (fits sectors number)) 9 1
 

@@ -63,7 +63,7 @@ fn put_image(bytes: &[u8], n: usize, ss: Sectors, image: &mut [u8]) -> Counted
     Counted::Count(IMAGE)
 }
 
-// The least of the numbers 1 to 9 that stands in the way; 10 where none does.
+// The first number from 1 to 9 that stands in the way; 10 where none does.
 fn first_unfit(ss: Sectors) -> usize
     requires { ⌜ AtMost64 ss ⌝ }
     ensures { λ r. ⌜ r ≡ firstUnfit (sectorsIn ss) ⌝ }

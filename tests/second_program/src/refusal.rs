@@ -136,7 +136,7 @@ impl Refusal {
         Refusal::new(19, 0)
     }
 
-    /// 24: the sectors make no plain image. Beside it: the least of the numbers 1 to 9 that
+    /// 24: the sectors make no plain image. Beside it: the first number from 1 to 9 that
     /// is at fault, or 0 where only sectors of other numbers are.
     pub fn no_plain_image(number_at_fault: u8) -> Refusal {
         Refusal::new(24, usize::from(number_at_fault))
