@@ -14,6 +14,7 @@ mod densities;
 mod files;
 mod findings;
 mod flux;
+mod image_program;
 mod program;
 mod report;
 mod sector_image;
@@ -32,7 +33,7 @@ use std::thread;
 type Part = fn(&mut Report);
 
 /// The parts, by their modules. The long ones come first, so that no worker is left alone with one at the end.
-const PARTS: [(&str, Part); 56] = [
+const PARTS: [(&str, Part); 59] = [
     ("files", files::in_memory),
     ("findings", findings::any_tracks),
     ("sectors", sectors::standard),
@@ -51,6 +52,9 @@ const PARTS: [(&str, Part); 56] = [
     ("findings", findings::size_codes),
     ("sectors", sectors::size_codes),
     ("program", program::portions),
+    ("image_program", image_program::whole_files),
+    ("image_program", image_program::portions),
+    ("image_program", image_program::failing_inputs),
     ("sector_image", sector_image::tracks),
     ("sector_image", sector_image::planned),
     ("blocks", blocks::timings),
