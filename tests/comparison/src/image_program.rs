@@ -58,7 +58,7 @@ pub fn whole_files(report: &mut Report) {
         let message = String::from_utf8_lossy(&output.stderr).into_owned();
         group.same((output.stdout, message, output.status.success()), (second.0, second.1, true), || file.name.clone());
     }
-    group.same(images > 100, true, || format!("{images} of them have an image"));
+    group.same(images > 50, true, || format!("{images} of them have an image"));
     group.close(report);
 }
 
