@@ -49,6 +49,7 @@ extern "C" {
 #define THIKBROMU_LONGEST_SECTOR 1024
 #define THIKBROMU_CHECK_BYTES 2
 #define THIKBROMU_LONGEST_READ 1026 /* the longest sector with its check bytes */
+#define THIKBROMU_SECTOR_IMAGE_BYTES 4608 /* nine sectors of 512 bytes */
 #define THIKBROMU_PLACE_NUMBERS 2 /* the track and the side */
 #define THIKBROMU_LONGEST_LISTING 65536
 #define THIKBROMU_LONGEST_FILE 278542 /* both sections at their longest; a longer file is answered as its first 278,543 bytes are */
@@ -73,7 +74,8 @@ enum thikbromu_refusal {
     THIKBROMU_REFUSED_NOT_A_TRACK_BLOCK = 16,   /* the bytes are no track block; 0 */
     THIKBROMU_REFUSED_NO_SUCH_REVOLUTION = 17,  /* the block has no such revolution; 0 */
     THIKBROMU_REFUSED_LENGTHS_DIFFER = 18,      /* two reads of a sector differ in length; 0 */
-    THIKBROMU_REFUSED_NOT_A_SECTOR_LENGTH = 19  /* the reads have not 130, 258, 514 or 1,026 bytes; 0 */
+    THIKBROMU_REFUSED_NOT_A_SECTOR_LENGTH = 19, /* the reads have not 130, 258, 514 or 1,026 bytes; 0 */
+    THIKBROMU_REFUSED_NO_PLAIN_IMAGE = 24       /* the track has no plain image; the first number from 1 to 9 in the way, or 0 (rule 15.4) */
 };
 
 /* The kinds of findings by their numbers, with their levels: rule 7.K is that of kind K, up to 21. T is the track of the drive, N how many
@@ -235,6 +237,14 @@ uint32_t thikbromu_sector(const uint8_t *bytes, size_t length, size_t n, uint32_
  * their check is good, else 0. A bad check does not refuse the call. Refuses 1, 2, 3, 4, 11, 12, 13. */
 uint32_t thikbromu_read_out(const uint8_t *bytes, size_t length, size_t n, uint32_t track, uint32_t side, size_t index, uint8_t *buffer,
                             size_t room, uint32_t *good, size_t *value);
+
+/* The plain image (rules 9.61 and 15.1 to 15.5), which an .ST file is made of: the 512 data bytes of sector 1, then those of sector 2, and so on
+ * up to 9, at the front of `image`. Gives 4,608, how many bytes that is; those behind keep their contents. The track has to have just the
+ * sectors 1 to 9, each once, with size code 2 and both checks good; the marks and the track and side in the IDs do not count. Refuses 1, 2, 3,
+ * 4, then 24 where the track is another, with the first number from 1 to 9 that is missing, stands twice, or has a sector that is not so, or
+ * with 0 where all nine are in order and a sector has a number besides them; then 13. */
+uint32_t thikbromu_sector_image(const uint8_t *bytes, size_t length, size_t n, uint32_t track, uint32_t side, uint8_t *image, size_t room,
+                                size_t *value);
 
 /* The findings (rules 7.32, 7.34 and 9.1) at the front of the list, in the order of their kinds, those of one kind by their places. Each
  * has four numbers: its kind, level, place and detail. `room` counts numbers. Gives the number of findings. Refuses 1, 2, 3, 4, 5. */

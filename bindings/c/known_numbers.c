@@ -1,6 +1,6 @@
 /*
- * The numbers that docs/SPECIFICATION.md gives to know (rules 1.17, 2.4, 3.13, 3.14, 6.19, 11.10 and 14.10), a small track block, and a track of
- * single density, through include/thikbromu.h: every routine is called, and every refusal is given.
+ * The numbers that docs/SPECIFICATION.md gives to know (rules 1.17, 2.4, 3.13, 3.14, 6.19, 11.10 and 14.10), a small track block, the plain image
+ * of a track, and a track of single density, through include/thikbromu.h: every routine is called, and every refusal is given.
  * The argument is samples/standard.track. It compiles as C99 and as C++.
  */
 #include "thikbromu.h"
@@ -315,6 +315,93 @@ static void test_standard_track(const uint8_t *cells)
     REFUSES(thikbromu_read_out(room, TRACK_BYTES, TRACK_CELLS, 0, 0, 0, data, sizeof data, &good, &value), NO_DATA, 0);
 }
 
+/* Writes an ID or data from a cell on, which begins a byte of cells: three syncs, the mark, so many bytes, and their check. */
+static void write_after_syncs(uint8_t *cells, size_t place, uint8_t mark, const uint8_t *bytes, size_t count)
+{
+    static const uint8_t syncs[6] = {0x44, 0x89, 0x44, 0x89, 0x44, 0x89};
+    uint8_t all[4 + 512 + THIKBROMU_CHECK_BYTES] = {0xA1, 0xA1, 0xA1, mark};
+    memcpy(all + 4, bytes, count);
+    uint16_t check = thikbromu_check_word(all, 4 + count);
+    all[4 + count] = (uint8_t)(check >> 8);
+    all[5 + count] = (uint8_t)(check & 0xFF);
+    memcpy(cells + place / 8, syncs, sizeof syncs);
+    /* The last bit of the syncs is a one. */
+    GIVES(thikbromu_encode(all + 3, count + 3, true, cells + place / 8 + sizeof syncs, 2 * (count + 3), &value), 2 * (count + 3));
+}
+
+/* Where the sector of an index stands on the standard track, and its data mark. */
+#define PLACE_OF(index) (1152 + 9824 * (size_t)(index))
+#define DATA_PLACE_OF(index) (PLACE_OF(index) + 704)
+
+static void write_id(uint8_t *cells, size_t place, uint8_t number, uint8_t size_code)
+{
+    const uint8_t id[4] = {0, 0, number, size_code};
+    write_after_syncs(cells, place, 0xFE, id, sizeof id);
+}
+
+#define IMAGE_OF(cells, length) thikbromu_sector_image(cells, TRACK_BYTES, TRACK_CELLS, 0, 0, image, length, &value)
+
+/* The plain image: the sectors of the standard track with other numbers, each data byte its sector's number. */
+static void test_sector_image(const uint8_t *cells)
+{
+    static const uint8_t numbers[9] = {5, 1, 9, 3, 7, 2, 8, 4, 6};
+    static uint8_t image[THIKBROMU_SECTOR_IMAGE_BYTES + 2];
+    static uint8_t kept[THIKBROMU_SECTOR_IMAGE_BYTES + 2];
+    uint8_t data[512];
+    memset(image, 77, sizeof image);
+    memset(kept, 77, sizeof kept);
+
+    /* As it is, with E5 in every byte. */
+    GIVES(IMAGE_OF(cells, sizeof image), 4608);
+    EXPECT(image[0] == 0xE5 && image[4607] == 0xE5 && image[4608] == 77 && image[4609] == 77);
+    EXPECT(memcmp(image, image + 1, 4607) == 0);
+
+    memcpy(room, cells, TRACK_BYTES);
+    for (size_t index = 0; index < 9; index++) {
+        memset(data, numbers[index], sizeof data);
+        write_id(room, PLACE_OF(index), numbers[index], 2);
+        write_after_syncs(room, DATA_PLACE_OF(index), 0xFB, data, sizeof data);
+    }
+    memset(image, 77, sizeof image);
+    GIVES(IMAGE_OF(room, THIKBROMU_SECTOR_IMAGE_BYTES), 4608);
+    for (size_t number = 1; number <= 9; number++) {
+        memset(data, (int)number, sizeof data);
+        EXPECT(memcmp(image + 512 * (number - 1), data, sizeof data) == 0);
+    }
+    EXPECT(image[4608] == 77 && image[4609] == 77);
+
+    /* What is refused leaves the memory as it was. Too little room is judged last. */
+    memset(image, 77, sizeof image);
+    REFUSES(IMAGE_OF(room, 4607), NO_ROOM_FOR_BYTES, 4608);
+    REFUSES(IMAGE_OF(room, 0), NO_ROOM_FOR_BYTES, 4608);
+    /* One sector more, in the last gap: the number 0, then 10, which are none of the nine, and then 6 a second time. */
+    write_id(room, PLACE_OF(9), 0, 2);
+    REFUSES(IMAGE_OF(room, sizeof image), NO_PLAIN_IMAGE, 0);
+    write_id(room, PLACE_OF(9), 10, 2);
+    REFUSES(IMAGE_OF(room, 0), NO_PLAIN_IMAGE, 0);
+    write_id(room, PLACE_OF(9), 6, 2);
+    REFUSES(IMAGE_OF(room, sizeof image), NO_PLAIN_IMAGE, 6);
+    /* A size code of 6, whose data has 512 bytes too: sector 5, which is less than 6. */
+    write_id(room, PLACE_OF(0), 5, 6);
+    REFUSES(IMAGE_OF(room, sizeof image), NO_PLAIN_IMAGE, 5);
+    /* A bad data check of sector 4, a bad ID check of sector 3, no data of sector 2, no sector 1. */
+    room[DATA_PLACE_OF(7) / 8 + 100] ^= 0x04;
+    REFUSES(IMAGE_OF(room, sizeof image), NO_PLAIN_IMAGE, 4);
+    room[PLACE_OF(3) / 8 + 17] ^= 0x01;
+    REFUSES(IMAGE_OF(room, sizeof image), NO_PLAIN_IMAGE, 3);
+    thikbromu_clear(room + DATA_PLACE_OF(5) / 8, 6, 6);
+    REFUSES(IMAGE_OF(room, sizeof image), NO_PLAIN_IMAGE, 2);
+    write_id(room, PLACE_OF(1), 11, 2);
+    REFUSES(IMAGE_OF(room, 0), NO_PLAIN_IMAGE, 1);
+
+    /* The track is judged first. */
+    REFUSES(thikbromu_sector_image(room, 0, 0, 84, 0, image, 0, &value), TRACK_OR_SIDE, 0);
+    REFUSES(thikbromu_sector_image(room, 0, 0, 0, 2, image, 0, &value), TRACK_OR_SIDE, 0);
+    REFUSES(thikbromu_sector_image(room, 0, 19999, 83, 1, image, 0, &value), CELL_COUNT, 19999);
+    REFUSES(thikbromu_sector_image(room, 2499, 20000, 83, 1, image, 0, &value), TOO_FEW_BYTES, 2500);
+    EXPECT(memcmp(image, kept, sizeof image) == 0);
+}
+
 /* Two reads of a sector, as rule 14.10 has them. */
 static void test_two_reads(void)
 {
@@ -423,6 +510,10 @@ static void test_too_many_sectors(void)
     }
     uint32_t numbers[4];
     REFUSES(thikbromu_findings(room, 65 * 40, 65 * 320, 0, 0, numbers, 4, &value), TOO_MANY_SECTORS, 65);
+    uint8_t image[1] = {77};
+    REFUSES(thikbromu_sector_image(room, 65 * 40, 65 * 320, 0, 0, image, 1, &value), TOO_MANY_SECTORS, 65);
+    REFUSES(thikbromu_sector_image(room, 64 * 40, 64 * 320, 0, 0, image, 1, &value), NO_PLAIN_IMAGE, 1);
+    EXPECT(image[0] == 77);
 }
 
 /* The standard track of single density has 50,000 cells: 20 bytes FF, 18 sectors, 27 bytes FF. */
@@ -709,6 +800,7 @@ int main(int count, char **arguments)
     test_track_blocks();
     test_portions();
     test_standard_track(file + BEFORE_CELLS);
+    test_sector_image(file + BEFORE_CELLS);
     test_two_reads();
     test_findings(file + BEFORE_CELLS);
     test_records(file + BEFORE_CELLS);

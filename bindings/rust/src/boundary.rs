@@ -43,6 +43,9 @@ pub const SECTOR_NUMBERS: usize = 13;
 /// The numbers of a finding.
 pub const FINDING_NUMBERS: usize = 4;
 
+/// The bytes of the plain image of a track: nine sectors of 512.
+pub const SECTOR_IMAGE_BYTES: usize = 4_608;
+
 /// The numbers of a place: the track and the side.
 pub const PLACE_NUMBERS: usize = 2;
 
@@ -144,6 +147,16 @@ extern "C" {
         buffer: *mut u8,
         room: usize,
         good: *mut u32,
+        value: *mut usize,
+    ) -> u32;
+    fn thikbromu_sector_image(
+        bytes: *const u8,
+        length: usize,
+        n: usize,
+        track: u32,
+        side: u32,
+        image: *mut u8,
+        room: usize,
         value: *mut usize,
     ) -> u32;
     fn thikbromu_findings(
@@ -271,7 +284,7 @@ fn answer(call: impl FnOnce(&mut usize) -> u32) -> Result<usize, Refusal> {
 
 #[cold]
 fn refusal_of(number: u32, value: usize) -> Refusal {
-    Refusal::try_from((number, value)).expect("the library gives refusals 1 to 17 alone")
+    Refusal::try_from((number, value)).expect("the library gives the refusals of its table alone")
 }
 
 /// The cell at a place, 0 or 1.
@@ -529,6 +542,29 @@ pub fn read_out(
             buffer.as_mut_ptr(),
             buffer.len(),
             good,
+            value,
+        )
+    })
+}
+
+/// The plain image of a track (rules 9.61 and 15.1 to 15.5) at the front of `image`: the 512 data bytes of sector 1, then those of sector 2, and
+/// so on up to 9. Gives how many bytes that is, [`SECTOR_IMAGE_BYTES`]. [`Track::sector_image`](crate::Track::sector_image) says which tracks
+/// have one.
+///
+/// Refuses [`TrackOrSide`](Refusal::TrackOrSide), [`CellCount`](Refusal::CellCount), [`TooFewBytes`](Refusal::TooFewBytes),
+/// [`TooManySectors`](Refusal::TooManySectors), [`NoPlainImage`](Refusal::NoPlainImage), [`NoRoomForBytes`](Refusal::NoRoomForBytes).
+#[inline]
+pub fn sector_image(packed: &[u8], cells: usize, track: u32, side: u32, image: &mut [u8]) -> Result<usize, Refusal> {
+    // SAFETY: each address and length are those of one slice; `image` and `value` are lent to this call alone.
+    answer(|value| unsafe {
+        thikbromu_sector_image(
+            packed.as_ptr(),
+            packed.len(),
+            cells,
+            track,
+            side,
+            image.as_mut_ptr(),
+            image.len(),
             value,
         )
     })

@@ -39,7 +39,7 @@ mod track_file;
 mod two_reads;
 
 #[doc(inline)]
-pub use boundary::{check_word, check_word_from, clear, decode, encode, put_one};
+pub use boundary::{check_word, check_word_from, clear, decode, encode, put_one, SECTOR_IMAGE_BYTES};
 pub use coding::{decode_to_vec, encode_to_vec, MOST_BYTES_TO_CODE, MOST_BYTES_TO_DECODE};
 pub use density::Density;
 pub use finding::{Finding, Kind, NotAKind, MOST_FINDINGS};

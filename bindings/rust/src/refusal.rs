@@ -44,10 +44,13 @@ pub enum Refusal {
     LengthsDiffer,
     /// 19: the reads have not 130, 258, 514 or 1,026 bytes (rule 14.2).
     NotASectorLength,
+    /// 24: the track has no plain image (rule 15.2). The first number from 1 to 9 that stands in the way, or 0 where only a number besides
+    /// these does (rule 15.4).
+    NoPlainImage(usize),
 }
 
 impl Refusal {
-    /// Its number, 1 to 19.
+    /// Its number, 1 to 19 or 24.
     pub const fn number(self) -> u32 {
         match self {
             Refusal::TrackOrSide => 1,
@@ -69,6 +72,7 @@ impl Refusal {
             Refusal::NoSuchRevolution => 17,
             Refusal::LengthsDiffer => 18,
             Refusal::NotASectorLength => 19,
+            Refusal::NoPlainImage(_) => 24,
         }
     }
 
@@ -85,7 +89,8 @@ impl Refusal {
             | Refusal::NoRoom(value)
             | Refusal::NoSuchSector(value)
             | Refusal::NoRoomForBytes(value)
-            | Refusal::TooManyBytes(value) => value,
+            | Refusal::TooManyBytes(value)
+            | Refusal::NoPlainImage(value) => value,
             Refusal::TrackOrSide
             | Refusal::NoTimings
             | Refusal::NoData
@@ -132,6 +137,7 @@ impl TryFrom<(u32, usize)> for Refusal {
             (17, 0) => Refusal::NoSuchRevolution,
             (18, 0) => Refusal::LengthsDiffer,
             (19, 0) => Refusal::NotASectorLength,
+            (24, _) => Refusal::NoPlainImage(value),
             _ => return Err(NotARefusal { number, value }),
         })
     }
@@ -160,6 +166,10 @@ impl fmt::Display for Refusal {
             Refusal::NoSuchRevolution => write!(out, "the track block lacks that revolution"),
             Refusal::LengthsDiffer => write!(out, "the two reads differ in length"),
             Refusal::NotASectorLength => write!(out, "the reads have not 130, 258, 514 or 1,026 bytes"),
+            Refusal::NoPlainImage(0) => write!(out, "no plain image: there is a sector besides 1 to 9"),
+            Refusal::NoPlainImage(number) => {
+                write!(out, "no plain image: sector {number} is missing, double, of another size or with a bad check")
+            }
         }
     }
 }
@@ -182,7 +192,7 @@ mod tests {
     fn numbers_and_values_are_those_of_the_table() {
         // The refusals beside which 0 is given.
         let without_value = [1, 6, 12, 15, 16, 17, 18, 19];
-        for number in 1..=19 {
+        for number in (1..=19).chain([24]) {
             for value in [0, 7] {
                 let refusal = Refusal::try_from((number, value));
                 if value != 0 && without_value.contains(&number) {
@@ -196,7 +206,7 @@ mod tests {
 
     #[test]
     fn other_numbers_are_no_refusals() {
-        for number in [0, 20, u32::MAX] {
+        for number in [0, 20, 21, 22, 23, 25, u32::MAX] {
             assert_eq!(Refusal::try_from((number, 0)), Err(NotARefusal { number, value: 0 }));
         }
     }

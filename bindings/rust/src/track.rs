@@ -1,6 +1,6 @@
 //! A track of packed cells.
 
-use crate::boundary::{self, FindingRecord, SECTOR_NUMBERS};
+use crate::boundary::{self, FindingRecord, SECTOR_IMAGE_BYTES, SECTOR_NUMBERS};
 use crate::density::Density;
 use crate::finding::{Finding, MOST_FINDINGS};
 use crate::refusal::Refusal;
@@ -128,6 +128,26 @@ impl<'a> Track<'a> {
     /// As [`read_out`](Track::read_out), into a vector that has room for the longest sector.
     pub fn read_out_to_vec(&self, index: usize) -> Result<SectorData, Refusal> {
         self.in_double_density().read_out_to_vec(index)
+    }
+
+    /// The plain image, as an .ST file has it: the 512 data bytes of sector 1, then those of sector 2, and so on up to 9 (rule 15.1). Such a
+    /// file has the images of side 0 and side 1 of track 0, then those of track 1, and so on.
+    ///
+    /// Refuses [`NoPlainImage`](Refusal::NoPlainImage) where the track has not just the sectors 1 to 9, each once, with size code 2 and both
+    /// checks good. The marks, and the track and side in the IDs, do not count (rule 15.2). It is in double density; the library has none of
+    /// single density.
+    pub fn sector_image(&self) -> Result<[u8; SECTOR_IMAGE_BYTES], Refusal> {
+        let mut image = [0; SECTOR_IMAGE_BYTES];
+        self.write_sector_image(&mut image)?;
+        Ok(image)
+    }
+
+    /// As [`sector_image`](Track::sector_image), to the front of `image`. Gives how many bytes that is, [`SECTOR_IMAGE_BYTES`]; those behind
+    /// them keep their contents.
+    ///
+    /// Refuses [`NoPlainImage`](Refusal::NoPlainImage), [`NoRoomForBytes`](Refusal::NoRoomForBytes), and then writes nothing.
+    pub fn write_sector_image(&self, image: &mut [u8]) -> Result<usize, Refusal> {
+        boundary::sector_image(self.packed, self.cells, self.track, self.side, image)
     }
 
     /// The findings, in the order of their kinds, those of one kind by their places (rule 7.32). The list has room for all that a track can

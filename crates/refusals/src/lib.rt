@@ -42,6 +42,8 @@ pub enum Refusal {
     LengthsDiffer,
     // 19: the length of the reads is that of no sector.
     NotASectorLength,
+    // 24: the track has no plain image: the first number from 1 to 9 that stands in the way, or 0.
+    NoPlainImage(usize),
 }
 
 // What a call answers that counts something, as bytes written or findings: their number, or a refusal.
@@ -75,6 +77,7 @@ impl Refusal {
             Refusal::NoSuchRevolution => 17,
             Refusal::LengthsDiffer => 18,
             Refusal::NotASectorLength => 19,
+            Refusal::NoPlainImage(_) => 24,
         }
     }
 
@@ -102,6 +105,7 @@ impl Refusal {
             Refusal::NoSuchRevolution => 0,
             Refusal::LengthsDiffer => 0,
             Refusal::NotASectorLength => 0,
+            Refusal::NoPlainImage(number) => number,
         }
     }
 }

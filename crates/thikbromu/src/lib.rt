@@ -8,6 +8,7 @@
 // passed, and a bool is 0 or 1. The routines ask nothing of the values.
 mod blocks;
 mod files;
+mod images;
 mod reads;
 mod single_density;
 
@@ -18,6 +19,7 @@ pub use files::thikbromu_file_cells;
 pub use files::thikbromu_file_listing;
 pub use files::thikbromu_listing;
 use findings::Finding;
+pub use images::thikbromu_sector_image;
 use layouts::Density;
 pub use reads::thikbromu_compare_reads;
 pub use reads::thikbromu_good_read;

@@ -1,1 +1,1 @@
-mod Reading
+mod Listing

@@ -14,8 +14,10 @@ mod densities;
 mod files;
 mod findings;
 mod flux;
+mod image_program;
 mod program;
 mod report;
+mod sector_image;
 mod sectors;
 mod single_density;
 mod terms;
@@ -31,7 +33,7 @@ use std::thread;
 type Part = fn(&mut Report);
 
 /// The parts, by their modules. The long ones come first, so that no worker is left alone with one at the end.
-const PARTS: [(&str, Part); 53] = [
+const PARTS: [(&str, Part); 59] = [
     ("files", files::in_memory),
     ("findings", findings::any_tracks),
     ("sectors", sectors::standard),
@@ -50,10 +52,16 @@ const PARTS: [(&str, Part); 53] = [
     ("findings", findings::size_codes),
     ("sectors", sectors::size_codes),
     ("program", program::portions),
+    ("image_program", image_program::whole_files),
+    ("image_program", image_program::portions),
+    ("image_program", image_program::failing_inputs),
+    ("sector_image", sector_image::tracks),
+    ("sector_image", sector_image::planned),
     ("blocks", blocks::timings),
     ("blocks", blocks::short_rooms),
     ("two_reads", two_reads::pairs),
     ("two_reads", two_reads::data_marks),
+    ("sector_image", sector_image::any_tracks),
     ("terms", terms::tables),
     ("track_cells", track_cells::reading),
     ("track_cells", track_cells::finding),

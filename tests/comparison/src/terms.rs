@@ -31,6 +31,8 @@ fn refusal(ours: thikbromu::Refusal) -> Refusal {
         Ours::NoSuchRevolution => Refusal::no_such_revolution(),
         Ours::LengthsDiffer => Refusal::reads_differ_in_length(),
         Ours::NotASectorLength => Refusal::no_length_of_a_read(),
+        // The second program has a byte there: another number shows as a difference.
+        Ours::NoPlainImage(number) => Refusal::no_plain_image(u8::try_from(number).unwrap_or(u8::MAX)),
     }
 }
 
@@ -92,6 +94,7 @@ pub fn tables(report: &mut Report) {
         Refusal::no_such_revolution(),
         Refusal::reads_differ_in_length(),
         Refusal::no_length_of_a_read(),
+        Refusal::no_plain_image(7),
     ];
     for row in rows {
         let ours = thikbromu::Refusal::try_from((row.number, row.value as usize));

@@ -13,6 +13,7 @@ pub mod findings;
 pub mod listing;
 pub mod mfm;
 pub mod refusal;
+pub mod sector_image;
 pub mod sectors;
 pub mod separator;
 pub mod single_density;

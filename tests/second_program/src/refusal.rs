@@ -22,7 +22,7 @@ pub const MOST_BYTES_TO_DECODE: usize = 16_384;
 /// A refused call: the number of the refusal, and what is given beside it.
 #[derive(Clone, Copy, Debug, PartialEq, Eq)]
 pub struct Refusal {
-    /// The number, 1 to 19.
+    /// The number, 1 to 25.
     pub number: u32,
     /// What is given beside it.
     pub value: u64,
@@ -135,6 +135,12 @@ impl Refusal {
     pub fn no_length_of_a_read() -> Refusal {
         Refusal::new(19, 0)
     }
+
+    /// 24: the sectors make no plain image. Beside it: the first number from 1 to 9 that
+    /// is at fault, or 0 where only sectors of other numbers are.
+    pub fn no_plain_image(number_at_fault: u8) -> Refusal {
+        Refusal::new(24, usize::from(number_at_fault))
+    }
 }
 
 #[cfg(test)]
@@ -164,6 +170,8 @@ mod tests {
             (Refusal::no_such_revolution(), 17, 0),
             (Refusal::reads_differ_in_length(), 18, 0),
             (Refusal::no_length_of_a_read(), 19, 0),
+            (Refusal::no_plain_image(0), 24, 0),
+            (Refusal::no_plain_image(9), 24, 9),
         ];
         for (refusal, number, value) in rows {
             assert_eq!(refusal, Refusal { number, value });

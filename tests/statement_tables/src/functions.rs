@@ -15,8 +15,9 @@ pub struct Function {
 }
 
 /// Programs have no public function. These make their promises.
-const OF_PROGRAMS: [(&str, &str); 3] = [
+const OF_PROGRAMS: [(&str, &str); 4] = [
     ("track_listing", "list_input"),
+    ("st_track", "image_input"),
     ("scp_track", "read_choice"),
     ("scp_track", "list_input"),
 ];

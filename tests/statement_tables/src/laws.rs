@@ -103,6 +103,7 @@ pub const LAWS: &[Law] = &[
         "two_reads/proofs/Laws",
         &["equal-reads", "no-finding-means-equal"],
     ),
+    ("15.1", "sector_image/proofs/Laws", &["part-read-out"]),
 ];
 
 /// A rule that no function promises, or, where it is only run, that no test names; and why.

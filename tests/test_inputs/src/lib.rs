@@ -10,6 +10,7 @@
 pub mod block_inputs;
 pub mod file_inputs;
 pub mod flux_inputs;
+pub mod image_tracks;
 pub mod random;
 pub mod read_pairs;
 pub mod single_density_flux;

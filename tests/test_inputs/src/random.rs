@@ -48,6 +48,13 @@ impl Random {
     pub fn one_in(&mut self, times: u64) -> bool {
         times != 0 && self.below(times) == 0
     }
+
+    /// Puts the elements of a list into a random order.
+    pub fn shuffle<T>(&mut self, list: &mut [T]) {
+        for unsettled in (1..list.len()).rev() {
+            list.swap(unsettled, self.below(unsettled as u64 + 1) as usize);
+        }
+    }
 }
 
 #[cfg(test)]
@@ -87,5 +94,19 @@ mod tests {
         assert_eq!(random.between(4, -4), 4);
         assert_eq!(random.below(0), 0);
         random.between(i64::MIN, i64::MAX);
+    }
+
+    #[test]
+    fn every_order_comes_up() {
+        let mut random = Random::new(2);
+        let mut orders = std::collections::BTreeSet::new();
+        for _ in 0..300 {
+            let mut list = [1, 2, 3, 4];
+            random.shuffle(&mut list);
+            orders.insert(list);
+        }
+        assert_eq!(orders.len(), 24);
+        assert!(orders.iter().all(|list| list.iter().sum::<i32>() == 10));
+        random.shuffle::<u8>(&mut []);
     }
 }

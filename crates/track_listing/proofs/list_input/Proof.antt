@@ -1,6 +1,6 @@
 -- `track_listing::list_input` meets its contract. Assumes nothing but the contract of the system's `read`.
 use native.Mathlib.Omega.{arith}
-use Rattle.track_listing.proofs.Reading.{still-open, read-failed, has-ended}
+use Rattle.track_listing.proofs.Listing.{still-open, read-failed, has-ended}
 use borrow.Author.Needs.{needs}
 use Rattle.track_listing.proofs.list_input.Statement.{statement}
 use Rattle.track_listing.proofs.list_input.Tie as tie
@@ -35,7 +35,7 @@ returns c =
     let ended = list .before .before .before .before in
     let read = ended .before .before .before .before .before .before in
     let started = read .before .before .before .before .before in
-    (list .list-file .ensures .1 .0, has-ended _ (started .start .ensures) (read .read-all .ensures) (ended .input .given .1) (list .list-file .ensures .1 .1 .1) (omega (arith, list .list-file .ensures .1 .0, read .read-all .kept .1 .0, started .before .before .before .before .pre)))
+    (list .list-file .ensures .1 .0, has-ended _ (started .start .ensures) (read .read-all .ensures) (ended .input .given .1) (list .list-file .ensures .1 .1 .1) (omega (arith, list .list-file .ensures .1 .0, read .read-all .kept .1 .1 .0, started .before .before .before .before .pre)))
 
 same-length-3 : tie.Need-same-length-3
 same-length-3 c = search needs
