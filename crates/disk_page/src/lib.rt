@@ -2,183 +2,42 @@
 // track and side. Tracks of one side that follow each other and have TNF share a line. What there is no room for is not written; the answer is
 // the number of bytes of the whole.
 use refusals::Counted;
-use refusals::Refusal;
+ghost use mathlib.Core.Path.{_≡_};
+ghost use mathlib.Core.Bool.{cond, _&&_};
+ghost use mathlib.Core.List.{[]};
+ghost use Prim.Native.Nat.{_+_, _*_, _<_, _≤_};
+ghost use lib.Dec.{eqb};
+ghost use lib.ListN.{length};
+ghost use Rattle.basis.specs.Lists.{joined};
+ghost use Rattle.disk_tracks.specs.Given.{some, kindAt, findingsIn};
+ghost use Rattle.lines.specs.Lines.{digit as digitOf, findingLine};
+ghost use Rattle.lines.specs.Writing.{Wrote};
+ghost use Rattle.refusals.specs.RefusedCalls.{countedAnswer};
+ghost use Rattle.disk_page.specs.Ranges.{hasTnf, goesOn, lastOf, isEmpty, isSingleSided};
+ghost use Rattle.disk_page.specs.Page.{entry, entryOf, entryLine, entryLines, trackEntries, sideEntries, startOf, pageOf, pageAnswer, pageAfter};
+ghost use Rattle.disk_page.specs.PrivateContracts.{Whole, far};
 
 // The page of the tracks, three numbers each (track, side, how many findings), and of their findings in the same order, four numbers each
 // (kind, level, place, detail).
-pub fn disk_page(tracks: &[u32], findings: &[u32], out: &mut [u8]) -> Counted {
-    if tracks.len() / 3 > 168 {
-        return Counted::Refused(Refusal::TooManyTracks);
+pub fn disk_page(tracks: &[u32], findings: &[u32], out: &mut [u8]) -> Counted
+    ensures answer { λ r. ⌜ countedAnswer r ≡ pageAnswer (now (tracks .entry)) (now (findings .entry)) ⌝ }
+    ensures out { λ _. ⌜ now (out .exit) ≡ pageAfter (now (tracks .entry)) (now (findings .entry)) (now (out .entry)) ⌝ }
+{
+    let judged = disk_tracks::judge_tracks(tracks, findings);
+    match judged {
+        Counted::Refused(refusal) => Counted::Refused(refusal),
+        Counted::Count(_) => Counted::Count(write_page(tracks, findings, out)),
     }
-    if some_outside(tracks) {
-        return Counted::Refused(Refusal::TrackOrSide);
-    }
-    if some_twice(tracks) {
-        return Counted::Refused(Refusal::TrackGivenTwice);
-    }
-    if !add_up(tracks, findings) {
-        return Counted::Refused(Refusal::NotTheirFindings);
-    }
-    if some_amiss(tracks, findings) {
-        return Counted::Refused(Refusal::NotTheirFindings);
-    }
-    Counted::Count(write_page(tracks, findings, out))
 }
 
-// Whether some track is none of a disk.
-fn some_outside(tracks: &[u32]) -> bool {
-    let count = tracks.len() / 3;
-    let mut i: usize = 0;
-    while i < count {
-        if is_outside(tracks[3 * i], tracks[3 * i + 1]) {
-            return true;
-        }
-        i += 1;
-    }
-    false
-}
+// The functions below write from place `at` on and answer the place after what they wrote. All lines together have less than 2^54 bytes, so no
+// sum can overflow.
 
-// A track above 83, or a side above 1.
-fn is_outside(track: u32, side: u32) -> bool {
-    if track > 83 {
-        return true;
-    }
-    side > 1
-}
-
-// Whether some track and side is given a second time.
-fn some_twice(tracks: &[u32]) -> bool {
-    let count = tracks.len() / 3;
-    let mut i: usize = 0;
-    while i < count {
-        if is_before(tracks, i, tracks[3 * i + 1], tracks[3 * i]) {
-            return true;
-        }
-        i += 1;
-    }
-    false
-}
-
-// Whether the track and side is among the first tracks, up to the one at `end`.
-fn is_before(tracks: &[u32], end: usize, side: u32, track: u32) -> bool {
-    let mut i: usize = 0;
-    while i < end {
-        if is_at(tracks, i, side, track) {
-            return true;
-        }
-        i += 1;
-    }
-    false
-}
-
-// Whether the track given at index i is this one.
-fn is_at(tracks: &[u32], i: usize, side: u32, track: u32) -> bool {
-    if tracks[3 * i + 1] != side {
-        return false;
-    }
-    tracks[3 * i] == track
-}
-
-// Whether the lists have whole tracks and findings, and as many findings as the tracks say.
-fn add_up(tracks: &[u32], findings: &[u32]) -> bool {
-    if tracks.len() % 3 != 0 {
-        return false;
-    }
-    if findings.len() % 4 != 0 {
-        return false;
-    }
-    sum(tracks) == findings.len() / 4
-}
-
-// How many findings the tracks have, as they say. 168 numbers of 32 bits do not wrap.
-fn sum(tracks: &[u32]) -> usize {
-    let count = tracks.len() / 3;
-    let mut all: usize = 0;
-    let mut i: usize = 0;
-    while i < count {
-        all += tracks[3 * i + 2] as usize;
-        i += 1;
-    }
-    all
-}
-
-// Whether some finding is none that its track can have at its place in the list.
-fn some_amiss(tracks: &[u32], findings: &[u32]) -> bool {
-    let count = tracks.len() / 3;
-    let mut start: usize = 0;
-    let mut i: usize = 0;
-    while i < count {
-        let own = tracks[3 * i + 2] as usize;
-        if track_amiss(tracks[3 * i], findings, start, own) {
-            return true;
-        }
-        start += own;
-        i += 1;
-    }
-    false
-}
-
-// The same for one track, whose findings begin at `start`.
-fn track_amiss(track: u32, findings: &[u32], start: usize, count: usize) -> bool {
-    let mut k: usize = 0;
-    while k < count {
-        if finding_amiss(track, findings, start + k) {
-            return true;
-        }
-        if k > 0 {
-            if !follows(findings, start + k) {
-                return true;
-            }
-        }
-        k += 1;
-    }
-    false
-}
-
-// A kind outside 1 to 21, or TNF in another form or on another track than findings have it.
-fn finding_amiss(track: u32, findings: &[u32], j: usize) -> bool {
-    let kind = findings[4 * j];
-    if kind < 1 {
-        return true;
-    }
-    if kind > 21 {
-        return true;
-    }
-    if kind != TNF {
-        return false;
-    }
-    if track > 79 {
-        return true;
-    }
-    if findings[4 * j + 1] != 2 {
-        return true;
-    }
-    if findings[4 * j + 2] != 0 {
-        return true;
-    }
-    findings[4 * j + 3] != 0
-}
-
-// Whether a finding stands after the one before it in the list: by kind, then place.
-fn follows(findings: &[u32], j: usize) -> bool {
-    let kind = findings[4 * j];
-    let earlier = findings[4 * j - 4];
-    if earlier < kind {
-        return true;
-    }
-    if earlier > kind {
-        return false;
-    }
-    findings[4 * j - 2] < findings[4 * j + 2]
-}
-
-// The kind of a track without a sector.
-const TNF: u32 = 4;
-
-// The functions below write from place `at` on and answer the place after what they wrote. The lines of the page are not so many that a sum
-// could overflow.
-
-fn write_page(tracks: &[u32], findings: &[u32], out: &mut [u8]) -> usize {
+// The page of tracks and findings that are accepted.
+fn write_page(tracks: &[u32], findings: &[u32], out: &mut [u8]) -> usize
+    requires { ⌜ Whole (now tracks) (now findings) ⌝ }
+    ensures { λ r. ⌜ Wrote (now (out .entry)) 0 (pageOf (now (tracks .entry)) (now (findings .entry))) far (now (out .exit)) r ⌝ }
+{
     let next = write_side(tracks, findings, out, 0, 0);
     let next = write_side(tracks, findings, out, next, 1);
     if is_single_sided(tracks, findings) {
@@ -188,7 +47,10 @@ fn write_page(tracks: &[u32], findings: &[u32], out: &mut [u8]) -> usize {
 }
 
 // The lines of a side, track after track.
-fn write_side(tracks: &[u32], findings: &[u32], out: &mut [u8], at: usize, side: u32) -> usize {
+fn write_side(tracks: &[u32], findings: &[u32], out: &mut [u8], at: usize, side: u32) -> usize
+    requires { ⌜ Whole (now tracks) (now findings) × (side ≤ 1) × (at ≤ 0x20_0000_0000_0000) ⌝ }
+    ensures { λ r. ⌜ Wrote (now (out .entry)) at (entryLines (sideEntries (now (tracks .entry)) (now (findings .entry)) side)) (84 * (168 * (80 * 0x1_0000_0000))) (now (out .exit)) r ⌝ }
+{
     let mut next = at;
     let mut track: u32 = 0;
     while track < 84 {
@@ -206,20 +68,43 @@ fn write_track(
     at: usize,
     side: u32,
     track: u32,
-) -> usize {
+) -> usize
+    requires { ⌜ Whole (now tracks) (now findings) × (side ≤ 1) × (track ≤ 84) × (at ≤ 0x40_0000_0000_0000) ⌝ }
+    ensures { λ r. ⌜ Wrote (now (out .entry)) at (entryLines (trackEntries (now (tracks .entry)) (now (findings .entry)) side track)) (168 * (80 * 0x1_0000_0000)) (now (out .exit)) r ⌝ }
+{
     let count = tracks.len() / 3;
     let mut next = at;
     let mut start: usize = 0;
     let mut i: usize = 0;
     while i < count {
-        let own = tracks[3 * i + 2] as usize;
-        if is_at(tracks, i, side, track) {
-            next = write_findings(tracks, findings, out, next, side, track, start, own);
-        }
+        let own = wide(tracks[3 * i + 2]);
+        let here = is_same(tracks[3 * i + 1], side, tracks[3 * i], track);
+        next = write_here(here, tracks, findings, out, next, side, track, start, own);
         start += own;
         i += 1;
     }
     next
+}
+
+// The lines of a track that may be the one looked for.
+fn write_here(
+    here: bool,
+    tracks: &[u32],
+    findings: &[u32],
+    out: &mut [u8],
+    at: usize,
+    side: u32,
+    track: u32,
+    start: usize,
+    own: usize,
+) -> usize
+    requires { ⌜ Whole (now tracks) (now findings) × (side ≤ 1) × (track ≤ 84) × (start + own ≤ findingsIn (now findings)) × (at + 80 * own ≤ far) ⌝ }
+    ensures { λ r. ⌜ Wrote (now (out .entry)) at (entryLines (cond here (joined (λ k. entryOf (now (tracks .entry)) (now (findings .entry)) side track (start + k)) own) [])) (80 * own) (now (out .exit)) r ⌝ }
+{
+    if here {
+        return write_findings(tracks, findings, out, at, side, track, start, own);
+    }
+    at
 }
 
 // A line for each finding of a track that has one.
@@ -231,11 +116,14 @@ fn write_findings(
     side: u32,
     track: u32,
     start: usize,
-    count: usize,
-) -> usize {
+    own: usize,
+) -> usize
+    requires { ⌜ Whole (now tracks) (now findings) × (side ≤ 1) × (track ≤ 84) × (start + own ≤ findingsIn (now findings)) × (at + 80 * own ≤ far) ⌝ }
+    ensures { λ r. ⌜ Wrote (now (out .entry)) at (entryLines (joined (λ k. entryOf (now (tracks .entry)) (now (findings .entry)) side track (start + k)) own)) (80 * own) (now (out .exit)) r ⌝ }
+{
     let mut next = at;
     let mut k: usize = 0;
-    while k < count {
+    while k < own {
         next = write_finding(tracks, findings, out, next, side, track, start + k);
         k += 1;
     }
@@ -251,86 +139,21 @@ fn write_finding(
     side: u32,
     track: u32,
     j: usize,
-) -> usize {
-    if findings[4 * j] != TNF {
+) -> usize
+    requires { ⌜ Whole (now tracks) (now findings) × (side ≤ 1) × (track ≤ 84) × (j < findingsIn (now findings)) × (at + 80 ≤ far) ⌝ }
+    ensures { λ r. ⌜ Wrote (now (out .entry)) at (entryLines (entryOf (now (tracks .entry)) (now (findings .entry)) side track j)) 80 (now (out .exit)) r ⌝ }
+{
+    if findings[4 * j] != 4 {
         return write_entry(findings, out, at, side, track, track, j);
     }
     if goes_on(tracks, findings, side, track) {
         return at;
     }
-    let last = last_of_range(tracks, findings, side, track);
+    let last = last_of(tracks, findings, side, track);
     write_entry(findings, out, at, side, track, last, j)
 }
 
-// Whether the track before this one has TNF too.
-fn goes_on(tracks: &[u32], findings: &[u32], side: u32, track: u32) -> bool {
-    if track == 0 {
-        return false;
-    }
-    has_tnf(tracks, findings, side, track - 1)
-}
-
-// The first track from this one on behind which there is no TNF.
-fn last_of_range(tracks: &[u32], findings: &[u32], side: u32, track: u32) -> u32 {
-    let mut last = track;
-    while last < 84 {
-        if !has_tnf(tracks, findings, side, last + 1) {
-            return last;
-        }
-        last += 1;
-    }
-    last
-}
-
-// Whether the track is given and has TNF.
-fn has_tnf(tracks: &[u32], findings: &[u32], side: u32, track: u32) -> bool {
-    let count = tracks.len() / 3;
-    let mut start: usize = 0;
-    let mut i: usize = 0;
-    while i < count {
-        let own = tracks[3 * i + 2] as usize;
-        if is_at(tracks, i, side, track) {
-            if some_tnf(findings, start, own) {
-                return true;
-            }
-        }
-        start += own;
-        i += 1;
-    }
-    false
-}
-
-fn some_tnf(findings: &[u32], start: usize, count: usize) -> bool {
-    let mut k: usize = 0;
-    while k < count {
-        if findings[4 * (start + k)] == TNF {
-            return true;
-        }
-        k += 1;
-    }
-    false
-}
-
-// Whether exactly one side has TNF on all of its 80 tracks.
-fn is_single_sided(tracks: &[u32], findings: &[u32]) -> bool {
-    if is_empty_side(tracks, findings, 0) {
-        return !is_empty_side(tracks, findings, 1);
-    }
-    is_empty_side(tracks, findings, 1)
-}
-
-fn is_empty_side(tracks: &[u32], findings: &[u32], side: u32) -> bool {
-    let mut track: u32 = 0;
-    while track < 80 {
-        if !has_tnf(tracks, findings, side, track) {
-            return false;
-        }
-        track += 1;
-    }
-    true
-}
-
-// The line of finding j, after its track or range and its side.
+// The line of the finding at index j, after its tracks and its side.
 fn write_entry(
     findings: &[u32],
     out: &mut [u8],
@@ -339,20 +162,20 @@ fn write_entry(
     first: u32,
     last: u32,
     j: usize,
-) -> usize {
+) -> usize
+    requires { ⌜ (side ≤ 1) × (j < findingsIn (now findings)) × (at + 80 ≤ far) ⌝ }
+    ensures { λ r. ⌜ Wrote (now (out .entry)) at (entryLine (entry (now (findings .entry)) side first last j)) 80 (now (out .exit)) r ⌝ }
+{
     let next = write_start(out, at, side, first, last);
-    write_line(
-        out,
-        next,
-        findings[4 * j],
-        findings[4 * j + 1],
-        findings[4 * j + 2],
-        findings[4 * j + 3],
-    )
+    let k = 4 * j;
+    write_line(out, next, findings[k], findings[k + 1], findings[k + 2], findings[k + 3])
 }
 
 // What stands before the line of a finding.
-fn write_start(out: &mut [u8], at: usize, side: u32, first: u32, last: u32) -> usize {
+fn write_start(out: &mut [u8], at: usize, side: u32, first: u32, last: u32) -> usize
+    requires { ⌜ (side ≤ 1) × (at + 13 ≤ far) ⌝ }
+    ensures { λ r. ⌜ Wrote (now (out .entry)) at (startOf side first last) 13 (now (out .exit)) r ⌝ }
+{
     let a = digit(first / 10);
     let b = digit(first);
     let s = digit(side);
@@ -365,19 +188,139 @@ fn write_start(out: &mut [u8], at: usize, side: u32, first: u32, last: u32) -> u
 }
 
 // The last decimal digit of a number, as a character.
-fn digit(n: u32) -> u8 {
+fn digit(n: u32) -> u8
+    ensures { λ r. ⌜ r ≡ digitOf n ⌝ }
+{
     b'0' + (n % 10) as u8
 }
 
 // The line of a finding, as much of it as there is room for.
-fn write_line(out: &mut [u8], at: usize, kind: u32, level: u32, place: u32, detail: u32) -> usize {
+fn write_line(out: &mut [u8], at: usize, kind: u32, level: u32, place: u32, detail: u32) -> usize
+    requires { ⌜ at + 67 ≤ far ⌝ }
+    ensures { λ r. ⌜ Wrote (now (out .entry)) at (findingLine kind level place detail) 67 (now (out .exit)) r ⌝ }
+{
     let from = basis::smaller(at, out.len());
-    at + lines::finding_line(&mut out[from..], kind, level, place, detail)
+    let length = lines::finding_line(&mut out[from..], kind, level, place, detail);
+    at + length
 }
 
 // The bytes of a word, as many as there is room for.
-fn write_word(out: &mut [u8], at: usize, bytes: &[u8]) -> usize {
+fn write_word(out: &mut [u8], at: usize, bytes: &[u8]) -> usize
+    requires { ⌜ at + length (now bytes) ≤ far ⌝ }
+    ensures { λ r. ⌜ Wrote (now (out .entry)) at (now (bytes .entry)) (length (now (bytes .entry))) (now (out .exit)) r ⌝ }
+{
     let from = basis::smaller(at, out.len());
     basis::copy_bytes(bytes, &mut out[from..]);
     at + bytes.len()
+}
+
+// Whether the track before this one has TNF.
+fn goes_on(tracks: &[u32], findings: &[u32], side: u32, track: u32) -> bool
+    requires { ⌜ Whole (now tracks) (now findings) ⌝ }
+    ensures { λ r. ⌜ r ≡ goesOn (now (tracks .entry)) (now (findings .entry)) side track ⌝ }
+{
+    if track < 1 {
+        return false;
+    }
+    has_tnf(tracks, findings, side, track - 1)
+}
+
+// The last track of the range that begins with this one.
+fn last_of(tracks: &[u32], findings: &[u32], side: u32, track: u32) -> u32
+    requires { ⌜ Whole (now tracks) (now findings) × (track ≤ 84) ⌝ }
+    ensures { λ r. ⌜ r ≡ lastOf (now (tracks .entry)) (now (findings .entry)) side track ⌝ }
+{
+    let mut last = track;
+    while last < 84 {
+        if !has_tnf(tracks, findings, side, last + 1) {
+            return last;
+        }
+        last += 1;
+    }
+    last
+}
+
+// Whether exactly one side has TNF on all of its tracks.
+fn is_single_sided(tracks: &[u32], findings: &[u32]) -> bool
+    requires { ⌜ Whole (now tracks) (now findings) ⌝ }
+    ensures { λ r. ⌜ r ≡ isSingleSided (now (tracks .entry)) (now (findings .entry)) ⌝ }
+{
+    if is_empty(tracks, findings, 0) {
+        return !is_empty(tracks, findings, 1);
+    }
+    is_empty(tracks, findings, 1)
+}
+
+// Whether a side has TNF on all of the tracks 0 to 79.
+fn is_empty(tracks: &[u32], findings: &[u32], side: u32) -> bool
+    requires { ⌜ Whole (now tracks) (now findings) ⌝ }
+    ensures { λ r. ⌜ r ≡ isEmpty (now (tracks .entry)) (now (findings .entry)) side ⌝ }
+{
+    let mut track: u32 = 0;
+    while track < 80 {
+        if !has_tnf(tracks, findings, side, track) {
+            return false;
+        }
+        track += 1;
+    }
+    true
+}
+
+// Whether the track is given and has TNF.
+fn has_tnf(tracks: &[u32], findings: &[u32], side: u32, track: u32) -> bool
+    requires { ⌜ Whole (now tracks) (now findings) ⌝ }
+    ensures { λ r. ⌜ r ≡ hasTnf (now (tracks .entry)) (now (findings .entry)) side track ⌝ }
+{
+    let count = tracks.len() / 3;
+    let mut start: usize = 0;
+    let mut i: usize = 0;
+    while i < count {
+        let own = wide(tracks[3 * i + 2]);
+        let here = is_same(tracks[3 * i + 1], side, tracks[3 * i], track);
+        if tnf_here(here, findings, start, own) {
+            return true;
+        }
+        start += own;
+        i += 1;
+    }
+    false
+}
+
+// Whether a track that may be the one looked for is it and has TNF.
+fn tnf_here(here: bool, findings: &[u32], start: usize, own: usize) -> bool
+    requires { ⌜ start + own ≤ findingsIn (now findings) ⌝ }
+    ensures { λ r. ⌜ r ≡ (here && some (λ k. eqb (kindAt (now (findings .entry)) (start + k)) 4) own) ⌝ }
+{
+    if here {
+        return some_tnf(findings, start, own);
+    }
+    false
+}
+
+// Whether some finding of a track, whose findings begin at `start`, is TNF.
+fn some_tnf(findings: &[u32], start: usize, own: usize) -> bool
+    requires { ⌜ start + own ≤ findingsIn (now findings) ⌝ }
+    ensures { λ r. ⌜ r ≡ some (λ k. eqb (kindAt (now (findings .entry)) (start + k)) 4) own ⌝ }
+{
+    let mut k: usize = 0;
+    while k < own {
+        if findings[4 * (start + k)] == 4 {
+            return true;
+        }
+        k += 1;
+    }
+    false
+}
+
+// Two sides and two tracks are the same.
+fn is_same(a: u32, b: u32, c: u32, d: u32) -> bool
+    ensures { λ r. ⌜ r ≡ (eqb a b && eqb c d) ⌝ }
+{
+    (a == b) & (c == d)
+}
+
+fn wide(n: u32) -> usize
+    ensures { λ r. ⌜ (r ≡ n) × (r < 0x1_0000_0000) ⌝ }
+{
+    n as usize
 }

@@ -1,0 +1,5 @@
+pub mod Writing
+pub mod Lengths
+pub mod Starts
+pub mod Lines
+pub mod Tracks
