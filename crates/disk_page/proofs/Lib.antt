@@ -3,3 +3,4 @@ pub mod Lengths
 pub mod Starts
 pub mod Lines
 pub mod Tracks
+pub mod Calls

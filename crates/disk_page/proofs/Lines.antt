@@ -1,17 +1,19 @@
 -- The lines of entries, written one after the other. Assumes nothing.
 use Prim.Native.Nat.{ℕ, _+_, _≤_}
-use mathlib.Core.Path.{_≡_, refl}
-use mathlib.Core.Bool.{true, false}
+use mathlib.Core.Path.{_≡_, refl, subst}
+use mathlib.Core.Bool.{Bool, true, false, cond}
 use mathlib.Core.List.{List, [], _∷_, _++_, append-assoc, append-nil}
 use native.Mathlib.Omega.{arith}
 use borrow.Author.Tests.{eq-eqb, ne-eqb}
 use Rattle.basis.specs.Lists.{joined}
 use Rattle.basis.proofs.Joined.{joined-more, joined-none}
+use Rattle.lines.specs.Lines.{bytesOf}
 use Rattle.lines.specs.Writing.{Wrote}
 use Rattle.lines.proofs.Writing.{_then_, none, wrote-few}
 use Rattle.disk_tracks.specs.Given.{kindAt}
-use Rattle.disk_page.specs.Ranges.{goesOn, lastOf}
-use Rattle.disk_page.specs.Page.{Entry, entry, entryOf, entryLine, entryLines}
+use Rattle.disk_page.specs.PrivateContracts.{far}
+use Rattle.disk_page.specs.Ranges.{goesOn, lastOf, isSingleSided}
+use Rattle.disk_page.specs.Page.{Entry, entry, entryOf, sideEntries, pageEntries, entryLine, entryLines, pageOf}
 
 lines-append : (es fs : List Entry) → entryLines (es ++ fs) ≡ entryLines es ++ entryLines fs
 unfolding entryLines
@@ -55,3 +57,25 @@ pub wrote-no-more : (l : List ℕ) (at : ℕ) (tracks findings : List ℕ) (H T 
     → Wrote l at (entryLines (entryOf tracks findings H T j)) 80 l at
 unfolding entryOf
 wrote-no-more l at tracks findings H T j h g = rw (eq-eqb _ _ h, g) (no-lines l at 80)
+
+-- the lines of a track that may be the one looked for
+pub wrote-here : {a b : List ℕ} {at next most : ℕ} {here : Bool} (es : List Entry) → here ≡ true → Wrote a at (entryLines es) most b next
+    → Wrote a at (entryLines (cond here es [])) most b next
+wrote-here es e w = rw e w
+
+pub wrote-elsewhere : (l : List ℕ) (at most : ℕ) {here : Bool} (es : List Entry) → here ≡ false → Wrote l at (entryLines (cond here es [])) most l at
+wrote-elsewhere l at most es e = rw e (no-lines l at most)
+
+pub same-entries : {a b : List ℕ} {at next most : ℕ} {es fs : List Entry} → es ≡ fs → Wrote a at (entryLines es) most b next → Wrote a at (entryLines fs) most b next
+same-entries {a} {b} {at} {next} {most} e w = subst (λ (es : List Entry). Wrote a at (entryLines es) most b next) e w
+
+-- the page, with and without its last line
+module _ {a b c : List ℕ} {j k m n : ℕ} (tracks findings : List ℕ) (first : Wrote a 0 (entryLines (sideEntries tracks findings 0)) m b j)
+    (second : Wrote b j (entryLines (sideEntries tracks findings 1)) n c k) (h : m + n + 13 ≤ far) where
+  pub page-without : isSingleSided tracks findings ≡ false → Wrote a 0 (pageOf tracks findings) far c k
+  unfolding pageOf pageEntries
+  page-without e = rw (e, append-nil) (wrote-few (omega arith) (lines-both _ _ first second))
+
+  pub page-with : {d : List ℕ} {end : ℕ} → isSingleSided tracks findings ≡ true → Wrote c k (bytesOf "single-sided\n") 13 d end → Wrote a 0 (pageOf tracks findings) far d end
+  unfolding pageOf pageEntries
+  page-with e w = rw e (wrote-few h (lines-both _ _ first second then w))

@@ -13,6 +13,12 @@ use Rattle.disk_page.specs.PrivateContracts.{Whole}
 use Rattle.disk_page.specs.Ranges.{hasTnf, goesOn, isEmpty, isSingleSided}
 use Rattle.disk_page.specs.Page.{Entry, entryOf, findingEntries}
 
+pub and-true : {a b r : Bool} → a ≡ true → r ≡ b → r ≡ (a && b)
+and-true e g = rw e g
+
+pub and-false : {a : Bool} (b : Bool) → a ≡ false → false ≡ (a && b)
+and-false b e = rw e
+
 module _ (tracks findings : List ℕ) where
   -- the findings of the track at hand stand in the list
   pub within : {start own : ℕ} (i : ℕ) → Whole tracks findings → start ≡ before tracks i → own ≡ ownAt tracks i → i < tracksIn tracks → start + own ≤ findingsIn findings

@@ -168,7 +168,14 @@ fn write_entry(
 {
     let next = write_start(out, at, side, first, last);
     let k = 4 * j;
-    write_line(out, next, findings[k], findings[k + 1], findings[k + 2], findings[k + 3])
+    write_line(
+        out,
+        next,
+        findings[k],
+        findings[k + 1],
+        findings[k + 2],
+        findings[k + 3],
+    )
 }
 
 // What stands before the line of a finding.

@@ -17,4 +17,3 @@ returns c = refl
 
 pub digit-spec : {M : Type 1} → statement M
 digit-spec = tie.close (tie.spec cast-result add-result returns)
-

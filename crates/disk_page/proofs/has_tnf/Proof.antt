@@ -1,100 +1,102 @@
+-- `disk_page::has_tnf` meets its contract: none of the first i tracks is the one and has TNF. Assumes nothing.
+use Prim.Native.Nat.{_+_, _-_}
+use mathlib.Core.Bool.{_&&_}
+use mathlib.Core.Path.{_≡_, sym, _∙_}
+use native.Mathlib.Omega.{arith}
+use denote.Ref.{now}
+use lib.Dec.{eqb}
+use Rattle.disk_tracks.specs.Given.{some, before, ownAt, kindAt}
+use Rattle.disk_tracks.specs.Judgement.{isAt}
+use Rattle.disk_tracks.proofs.Some.{Looked, some-hit, look-first, look-on, look-end}
+use Rattle.disk_tracks.proofs.Sums.{before-none, before-more}
+use Rattle.disk_page.specs.Ranges.{hasTnf}
+use Rattle.disk_page.proofs.Tracks.{within, tnf-is}
+use borrow.Author.Needs.{needs}
 use Rattle.disk_page.proofs.has_tnf.Statement.{statement}
 use Rattle.disk_page.proofs.has_tnf.Tie as tie
-use Rattle.disk_page.proofs.has_tnf.Reads as reads
-use Rattle.disk_page.proofs.has_tnf.Lts as lts
-use Rattle.disk_page.proofs.is_same.Reads as is-same-reads
-use Rattle.disk_page.proofs.tnf_here.Reads as tnf-here-reads
-use Rattle.disk_page.proofs.wide.Reads as wide-reads
 
 abbrev Inv-loop : tie.InvT-loop
-Inv-loop tracks findings side track count start₀ i₀ start i = ?
+Inv-loop tracks findings side track count start₀ i₀ start i =
+    (start ≡ before tracks i)
+    × Looked (λ j. isAt tracks side track j && some (λ k. eqb (kindAt findings (before tracks j + k)) 4) (ownAt tracks j)) count i
 
 abbrev μ-loop : tie.MeasureT-loop
-μ-loop tracks findings side track count start₀ i₀ start i = ?
+μ-loop tracks findings side track count start₀ i₀ start i = count - i
 
--- src/lib.rt:277:5
 loop-holds : tie.Need-loop-holds Inv-loop μ-loop
-loop-holds c = ?
+loop-holds c = (sym (before-none _), look-first _ _)
 
--- src/lib.rt:278:31
 mul-wide : tie.Need-mul-wide Inv-loop μ-loop
-mul-wide c = ?
+mul-wide c = search needs
 
--- src/lib.rt:278:31
 add-wide : tie.Need-add-wide Inv-loop μ-loop
-add-wide c = ?
+add-wide c = search needs
 
--- src/lib.rt:278:24
 mul-wide-2 : tie.Need-mul-wide-2 Inv-loop μ-loop
-mul-wide-2 c = ?
+mul-wide-2 c = search needs
 
--- src/lib.rt:278:24
 shared-slice-read-wide : tie.Need-shared-slice-read-wide Inv-loop μ-loop
-shared-slice-read-wide c = ?
+shared-slice-read-wide c = search needs
 
--- src/lib.rt:278:13
 wide-requires : tie.Need-wide-requires Inv-loop μ-loop
-wide-requires c κs = ?
+wide-requires c κs = search needs
 
--- src/lib.rt:279:35
 mul-is-same : tie.Need-mul-is-same Inv-loop μ-loop
-mul-is-same c = ?
+mul-is-same c = search needs
 
--- src/lib.rt:279:35
 add-is-same : tie.Need-add-is-same Inv-loop μ-loop
-add-is-same c = ?
+add-is-same c = search needs
 
--- src/lib.rt:279:28
 mul-is-same-2 : tie.Need-mul-is-same-2 Inv-loop μ-loop
-mul-is-same-2 c = ?
+mul-is-same-2 c = search needs
 
--- src/lib.rt:279:28
 shared-slice-read-is-same : tie.Need-shared-slice-read-is-same Inv-loop μ-loop
-shared-slice-read-is-same c = ?
+shared-slice-read-is-same c = search needs
 
--- src/lib.rt:279:60
 mul-is-same-3 : tie.Need-mul-is-same-3 Inv-loop μ-loop
-mul-is-same-3 c = ?
+mul-is-same-3 c = search needs
 
--- src/lib.rt:279:53
 mul-is-same-4 : tie.Need-mul-is-same-4 Inv-loop μ-loop
-mul-is-same-4 c = ?
+mul-is-same-4 c = search needs
 
--- src/lib.rt:279:53
 shared-slice-read-is-same-2 : tie.Need-shared-slice-read-is-same-2 Inv-loop μ-loop
-shared-slice-read-is-same-2 c = ?
+shared-slice-read-is-same-2 c = search needs
 
--- src/lib.rt:279:13
 is-same-requires : tie.Need-is-same-requires Inv-loop μ-loop
-is-same-requires c κs = ?
+is-same-requires c κs = search needs
 
--- src/lib.rt:280:12
 tnf-here-requires : tie.Need-tnf-here-requires Inv-loop μ-loop
-tnf-here-requires c κs = ?
+tnf-here-requires c κs =
+    let s = c .before .before .before .before .before .before .before .before .before in
+    within (now (s .args .tracks)) (now (s .args .findings)) (c .before .before .before .before .before .before .loop .i) (s .pre) (c .before .before .before .before .before .before .loop .inv .0) (c .before .before .before .wide .ensures .0) (c .before .before .before .before .before .loop-test .taken)
 
--- src/lib.rt:281:13
 returns : tie.Need-returns Inv-loop μ-loop
-returns c = ?
+unfolding hasTnf
+returns c =
+    let l = c .before .before .before .before .before .before .before .before .loop in
+    sym (some-hit _ _ _ (c .before .before .before .before .before .before .before .loop-test .taken) (tnf-is (now (c .before .before .before .before .before .before .before .before .before .before .before .args .tracks)) (now (c .before .before .before .before .before .before .before .before .before .before .before .args .findings)) _ _ (l .i) (l .inv .0) (c .before .before .before .before .before .wide .ensures .0) (c .before .before .is-same .ensures) (c .before .tnf-here .ensures) ∙ c .if1 .taken))
 
--- src/lib.rt:283:9
 add-start : tie.Need-add-start Inv-loop μ-loop
-add-start c = ?
+add-start c =
+    let s = c .before .before .before .before .before .before .before .before .before .before .before in
+    omega (arith, within (now (s .args .tracks)) (now (s .args .findings)) (c .before .before .before .before .before .before .before .before .loop .i) (s .pre) (c .before .before .before .before .before .before .before .before .loop .inv .0) (c .before .before .before .before .before .wide .ensures .0) (c .before .before .before .before .before .before .before .loop-test .taken), s .good .0 .1)
 
--- src/lib.rt:284:9
 add-i : tie.Need-add-i Inv-loop μ-loop
-add-i c = ?
+add-i c = search needs
 
--- src/lib.rt:277:5
 loop-less : tie.Need-loop-less Inv-loop μ-loop
-loop-less c = ?
+loop-less c = search needs
 
--- src/lib.rt:277:5
 loop-again : tie.Need-loop-again Inv-loop μ-loop
-loop-again c = ?
+loop-again c =
+    let l = c .before .before .before .before .before .before .before .before .loop in (
+      omega (arith, before-more (now (c .before .before .before .before .before .before .before .before .before .before .before .args .tracks)) (l .i), l .inv .0, c .before .before .before .before .before .wide .ensures .0),
+      look-on _ (l .inv .1) (c .before .before .before .before .before .before .before .loop-test .taken) (tnf-is (now (c .before .before .before .before .before .before .before .before .before .before .before .args .tracks)) (now (c .before .before .before .before .before .before .before .before .before .before .before .args .findings)) _ _ (l .i) (l .inv .0) (c .before .before .before .before .before .wide .ensures .0) (c .before .before .is-same .ensures) (c .before .tnf-here .ensures) ∙ c .if1 .left),
+    )
 
--- src/lib.rt:270:1
 returns-2 : tie.Need-returns-2 Inv-loop μ-loop
-returns-2 c = ?
+unfolding hasTnf
+returns-2 c = look-end _ (c .before .loop .inv .1) (omega arith)
 
 pub has-tnf-spec : {M : Type 1} → statement M
 has-tnf-spec =

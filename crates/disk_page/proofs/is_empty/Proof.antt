@@ -1,42 +1,42 @@
+-- `disk_page::is_empty` meets its contract: each of the first tracks has TNF. Assumes nothing.
+use Prim.Native.Nat.{_-_}
+use mathlib.Core.Bool.{not}
+use mathlib.Core.Path.{sym, ap, _∙_}
+use native.Mathlib.Omega.{arith}
+use Rattle.disk_tracks.proofs.Some.{Looked, some-hit, look-first, look-on, look-end}
+use Rattle.disk_page.specs.Ranges.{hasTnf, isEmpty}
+use borrow.Author.Needs.{needs}
 use Rattle.disk_page.proofs.is_empty.Statement.{statement}
 use Rattle.disk_page.proofs.is_empty.Tie as tie
-use Rattle.disk_page.proofs.is_empty.Reads as reads
-use Rattle.disk_page.proofs.is_empty.Lts as lts
-use Rattle.disk_page.proofs.has_tnf.Reads as has-tnf-reads
 
 abbrev Inv-loop : tie.InvT-loop
-Inv-loop tracks findings side track₀ track = ?
+Inv-loop tracks findings side track₀ track = Looked (λ T. not (hasTnf tracks findings side T)) 80 track
 
 abbrev μ-loop : tie.MeasureT-loop
-μ-loop tracks findings side track₀ track = ?
+μ-loop tracks findings side track₀ track = 80 - track
 
--- src/lib.rt:239:5
 loop-holds : tie.Need-loop-holds Inv-loop μ-loop
-loop-holds c = ?
+loop-holds c = look-first _ _
 
--- src/lib.rt:240:13
 has-tnf-requires : tie.Need-has-tnf-requires Inv-loop μ-loop
-has-tnf-requires c κs = ?
+has-tnf-requires c κs = c .before .before .before .before .pre
 
--- src/lib.rt:241:13
 returns : tie.Need-returns Inv-loop μ-loop
-returns c = ?
+unfolding isEmpty
+returns c = sym (ap not (some-hit _ _ _ (c .before .before .loop-test .taken) (ap not (sym (c .before .has-tnf .ensures)) ∙ c .if1 .taken)))
 
--- src/lib.rt:243:9
 add-track : tie.Need-add-track Inv-loop μ-loop
-add-track c = ?
+add-track c = search needs
 
--- src/lib.rt:239:5
 loop-less : tie.Need-loop-less Inv-loop μ-loop
-loop-less c = ?
+loop-less c = search needs
 
--- src/lib.rt:239:5
 loop-again : tie.Need-loop-again Inv-loop μ-loop
-loop-again c = ?
+loop-again c = look-on _ (c .before .before .before .loop .inv) (c .before .before .loop-test .taken) (ap not (sym (c .before .has-tnf .ensures)) ∙ c .if1 .left)
 
--- src/lib.rt:234:1
 returns-2 : tie.Need-returns-2 Inv-loop μ-loop
-returns-2 c = ?
+unfolding isEmpty
+returns-2 c = ap not (look-end _ (c .before .loop .inv) (omega arith))
 
 pub is-empty-spec : {M : Type 1} → statement M
 is-empty-spec =

@@ -1,46 +1,45 @@
+-- `disk_page::last_of` meets its contract: the search from the track at hand on finds what the whole search does. Assumes nothing.
+use Prim.Native.Nat.{_+_, _-_, _≤_}
+use mathlib.Core.Bool.{not}
+use mathlib.Core.Path.{_≡_, refl, sym, ap, _∙_}
+use native.Mathlib.Omega.{arith}
+use Rattle.basis.specs.Search.{least}
+use Rattle.basis.proofs.Search.{least-step, least-hit, least-end}
+use Rattle.disk_page.specs.Ranges.{hasTnf, lastOf}
+use borrow.Author.Needs.{needs}
 use Rattle.disk_page.proofs.last_of.Statement.{statement}
 use Rattle.disk_page.proofs.last_of.Tie as tie
-use Rattle.disk_page.proofs.last_of.Reads as reads
-use Rattle.disk_page.proofs.last_of.Lts as lts
-use Rattle.disk_page.proofs.has_tnf.Reads as has-tnf-reads
 
 abbrev Inv-loop : tie.InvT-loop
-Inv-loop tracks findings side track last₀ last = ?
+Inv-loop tracks findings side track last₀ last = (last ≤ 84) × (least (λ U. not (hasTnf tracks findings side (U + 1))) (84 - last) last ≡ lastOf tracks findings side track)
 
 abbrev μ-loop : tie.MeasureT-loop
-μ-loop tracks findings side track last₀ last = ?
+μ-loop tracks findings side track last₀ last = 84 - last
 
--- src/lib.rt:213:5
 loop-holds : tie.Need-loop-holds Inv-loop μ-loop
-loop-holds c = ?
+unfolding lastOf
+loop-holds c = (c .before .before .pre .1, refl)
 
--- src/lib.rt:214:45
 add-has-tnf : tie.Need-add-has-tnf Inv-loop μ-loop
-add-has-tnf c = ?
+add-has-tnf c = search needs
 
--- src/lib.rt:214:13
 has-tnf-requires : tie.Need-has-tnf-requires Inv-loop μ-loop
-has-tnf-requires c κs = ?
+has-tnf-requires c κs = c .before .before .before .before .pre .0
 
--- src/lib.rt:215:13
 returns : tie.Need-returns Inv-loop μ-loop
-returns c = ?
+returns c = sym (least-hit _ _ 84 (c .before .before .loop-test .taken) (ap not (sym (c .before .has-tnf .ensures)) ∙ c .if1 .taken)) ∙ c .before .before .before .loop .inv .1
 
--- src/lib.rt:217:9
 add-last : tie.Need-add-last Inv-loop μ-loop
-add-last c = ?
+add-last c = search needs
 
--- src/lib.rt:213:5
 loop-less : tie.Need-loop-less Inv-loop μ-loop
-loop-less c = ?
+loop-less c = search needs
 
--- src/lib.rt:213:5
 loop-again : tie.Need-loop-again Inv-loop μ-loop
-loop-again c = ?
+loop-again c = (omega arith, sym (least-step _ _ 84 (c .before .before .loop-test .taken) (ap not (sym (c .before .has-tnf .ensures)) ∙ c .if1 .left)) ∙ c .before .before .before .loop .inv .1)
 
--- src/lib.rt:208:1
 returns-2 : tie.Need-returns-2 Inv-loop μ-loop
-returns-2 c = ?
+returns-2 c = sym (least-end _ _ 84 (omega arith)) ∙ c .before .loop .inv .1
 
 pub last-of-spec : {M : Type 1} → statement M
 last-of-spec =

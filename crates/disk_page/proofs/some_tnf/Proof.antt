@@ -62,4 +62,3 @@ some-tnf-spec =
     loop-less
     loop-again
     returns-2)
-

@@ -74,4 +74,3 @@ write-entry-spec =
     write-line-requires
     same-length
     returns)
-

@@ -1,58 +1,47 @@
+-- `disk_page::write_finding` meets its contract. Assumes nothing.
+use mathlib.Core.Path.{sym, _∙_}
+use Rattle.lines.specs.Writing.{Wrote}
+use Rattle.disk_page.specs.Page.{entry, entryLine}
+use Rattle.disk_page.proofs.Lines.{wrote-other, wrote-first, wrote-no-more}
+use borrow.Author.Needs.{needs}
 use Rattle.disk_page.proofs.write_finding.Statement.{statement}
 use Rattle.disk_page.proofs.write_finding.Tie as tie
-use Rattle.disk_page.proofs.write_finding.Reads as reads
-use Rattle.disk_page.proofs.write_finding.Lts as lts
-use Rattle.disk_page.proofs.goes_on.Reads as goes-on-reads
-use Rattle.disk_page.proofs.last_of.Reads as last-of-reads
-use Rattle.disk_page.proofs.write_entry.Reads as write-entry-reads
 
--- src/lib.rt:146:17
 mul-if1 : tie.Need-mul-if1
-mul-if1 c = ?
+mul-if1 c = search needs
 
--- src/lib.rt:146:8
 mul-if1-2 : tie.Need-mul-if1-2
-mul-if1-2 c = ?
+mul-if1-2 c = search needs
 
--- src/lib.rt:146:8
 shared-slice-read-if1 : tie.Need-shared-slice-read-if1
-shared-slice-read-if1 c = ?
+shared-slice-read-if1 c = search needs
 
--- src/lib.rt:147:9
 write-entry-requires : tie.Need-write-entry-requires
-write-entry-requires c κs = ?
+write-entry-requires c κs = search needs
 
--- src/lib.rt:147:9
 same-length : tie.Need-same-length
-same-length c = ?
+same-length c = search needs
 
--- src/lib.rt:147:9
 returns : tie.Need-returns
-returns c = ?
+returns c = wrote-other _ _ _ _ _ (c .before .before .before .before .if1 .taken) (c .before .before .write-entry .ensures)
 
--- src/lib.rt:149:8
 goes-on-requires : tie.Need-goes-on-requires
-goes-on-requires c κs = ?
+goes-on-requires c κs = search needs
 
--- src/lib.rt:150:9
 returns-2 : tie.Need-returns-2
-returns-2 c = ?
+returns-2 c = wrote-no-more _ _ _ _ _ _ _ (c .before .before .if1 .left) (sym (c .before .goes-on .ensures) ∙ c .if2 .taken)
 
--- src/lib.rt:152:9
 last-of-requires : tie.Need-last-of-requires
-last-of-requires c κs = ?
+last-of-requires c κs = search needs
 
--- src/lib.rt:153:5
 write-entry-requires-2 : tie.Need-write-entry-requires-2
-write-entry-requires-2 c κs = ?
+write-entry-requires-2 c κs = search needs
 
--- src/lib.rt:134:1
 same-length-2 : tie.Need-same-length-2
-same-length-2 c = ?
+same-length-2 c = search needs
 
--- src/lib.rt:134:1
 returns-3 : tie.Need-returns-3
-returns-3 c = ?
+returns-3 c = wrote-first _ _ _ _ _ (c .before .before .before .before .before .before .before .if1 .left) (sym (c .before .before .before .before .before .before .goes-on .ensures) ∙ c .before .before .before .before .before .if2 .left) (rw (c .before .before .before .before .last-of .ensures) at (c .before .before .write-entry2 .ensures))
 
 pub write-finding-spec : {M : Type 1} → statement M
 write-finding-spec =

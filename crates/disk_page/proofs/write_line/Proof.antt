@@ -28,8 +28,12 @@ finding-line-requires c κs = search needs
 add-result : tie.Need-add-result
 add-result c =
     let s = c .before .before .before .before .before .before in
-    omega (arith, c .before .before .finding-line .ensures .0, s .pre,
-    finding-few (s .args .kind) (s .args .level) (s .args .place) (s .args .detail) (s .fits .kind .fits) (s .fits .level .fits) (s .fits .place .fits) (s .fits .detail .fits))
+    omega (
+      arith,
+      c .before .before .finding-line .ensures .0,
+      s .pre,
+      finding-few (s .args .kind) (s .args .level) (s .args .place) (s .args .detail) (s .fits .kind .fits) (s .fits .level .fits) (s .fits .place .fits) (s .fits .detail .fits),
+    )
 
 same-length : tie.Need-same-length
 same-length c = search needs
@@ -53,4 +57,3 @@ write-line-spec =
     add-result
     same-length
     returns)
-

@@ -60,4 +60,3 @@ write-start-spec =
     write-word-requires-2
     same-length-2
     returns-2)
-

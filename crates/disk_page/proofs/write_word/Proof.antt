@@ -42,4 +42,3 @@ write-word-spec =
     add-result
     same-length
     returns)
-
