@@ -13,7 +13,7 @@ use Rattle.lines.proofs.Writing.{_then_, none, wrote-few}
 use Rattle.disk_tracks.specs.Given.{kindAt}
 use Rattle.disk_page.specs.PrivateContracts.{far}
 use Rattle.disk_page.specs.Ranges.{goesOn, lastOf, isSingleSided}
-use Rattle.disk_page.specs.Page.{Entry, entry, entryOf, sideEntries, pageEntries, entryLine, entryLines, pageOf}
+use Rattle.disk_page.specs.Page.{Entry, entry, entryOf, sideEntries, pageEntries, lineOf, entryLines, pageOf}
 
 lines-append : (es fs : List Entry) → entryLines (es ++ fs) ≡ entryLines es ++ entryLines fs
 unfolding entryLines
@@ -38,17 +38,17 @@ pub no-lines : (l : List ℕ) (at most : ℕ) → Wrote l at (entryLines []) mos
 unfolding entryLines
 no-lines l at most = none l at most
 
-one-line : (e : Entry) → entryLine e ≡ entryLines (e ∷ [])
+one-line : (e : Entry) → lineOf e ≡ entryLines (e ∷ [])
 unfolding entryLines
 one-line e = rw append-nil
 
 -- the entry of a finding, a law for each branch
 module _ {a b : List ℕ} {at next : ℕ} (tracks findings : List ℕ) (H T j : ℕ) where
-  pub wrote-other : (kindAt findings j ≡ 4 → ⊥) → Wrote a at (entryLine (entry findings H T T j)) 80 b next → Wrote a at (entryLines (entryOf tracks findings H T j)) 80 b next
+  pub wrote-other : (kindAt findings j ≡ 4 → ⊥) → Wrote a at (lineOf (entry findings H T T j)) 80 b next → Wrote a at (entryLines (entryOf tracks findings H T j)) 80 b next
   unfolding entryOf
   wrote-other h w = rw (ne-eqb _ _ h) (rw (one-line (entry findings H T T j)) at w)
 
-  pub wrote-first : kindAt findings j ≡ 4 → goesOn tracks findings H T ≡ false → Wrote a at (entryLine (entry findings H T (lastOf tracks findings H T) j)) 80 b next
+  pub wrote-first : kindAt findings j ≡ 4 → goesOn tracks findings H T ≡ false → Wrote a at (lineOf (entry findings H T (lastOf tracks findings H T) j)) 80 b next
       → Wrote a at (entryLines (entryOf tracks findings H T j)) 80 b next
   unfolding entryOf
   wrote-first h g w = rw (eq-eqb _ _ h, g) (rw (one-line (entry findings H T (lastOf tracks findings H T) j)) at w)

@@ -10,12 +10,13 @@
 use Prim.Native.Nat.{ℕ, _+_}
 use mathlib.Core.Bool.{Bool, cond}
 use mathlib.Core.List.{List, [], _∷_, _++_}
-use lib.Dec.{eqb, ltb}
+use lib.Dec.{eqb}
 use lib.ListN.{length, take}
 use Rattle.basis.specs.Lists.{joined}
 use Rattle.disk_tracks.specs.Given.{tracksIn, ownAt, before, kindAt, levelAt, placeAt, detailAt}
 use Rattle.disk_tracks.specs.Judgement.{isAt, judged}
-use Rattle.lines.specs.Lines.{bytesOf, twoDigits, decimalOf, findingLine}
+use Rattle.disk_lines.specs.EntryLines.{entryLine}
+use Rattle.lines.specs.Lines.{bytesOf}
 use Rattle.refusals.specs.RefusedCalls.{Answer, bufferAfter}
 use Rattle.refusals.specs.RefusedCalls.Answer.{gives, refused}
 use Rattle.disk_page.specs.Ranges.{goesOn, lastOf, isSingleSided}
@@ -67,17 +68,14 @@ sideEntries tracks findings H = joined (trackEntries tracks findings H) 84
 unfoldable pub pageEntries : (tracks findings : List ℕ) → List Entry
 pageEntries tracks findings = sideEntries tracks findings 0 ++ sideEntries tracks findings 1
 
--- 16.14: what stands before the line of a finding: its track, or its first and last track, and the side, as in `T05 H0 ` and `T74-79 H0 `
-unfoldable pub startOf : (H T U : ℕ) → List ℕ
-startOf H T U = bytesOf "T" ++ twoDigits T ++ cond (ltb T U) (bytesOf "-" ++ twoDigits U) [] ++ (bytesOf " H" ++ decimalOf H) ++ bytesOf " "
+-- 16.14: the line of an entry, as in `T05 H0 3 NOS level 3 place 0 detail 12`
+unfoldable pub lineOf : Entry → List ℕ
+lineOf e = entryLine (e .side) (e .first) (e .last) (e .kind) (e .level) (e .place) (e .detail)
 
--- 16.14: the line of an entry
-unfoldable pub entryLine : Entry → List ℕ
-entryLine e = startOf (e .side) (e .first) (e .last) ++ findingLine (e .kind) (e .level) (e .place) (e .detail)
-
+-- 16.14: a line for each entry
 unfoldable pub entryLines : List Entry → List ℕ
 entryLines [] = []
-entryLines (e ∷ es) = entryLine e ++ entryLines es
+entryLines (e ∷ es) = lineOf e ++ entryLines es
 
 -- 16.15, 16.16: the page: a line for each entry, and for a single-sided disk a last line that says so
 unfoldable pub pageOf : (tracks findings : List ℕ) → List ℕ

@@ -10,11 +10,10 @@ ghost use lib.Dec.{eqb};
 ghost use lib.ListN.{length};
 ghost use Rattle.basis.specs.Lists.{joined};
 ghost use Rattle.disk_tracks.specs.Given.{some, kindAt, findingsIn};
-ghost use Rattle.lines.specs.Lines.{digit as digitOf, findingLine};
 ghost use Rattle.lines.specs.Writing.{Wrote};
 ghost use Rattle.refusals.specs.RefusedCalls.{countedAnswer};
 ghost use Rattle.disk_page.specs.Ranges.{hasTnf, goesOn, lastOf, isEmpty, isSingleSided};
-ghost use Rattle.disk_page.specs.Page.{entry, entryOf, entryLine, entryLines, trackEntries, sideEntries, startOf, pageOf, pageAnswer, pageAfter};
+ghost use Rattle.disk_page.specs.Page.{entry, entryOf, lineOf, entryLines, trackEntries, sideEntries, pageOf, pageAnswer, pageAfter};
 ghost use Rattle.disk_page.specs.PrivateContracts.{Whole, far};
 
 // The page of the tracks, three numbers each (track, side, how many findings), and of their findings in the same order, four numbers each
@@ -48,7 +47,7 @@ fn write_page(tracks: &[u32], findings: &[u32], out: &mut [u8]) -> usize
 
 // The lines of a side, track after track.
 fn write_side(tracks: &[u32], findings: &[u32], out: &mut [u8], at: usize, side: u32) -> usize
-    requires { ⌜ Whole (now tracks) (now findings) × (side ≤ 1) × (at ≤ 0x20_0000_0000_0000) ⌝ }
+    requires { ⌜ Whole (now tracks) (now findings) × (at ≤ 0x20_0000_0000_0000) ⌝ }
     ensures { λ r. ⌜ Wrote (now (out .entry)) at (entryLines (sideEntries (now (tracks .entry)) (now (findings .entry)) side)) (84 * (168 * (80 * 0x1_0000_0000))) (now (out .exit)) r ⌝ }
 {
     let mut next = at;
@@ -69,7 +68,7 @@ fn write_track(
     side: u32,
     track: u32,
 ) -> usize
-    requires { ⌜ Whole (now tracks) (now findings) × (side ≤ 1) × (track ≤ 84) × (at ≤ 0x40_0000_0000_0000) ⌝ }
+    requires { ⌜ Whole (now tracks) (now findings) × (track ≤ 84) × (at ≤ 0x40_0000_0000_0000) ⌝ }
     ensures { λ r. ⌜ Wrote (now (out .entry)) at (entryLines (trackEntries (now (tracks .entry)) (now (findings .entry)) side track)) (168 * (80 * 0x1_0000_0000)) (now (out .exit)) r ⌝ }
 {
     let count = tracks.len() / 3;
@@ -98,7 +97,7 @@ fn write_here(
     start: usize,
     own: usize,
 ) -> usize
-    requires { ⌜ Whole (now tracks) (now findings) × (side ≤ 1) × (track ≤ 84) × (start + own ≤ findingsIn (now findings)) × (at + 80 * own ≤ far) ⌝ }
+    requires { ⌜ Whole (now tracks) (now findings) × (track ≤ 84) × (start + own ≤ findingsIn (now findings)) × (at + 80 * own ≤ far) ⌝ }
     ensures { λ r. ⌜ Wrote (now (out .entry)) at (entryLines (cond here (joined (λ k. entryOf (now (tracks .entry)) (now (findings .entry)) side track (start + k)) own) [])) (80 * own) (now (out .exit)) r ⌝ }
 {
     if here {
@@ -118,7 +117,7 @@ fn write_findings(
     start: usize,
     own: usize,
 ) -> usize
-    requires { ⌜ Whole (now tracks) (now findings) × (side ≤ 1) × (track ≤ 84) × (start + own ≤ findingsIn (now findings)) × (at + 80 * own ≤ far) ⌝ }
+    requires { ⌜ Whole (now tracks) (now findings) × (track ≤ 84) × (start + own ≤ findingsIn (now findings)) × (at + 80 * own ≤ far) ⌝ }
     ensures { λ r. ⌜ Wrote (now (out .entry)) at (entryLines (joined (λ k. entryOf (now (tracks .entry)) (now (findings .entry)) side track (start + k)) own)) (80 * own) (now (out .exit)) r ⌝ }
 {
     let mut next = at;
@@ -140,7 +139,7 @@ fn write_finding(
     track: u32,
     j: usize,
 ) -> usize
-    requires { ⌜ Whole (now tracks) (now findings) × (side ≤ 1) × (track ≤ 84) × (j < findingsIn (now findings)) × (at + 80 ≤ far) ⌝ }
+    requires { ⌜ Whole (now tracks) (now findings) × (track ≤ 84) × (j < findingsIn (now findings)) × (at + 80 ≤ far) ⌝ }
     ensures { λ r. ⌜ Wrote (now (out .entry)) at (entryLines (entryOf (now (tracks .entry)) (now (findings .entry)) side track j)) 80 (now (out .exit)) r ⌝ }
 {
     if findings[4 * j] != 4 {
@@ -153,7 +152,7 @@ fn write_finding(
     write_entry(findings, out, at, side, track, last, j)
 }
 
-// The line of the finding at index j, after its tracks and its side.
+// The line of the finding at index j, after its tracks and its side, as much of it as there is room for.
 fn write_entry(
     findings: &[u32],
     out: &mut [u8],
@@ -163,51 +162,21 @@ fn write_entry(
     last: u32,
     j: usize,
 ) -> usize
-    requires { ⌜ (side ≤ 1) × (j < findingsIn (now findings)) × (at + 80 ≤ far) ⌝ }
-    ensures { λ r. ⌜ Wrote (now (out .entry)) at (entryLine (entry (now (findings .entry)) side first last j)) 80 (now (out .exit)) r ⌝ }
+    requires { ⌜ (j < findingsIn (now findings)) × (at + 80 ≤ far) ⌝ }
+    ensures { λ r. ⌜ Wrote (now (out .entry)) at (lineOf (entry (now (findings .entry)) side first last j)) 80 (now (out .exit)) r ⌝ }
 {
-    let next = write_start(out, at, side, first, last);
     let k = 4 * j;
-    write_line(
-        out,
-        next,
+    let from = basis::smaller(at, out.len());
+    let length = disk_lines::entry_line(
+        &mut out[from..],
+        side,
+        first,
+        last,
         findings[k],
         findings[k + 1],
         findings[k + 2],
         findings[k + 3],
-    )
-}
-
-// What stands before the line of a finding.
-fn write_start(out: &mut [u8], at: usize, side: u32, first: u32, last: u32) -> usize
-    requires { ⌜ (side ≤ 1) × (at + 13 ≤ far) ⌝ }
-    ensures { λ r. ⌜ Wrote (now (out .entry)) at (startOf side first last) 13 (now (out .exit)) r ⌝ }
-{
-    let a = digit(first / 10);
-    let b = digit(first);
-    let s = digit(side);
-    if first < last {
-        let c = digit(last / 10);
-        let d = digit(last);
-        return write_word(out, at, &[b'T', a, b, b'-', c, d, b' ', b'H', s, b' ']);
-    }
-    write_word(out, at, &[b'T', a, b, b' ', b'H', s, b' '])
-}
-
-// The last decimal digit of a number, as a character.
-fn digit(n: u32) -> u8
-    ensures { λ r. ⌜ r ≡ digitOf n ⌝ }
-{
-    b'0' + (n % 10) as u8
-}
-
-// The line of a finding, as much of it as there is room for.
-fn write_line(out: &mut [u8], at: usize, kind: u32, level: u32, place: u32, detail: u32) -> usize
-    requires { ⌜ at + 67 ≤ far ⌝ }
-    ensures { λ r. ⌜ Wrote (now (out .entry)) at (findingLine kind level place detail) 67 (now (out .exit)) r ⌝ }
-{
-    let from = basis::smaller(at, out.len());
-    let length = lines::finding_line(&mut out[from..], kind, level, place, detail);
+    );
     at + length
 }
 

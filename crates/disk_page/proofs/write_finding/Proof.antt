@@ -1,7 +1,5 @@
 -- `disk_page::write_finding` meets its contract. Assumes nothing.
 use mathlib.Core.Path.{sym, _∙_}
-use Rattle.lines.specs.Writing.{Wrote}
-use Rattle.disk_page.specs.Page.{entry, entryLine}
 use Rattle.disk_page.proofs.Lines.{wrote-other, wrote-first, wrote-no-more}
 use borrow.Author.Needs.{needs}
 use Rattle.disk_page.proofs.write_finding.Statement.{statement}

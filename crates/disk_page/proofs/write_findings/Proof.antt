@@ -24,13 +24,13 @@ loop-holds : tie.Need-loop-holds Inv-loop μ-loop
 loop-holds c = (omega arith, refl, lines-none _ _ _ _)
 
 add-write-finding : tie.Need-add-write-finding Inv-loop μ-loop
-add-write-finding c = omega (arith, c .before .before .before .before .before .before .pre .3, c .before .loop-test .taken, c .before .before .before .before .before .before .good .1 .1)
+add-write-finding c = omega (arith, c .before .before .before .before .before .before .pre .2, c .before .loop-test .taken, c .before .before .before .before .before .before .good .1 .1)
 
 write-finding-requires : tie.Need-write-finding-requires Inv-loop μ-loop
 write-finding-requires c κs =
     let p = c .before .before .before .before .before .before .pre in
     let l = c .before .before .loop .inv .2 in
-    (p .0, p .1, p .2, omega (arith, p .3, c .before .loop-test .taken), omega (arith, p .4, c .before .loop-test .taken, l .place, l .few))
+    (p .0, p .1, omega (arith, p .2, c .before .loop-test .taken), omega (arith, p .3, c .before .loop-test .taken, l .place, l .few))
 
 add-k : tie.Need-add-k Inv-loop μ-loop
 add-k c = search needs

@@ -26,7 +26,7 @@ write-track-requires : tie.Need-write-track-requires Inv-loop μ-loop
 write-track-requires c κs =
     let p = c .before .before .before .before .before .before .pre in
     let l = c .before .before .loop .inv in
-    (p .0, p .1, l .0, omega (arith, p .2, l .0, l .2 .place, l .2 .few))
+    (p .0, l .0, omega (arith, p .1, l .0, l .2 .place, l .2 .few))
 
 add-track : tie.Need-add-track Inv-loop μ-loop
 add-track c = search needs

@@ -75,7 +75,7 @@ write-here-requires c κs =
     let l = c .before .before .before .before .before .before .before .loop .inv in
     let p = s .pre in
     let w = within (now (s .args .tracks)) (now (s .args .findings)) (c .before .before .before .before .before .before .before .loop .i) (p .0) (l .1) (c .before .before .before .before .wide .ensures .0) (c .before .before .before .before .before .before .loop-test .taken) in
-    (p .0, p .1, p .2, w, omega (arith, p .3, p .0 .few, c .before .before .before .before .before .before .loop-test .taken, l .3 .place, l .3 .few, c .before .before .before .before .wide .ensures .1))
+    (p .0, p .1, w, omega (arith, p .2, p .0 .few, c .before .before .before .before .before .before .loop-test .taken, l .3 .place, l .3 .few, c .before .before .before .before .wide .ensures .1))
 
 add-start : tie.Need-add-start Inv-loop μ-loop
 add-start c =

@@ -1,7 +1,7 @@
 -- `disk_page::write_word` meets its contract. Assumes nothing.
 use mathlib.Core.Path.{refl}
 use native.Mathlib.Nat.{le-refl}
-use Rattle.disk_page.proofs.Writing.{part-wrote}
+use Rattle.disk_lines.proofs.Writing.{part-wrote}
 use borrow.Author.Needs.{needs}
 use Rattle.disk_page.proofs.write_word.Statement.{statement}
 use Rattle.disk_page.proofs.write_word.Tie as tie

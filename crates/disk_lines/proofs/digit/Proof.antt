@@ -1,9 +1,9 @@
--- `disk_page::digit` meets its contract. Assumes nothing.
+-- `disk_lines::digit` meets its contract. Assumes nothing.
 use mathlib.Core.Path.{refl}
 use Rattle.lines.specs.Lines.{digit}
 use borrow.Author.Needs.{needs}
-use Rattle.disk_page.proofs.digit.Statement.{statement}
-use Rattle.disk_page.proofs.digit.Tie as tie
+use Rattle.disk_lines.proofs.digit.Statement.{statement}
+use Rattle.disk_lines.proofs.digit.Tie as tie
 
 cast-result : tie.Need-cast-result
 cast-result c = search needs
