@@ -98,7 +98,7 @@ module _ {tracks findings : List ℕ} (ok : Accepted tracks findings) where
       let at-j = at-place tracks H T j b in
       let none = none-at (λ j. some (isAt tracks (sideAt tracks j) (trackAt tracks j)) j) (tracksIn tracks) j l (ok .once) in
       let here = some-hit (isAt tracks (sideAt tracks j) (trackAt tracks j)) j i h
-          (place-at tracks _ _ i (at-i .0 ∙ sym (at-j .0)) (at-i .1 ∙ sym (at-j .1))) in
+      (place-at tracks _ _ i (at-i .0 ∙ sym (at-j .0)) (at-i .1 ∙ sym (at-j .1))) in
       clash here none
 
   module _ (i : ℕ) (h : i < tracksIn tracks) where

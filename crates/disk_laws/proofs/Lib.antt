@@ -7,3 +7,5 @@ pub mod Runs
 pub mod Times
 pub mod Items
 pub mod Once
+pub mod Numbers
+pub mod Library

@@ -8,8 +8,9 @@ use lib.Dec.{eqb}
 use Rattle.basis.specs.Lists.{joined}
 use Rattle.finding_list.proofs.Members.{joined-from, Ordered, ordered-joined, ordered-at}
 use Rattle.disk_tracks.specs.Given.{tracksIn, ownAt, before, kindAt}
-use Rattle.disk_tracks.specs.Judgement.{isAt}
-use Rattle.disk_tracks.proofs.Branches.{Accepted}
+use Rattle.disk_tracks.specs.Judgement.{isAt, judged}
+use Rattle.disk_tracks.proofs.Branches.{Accepted, accepted}
+use Rattle.refusals.specs.RefusedCalls.Answer.{gives}
 use Rattle.disk_page.specs.Ranges.{goesOn, lastOf}
 use Rattle.disk_page.specs.Page.{Entry, entry, entryOf, findingEntries, trackEntries, sideEntries, pageEntries}
 use Rattle.disk_laws.specs.Order.{Earlier, InOrder}
@@ -63,5 +64,9 @@ module _ {tracks findings : List ℕ} (ok : Accepted tracks findings) where
       let g = joined-from (trackEntries tracks findings I) 84 y n in
       rw (comes-track tracks findings H (f .place) x (f .member) .from .is, comes-track tracks findings I (g .place) y (g .member) .from .is) (inl h))))
 
-  pub in-order : InOrder tracks findings
+  in-order : InOrder tracks findings
   in-order d i j h l = ordered-at Earlier d (pageEntries tracks findings) i j page-ordered h l
+
+-- for every disk that is accepted
+pub ordered : {n : ℕ} (tracks findings : List ℕ) → judged tracks findings ≡ gives n → InOrder tracks findings
+ordered tracks findings e = in-order (accepted tracks findings e)
