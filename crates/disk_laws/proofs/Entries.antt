@@ -1,20 +1,19 @@
 -- Where an entry of the page comes from, and that a finding's entry stands on the page. Assumes nothing.
 use Prim.Native.Nat.{ℕ, _+_, _<_, _≤_}
-use mathlib.Core.Path.{_≡_, refl, sym, ap, _∙_}
+use mathlib.Core.Path.{_≡_, refl}
 use mathlib.Core.Bool.{Bool, true, false, cond}
-use mathlib.Core.List.{List, [], _∷_, _++_, List·Memᴰ, List·Memᴰ·head, List·Memᴰ·not-nil, List·Memᴰ·eq-of-singleton}
+use mathlib.Core.List.{List, [], _∷_, List·Memᴰ, List·Memᴰ·head, List·Memᴰ·not-nil, List·Memᴰ·eq-of-singleton}
 use mathlib.Core.Logic.{_⊎_, inl, inr}
 use native.Mathlib.Decide.{ℕ-discrete}
 use native.Mathlib.Omega.{arith}
-use borrow.Author.Tests.{eqb-true, eq-eqb, ne-eqb}
+use borrow.Author.Tests.{eq-eqb, ne-eqb}
 use lib.Dec.{eqb}
 use Rattle.basis.specs.Lists.{joined}
-use Rattle.finding_list.proofs.Members.{From, joined-from, joined-has}
+use Rattle.finding_list.proofs.Members.{joined-from, joined-has}
 use Rattle.disk_tracks.specs.Given.{tracksIn, ownAt, before, kindAt}
 use Rattle.disk_tracks.specs.Judgement.{isAt}
 use Rattle.disk_page.specs.Ranges.{goesOn, lastOf}
 use Rattle.disk_page.specs.Page.{Entry, entry, entryOf, findingEntries, trackEntries, sideEntries, pageEntries}
-use Rattle.disk_laws.proofs.Accepted.{clash}
 
 module _ (tracks findings : List ℕ) where
   -- the finding at index j brings the entry, on track T of side H

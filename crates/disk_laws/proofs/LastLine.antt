@@ -1,16 +1,15 @@
 -- When the page says `single-sided`. Assumes nothing.
 use Prim.Native.Nat.{ℕ}
-use mathlib.Core.Path.{_≡_, refl, sym, ap, _∙_}
+use mathlib.Core.Path.{_≡_, refl, _∙_}
 use mathlib.Core.Bool.{Bool, true, false, not, cond}
 use mathlib.Core.List.{List, [], _++_, append-nil}
 use mathlib.Core.Logic.{_⊎_, inl, inr}
 use borrow.Author.Tests.{not-true, not-false}
 use Rattle.lines.specs.Lines.{bytesOf}
-use Rattle.disk_tracks.specs.Given.{some}
 use Rattle.disk_tracks.proofs.Some.{none-at}
 use Rattle.disk_page.specs.Ranges.{hasTnf, isEmpty, exactlyOne, isSingleSided}
 use Rattle.disk_page.specs.Page.{pageEntries, entryLines, pageOf}
-use Rattle.disk_laws.specs.LastLine.{GivenTnf, Empty, SingleSided, LastLine}
+use Rattle.disk_laws.specs.LastLine.{Empty, SingleSided, LastLine}
 use Rattle.disk_laws.proofs.Accepted.{clash}
 use Rattle.disk_laws.proofs.Tnf.{some-found, tnf-given, given-tnf}
 

@@ -1,25 +1,23 @@
 -- Findings of the library are never refused with 25: from the laws of finding_list. Assumes nothing.
-use Prim.Native.Nat.{ℕ, zero, suc, _+_, _-_, _*_, _/_, _%_, _<_, _≤_}
-use mathlib.Core.Path.{_≡_, refl, sym, ap, _∙_}
-use mathlib.Core.Bool.{Bool, true, false, cond, not, _&&_, _||_}
+use Prim.Native.Nat.{ℕ, zero, suc, _+_, _-_, _*_, _%_, _<_, _≤_}
+use mathlib.Core.Path.{_≡_, refl}
+use mathlib.Core.Bool.{Bool, true, false, cond}
 use mathlib.Core.List.{List, [], _∷_, _++_}
-use mathlib.Core.Logic.{_⊎_, inl, inr}
 use native.Mathlib.Nat.{zero-add}
 use native.Mathlib.Omega.{arith}
 use borrow.Author.Tests.{eq-eqb}
 use lib.Dec.{ltb}
 use lib.ListN.{length, getD, length-append}
-use Rattle.layouts.specs.declared.Layout.{Layout}
 use Rattle.finding_list.specs.Calls.{numbersOf}
 use Rattle.finding_list.specs.Findings.{findingsOf}
 use Rattle.finding_list.specs.declared.Finding.{Finding}
 use Rattle.finding_list.proofs.Laws.{finding, strictly-ordered, kinds-in-range, tnf-only}
 use Rattle.finding_list.proofs.Members.{member-at}
 use Rattle.finding_list.proofs.Numbers.{length-numbers}
-use Rattle.refusals.specs.RefusedCalls.{Answer, refusedWith}
+use Rattle.refusals.specs.RefusedCalls.{refusedWith}
 use Rattle.refusals.specs.RefusedCalls.Answer.{gives, refused}
-use Rattle.refusals.specs.declared.Refusal.the-variants.{TrackOrSide, TrackGivenTwice, TooManyTracks, NotTheirFindings}
-use Rattle.disk_tracks.specs.Given.{some, tracksIn, trackAt, ownAt, before, findingsIn, kindAt, levelAt, placeAt, detailAt}
+use Rattle.refusals.specs.declared.Refusal.the-variants.{TrackOrSide, TrackGivenTwice, TooManyTracks}
+use Rattle.disk_tracks.specs.Given.{some, tracksIn, trackAt, ownAt, before, findingsIn, kindAt, placeAt}
 use Rattle.disk_tracks.specs.Judgement.{someOutside, someTwice, addUp, amissAt, someAmiss, judged}
 use Rattle.disk_laws.specs.Library.{Read, tracksOf, findingsGiven, NeverAmiss}
 use Rattle.disk_laws.proofs.Accepted.{Later, Tnf}

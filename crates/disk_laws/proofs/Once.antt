@@ -1,27 +1,26 @@
 -- Each finding given stands on the page exactly once. Assumes nothing.
 use Prim.Native.Nat.{ℕ, zero, suc, _+_, _<_, _≤_}
 use mathlib.Core.Path.{_≡_, refl, sym, ap, _∙_}
-use mathlib.Core.Bool.{Bool, true, false}
-use mathlib.Core.List.{List, List·Memᴰ}
+use mathlib.Core.Bool.{true, false}
+use mathlib.Core.List.{List}
 use mathlib.Core.Logic.{_⊎_, inl, inr}
 use native.Mathlib.Decide.{ℕ-discrete}
 use native.Mathlib.Omega.{arith}
-use Rattle.disk_tracks.specs.Given.{tracksIn, trackAt, sideAt, ownAt, before, kindAt, levelAt, placeAt, detailAt}
-use Rattle.disk_tracks.specs.Judgement.{isAt, judged}
+use Rattle.disk_tracks.specs.Given.{tracksIn, trackAt, sideAt, ownAt, before, kindAt}
+use Rattle.disk_tracks.specs.Judgement.{judged}
 use Rattle.disk_tracks.proofs.Branches.{Accepted, accepted}
 use Rattle.disk_page.specs.Ranges.{hasTnf, goesOn, lastOf}
 use Rattle.disk_page.specs.Page.{Entry, entry, pageEntries}
 use Rattle.refusals.specs.RefusedCalls.Answer.{gives}
-use Rattle.disk_laws.specs.LastLine.{GivenTnf}
 use Rattle.disk_laws.specs.Order.{Earlier}
 use Rattle.disk_laws.specs.Once.{Item, itemAt, given, isItem, standsFor, times, EachOnce}
 use Rattle.disk_laws.proofs.Accepted.{clash, at-place, place-at, inside, tnf-at}
 use Rattle.disk_laws.proofs.Tnf.{tnf-given, given-tnf}
-use Rattle.disk_laws.proofs.Entries.{Brings, Comes, OnPage, comes-page, on-page, brings-other, brings-first}
+use Rattle.disk_laws.proofs.Entries.{Comes, comes-page, on-page, brings-other, brings-first}
 use Rattle.disk_laws.proofs.Order.{page-ordered}
-use Rattle.disk_laws.proofs.Runs.{Start, in-range, run-start, reaches}
-use Rattle.disk_laws.proofs.Times.{Passing, times-has, times-from, times-few, equal-times}
-use Rattle.disk_laws.proofs.Items.{Same, same, is-same, Stands, stands, it-stands, Apart, GivenAt, given-at, at-given, given-apart}
+use Rattle.disk_laws.proofs.Runs.{in-range, run-start, reaches}
+use Rattle.disk_laws.proofs.Times.{times-has, times-from, times-few, equal-times}
+use Rattle.disk_laws.proofs.Items.{Same, same, is-same, Stands, stands, it-stands, Apart, given-at, at-given, given-apart}
 
 module _ {tracks findings : List ℕ} (ok : Accepted tracks findings) where
   -- no finding is given twice

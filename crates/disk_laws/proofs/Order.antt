@@ -2,10 +2,9 @@
 use Prim.Native.Nat.{ℕ, _+_, _<_}
 use mathlib.Core.Path.{_≡_, refl}
 use mathlib.Core.Bool.{Bool, true, false, cond}
-use mathlib.Core.List.{List, [], _∷_, List·Memᴰ, List·Memᴰ·not-nil}
-use mathlib.Core.Logic.{_⊎_, inl, inr}
+use mathlib.Core.List.{List, [], _∷_, List·Memᴰ·not-nil}
+use mathlib.Core.Logic.{inl, inr}
 use lib.Dec.{eqb}
-use Rattle.basis.specs.Lists.{joined}
 use Rattle.finding_list.proofs.Members.{joined-from, Ordered, ordered-joined, ordered-at}
 use Rattle.disk_tracks.specs.Given.{tracksIn, ownAt, before, kindAt}
 use Rattle.disk_tracks.specs.Judgement.{isAt, judged}

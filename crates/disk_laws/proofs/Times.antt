@@ -9,7 +9,6 @@ use native.Mathlib.Nat.{lt-of-not-le}
 use native.Mathlib.Omega.{arith}
 use Rattle.finding_list.proofs.Members.{Ordered}
 use Rattle.disk_laws.specs.Once.{times}
-use Rattle.disk_laws.proofs.Accepted.{clash}
 
 module _ {A : Type 0} (test : A → Bool) where
   pub times-has : (xs : List A) (a : A) → List·Memᴰ a xs → test a ≡ true → 1 ≤ times test xs

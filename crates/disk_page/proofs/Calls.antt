@@ -2,12 +2,11 @@
 use Prim.Native.Nat.{ℕ}
 use mathlib.Core.Path.{_≡_, refl, ap}
 use mathlib.Core.List.{List}
-use lib.ListN.{length, take}
 use Rattle.disk_tracks.specs.Judgement.{judged}
 use Rattle.disk_tracks.proofs.Branches.{accepted}
 use Rattle.lines.specs.Writing.{Wrote}
 use Rattle.lines.proofs.Writing.{answer-is, out-is}
-use Rattle.refusals.specs.RefusedCalls.{Answer, refusedWith, bufferAfter}
+use Rattle.refusals.specs.RefusedCalls.{refusedWith, bufferAfter}
 use Rattle.refusals.specs.RefusedCalls.Answer.{gives}
 use Rattle.refusals.specs.declared.Refusal.{Refusal}
 use Rattle.disk_page.specs.PrivateContracts.{Whole, far}

@@ -1,6 +1,6 @@
 -- What the loops over the tracks carry along. Assumes nothing.
 use Prim.Native.Nat.{ℕ, zero, suc, _+_, _-_, _≤_, _<_}
-use mathlib.Core.Path.{_≡_, refl, sym, ap, _∙_}
+use mathlib.Core.Path.{_≡_, refl, sym}
 use mathlib.Core.Bool.{Bool, true, false, not, cond, _&&_}
 use mathlib.Core.List.{List, []}
 use native.Mathlib.Omega.{arith}
@@ -11,7 +11,7 @@ use Rattle.disk_tracks.specs.Judgement.{isAt}
 use Rattle.disk_tracks.proofs.Sums.{own-within}
 use Rattle.disk_page.specs.PrivateContracts.{Whole}
 use Rattle.disk_page.specs.Ranges.{hasTnf, goesOn, isEmpty, isSingleSided}
-use Rattle.disk_page.specs.Page.{Entry, entryOf, findingEntries}
+use Rattle.disk_page.specs.Page.{entryOf, findingEntries}
 
 pub and-true : {a b r : Bool} → a ≡ true → r ≡ b → r ≡ (a && b)
 and-true e g = rw e g

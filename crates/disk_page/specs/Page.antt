@@ -8,7 +8,7 @@
 -- The main property: what `disk_page` writes is `pageOf`, for every disk that is accepted and every buffer; where the buffer is too short, as
 -- much of it as fits, and the answer is its whole length. Assumes nothing.
 use Prim.Native.Nat.{ℕ, _+_}
-use mathlib.Core.Bool.{Bool, cond}
+use mathlib.Core.Bool.{cond}
 use mathlib.Core.List.{List, [], _∷_, _++_}
 use lib.Dec.{eqb}
 use lib.ListN.{length, take}

@@ -1,5 +1,5 @@
 -- The judgement of tracks and findings, a law for each branch, and what is known of those that are accepted. Assumes nothing.
-use Prim.Native.Nat.{ℕ, _+_, _-_, _*_, _/_, _%_, _<_, _≤_}
+use Prim.Native.Nat.{ℕ, _%_, _<_, _≤_}
 use mathlib.Core.Path.{_≡_, refl}
 use mathlib.Core.Bool.{Bool, true, false, cond, not, _&&_, _||_}
 use mathlib.Core.List.{List}
@@ -8,10 +8,10 @@ use borrow.Author.Tests.{lt-ltb, le-ltb, ltb-false, eqb-true}
 use lib.Dec.{eqb, ltb}
 use lib.ListN.{length}
 use Rattle.basis.proofs.Bools.{and-left, and-right}
-use Rattle.refusals.specs.RefusedCalls.{Answer, refusedWith}
+use Rattle.refusals.specs.RefusedCalls.{refusedWith}
 use Rattle.refusals.specs.RefusedCalls.Answer.{gives}
 use Rattle.refusals.specs.declared.Refusal.the-variants.{TrackOrSide, TrackGivenTwice, TooManyTracks, NotTheirFindings}
-use Rattle.disk_tracks.specs.Given.{some, tracksIn, trackAt, sideAt, ownAt, before, findingsIn}
+use Rattle.disk_tracks.specs.Given.{some, tracksIn, trackAt, ownAt, before, findingsIn}
 use Rattle.disk_tracks.specs.Judgement.{someOutside, someTwice, addUp, amissAt, someAmiss, judged}
 
 -- what it means that they add up

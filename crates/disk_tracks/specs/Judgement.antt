@@ -1,6 +1,6 @@
 -- Section 16 of the specification, rules 16.3 to 16.9: which tracks and findings are accepted for a page. T is a track and H a side. The
 -- main property: a list is refused exactly where one of these rules says so, with the first of them that does. Assumes nothing.
-use Prim.Native.Nat.{ℕ, _+_, _-_, _*_, _/_, _%_}
+use Prim.Native.Nat.{ℕ, _+_, _-_, _%_}
 use mathlib.Core.Bool.{Bool, cond, not, _&&_, _||_}
 use mathlib.Core.List.{List}
 use lib.Dec.{eqb, ltb}
@@ -50,7 +50,8 @@ amissAt T findings start k =
 unfoldable pub someAmiss : (tracks findings : List ℕ) → Bool
 someAmiss tracks findings = some (λ i. some (amissAt (trackAt tracks i) findings (before tracks i)) (ownAt tracks i)) (tracksIn tracks)
 
--- 16.3, 16.4, 16.5, 16.6, 16.7, 16.8, 16.9: the judgement: 22 for more than 168 tracks; then 1; then 21; then 25. Else the number of findings is given
+-- 16.3, 16.4, 16.5, 16.6, 16.7, 16.8, 16.9: the judgement: 22 for more than 168 tracks, then 1, then 21, then 25. Else how many findings
+-- there are
 unfoldable pub judged : (tracks findings : List ℕ) → Answer ℕ
 judged tracks findings =
     cond (ltb 168 (tracksIn tracks)) (refusedWith TooManyTracks)

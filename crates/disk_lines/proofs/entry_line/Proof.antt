@@ -1,5 +1,5 @@
 -- `disk_lines::entry_line` meets its contract: its two parts one after the other. Assumes nothing.
-use Prim.Native.Nat.{ℕ, _+_, _≤_}
+use Prim.Native.Nat.{ℕ, _+_}
 use mathlib.Core.Path.{ap}
 use native.Mathlib.Omega.{arith}
 use Rattle.lines.proofs.Writing.{_then_, wrote-few}

@@ -1,6 +1,5 @@
 -- `disk_page::disk_page` meets its contract. Assumes nothing.
 use mathlib.Core.Path.{sym, ap, _∙_}
-use denote.Ref.{now}
 use Rattle.refusals.specs.RefusedCalls.{countedAnswer}
 use Rattle.disk_page.proofs.Calls.{whole, refused-told, accepted-told}
 use borrow.Author.Needs.{needs}

@@ -1,5 +1,4 @@
 -- `disk_page::tnf_here` meets its contract. Assumes nothing.
-use mathlib.Core.Path.{_∙_, sym}
 use Rattle.disk_page.proofs.Tracks.{and-true, and-false}
 use borrow.Author.Needs.{needs}
 use Rattle.disk_page.proofs.tnf_here.Statement.{statement}

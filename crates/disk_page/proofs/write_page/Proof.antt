@@ -1,8 +1,6 @@
 -- `disk_page::write_page` meets its contract. Assumes nothing.
-use Prim.Native.Nat.{_+_, _*_, _≤_}
 use mathlib.Core.Path.{sym, _∙_}
 use native.Mathlib.Omega.{arith}
-use denote.Ref.{now}
 use Rattle.lines.specs.Lines.{bytesOf}
 use Rattle.disk_page.proofs.Lines.{page-without, page-with}
 use borrow.Author.Needs.{needs}

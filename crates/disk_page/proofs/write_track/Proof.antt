@@ -1,5 +1,5 @@
 -- `disk_page::write_track` meets its contract: of the first i tracks those are written that are the one. Assumes nothing.
-use Prim.Native.Nat.{_+_, _*_, _-_, _/_, _≤_}
+use Prim.Native.Nat.{_*_, _-_, _/_, _≤_}
 use mathlib.Core.Bool.{cond}
 use mathlib.Core.List.{[]}
 use mathlib.Core.Path.{_≡_, refl, sym, _∙_}

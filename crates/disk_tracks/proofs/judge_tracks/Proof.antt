@@ -1,6 +1,5 @@
 -- `disk_tracks::judge_tracks` meets its contract: each answer is that of its branch. Assumes nothing.
 use mathlib.Core.Path.{sym, _∙_}
-use native.Mathlib.Omega.{arith}
 use borrow.Author.Tests.{not-true, not-false}
 use Rattle.disk_tracks.proofs.Branches.{judged-22, judged-1, judged-21, judged-25, judged-25-amiss, judged-accepted}
 use borrow.Author.Needs.{needs}
