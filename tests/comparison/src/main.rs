@@ -11,6 +11,7 @@ mod block_program;
 mod blocks;
 mod coding;
 mod densities;
+mod disk_page;
 mod files;
 mod findings;
 mod flux;
@@ -33,7 +34,7 @@ use std::thread;
 type Part = fn(&mut Report);
 
 /// The parts, by their modules. The long ones come first, so that no worker is left alone with one at the end.
-const PARTS: [(&str, Part); 59] = [
+const PARTS: [(&str, Part); 62] = [
     ("files", files::in_memory),
     ("findings", findings::any_tracks),
     ("sectors", sectors::standard),
@@ -57,11 +58,14 @@ const PARTS: [(&str, Part); 59] = [
     ("image_program", image_program::failing_inputs),
     ("sector_image", sector_image::tracks),
     ("sector_image", sector_image::planned),
+    ("disk_page", disk_page::disks),
+    ("disk_page", disk_page::of_tracks),
     ("blocks", blocks::timings),
     ("blocks", blocks::short_rooms),
     ("two_reads", two_reads::pairs),
     ("two_reads", two_reads::data_marks),
     ("sector_image", sector_image::any_tracks),
+    ("disk_page", disk_page::counts),
     ("terms", terms::tables),
     ("track_cells", track_cells::reading),
     ("track_cells", track_cells::finding),
