@@ -1,7 +1,7 @@
 -- The lines of entries, written one after the other. Assumes nothing.
 use Prim.Native.Nat.{ℕ, _+_, _≤_}
 use mathlib.Core.Path.{_≡_, refl, subst}
-use mathlib.Core.Bool.{Bool, true, false, cond}
+use mathlib.Core.Bool.{true, false}
 use mathlib.Core.List.{List, [], _∷_, _++_, append-assoc, append-nil}
 use native.Mathlib.Omega.{arith}
 use borrow.Author.Tests.{eq-eqb, ne-eqb}
@@ -48,24 +48,17 @@ module _ {a b : List ℕ} {at next : ℕ} (tracks findings : List ℕ) (H T j : 
   unfolding entryOf
   wrote-other h w = rw (ne-eqb _ _ h) (rw (one-line (entry findings H T T j)) at w)
 
-  pub wrote-first : kindAt findings j ≡ 4 → goesOn tracks findings H T ≡ false → Wrote a at (lineOf (entry findings H T (lastOf tracks findings H T) j)) 80 b next
+  pub wrote-first : {last : ℕ} → kindAt findings j ≡ 4 → goesOn tracks findings H T ≡ false → last ≡ lastOf tracks findings H T → Wrote a at (lineOf (entry findings H T last j)) 80 b next
       → Wrote a at (entryLines (entryOf tracks findings H T j)) 80 b next
   unfolding entryOf
-  wrote-first h g w = rw (eq-eqb _ _ h, g) (rw (one-line (entry findings H T (lastOf tracks findings H T) j)) at w)
+  wrote-first {last} h g l w = rw (eq-eqb _ _ h, g, ← l) (rw (one-line (entry findings H T last j)) at w)
 
 pub wrote-no-more : (l : List ℕ) (at : ℕ) (tracks findings : List ℕ) (H T j : ℕ) → kindAt findings j ≡ 4 → goesOn tracks findings H T ≡ true
     → Wrote l at (entryLines (entryOf tracks findings H T j)) 80 l at
 unfolding entryOf
 wrote-no-more l at tracks findings H T j h g = rw (eq-eqb _ _ h, g) (no-lines l at 80)
 
--- the lines of a track that may be the one looked for
-pub wrote-here : {a b : List ℕ} {at next most : ℕ} {here : Bool} (es : List Entry) → here ≡ true → Wrote a at (entryLines es) most b next
-    → Wrote a at (entryLines (cond here es [])) most b next
-wrote-here es e w = rw e w
-
-pub wrote-elsewhere : (l : List ℕ) (at most : ℕ) {here : Bool} (es : List Entry) → here ≡ false → Wrote l at (entryLines (cond here es [])) most l at
-wrote-elsewhere l at most es e = rw e (no-lines l at most)
-
+-- entries that are the same have the same lines
 pub same-entries : {a b : List ℕ} {at next most : ℕ} {es fs : List Entry} → es ≡ fs → Wrote a at (entryLines es) most b next → Wrote a at (entryLines fs) most b next
 same-entries {a} {b} {at} {next} {most} e w = subst (λ (es : List Entry). Wrote a at (entryLines es) most b next) e w
 

@@ -4,7 +4,6 @@
 use refusals::Counted;
 ghost use mathlib.Core.Path.{_≡_};
 ghost use mathlib.Core.Bool.{cond, _&&_};
-ghost use mathlib.Core.List.{[]};
 ghost use Prim.Native.Nat.{_+_, _*_, _<_, _≤_};
 ghost use lib.Dec.{eqb};
 ghost use lib.ListN.{length};
@@ -78,32 +77,12 @@ fn write_track(
     while i < count {
         let own = wide(tracks[3 * i + 2]);
         let here = is_same(tracks[3 * i + 1], side, tracks[3 * i], track);
-        next = write_here(here, tracks, findings, out, next, side, track, start, own);
+        let some = count_if(here, own);
+        next = write_findings(tracks, findings, out, next, side, track, start, some);
         start += own;
         i += 1;
     }
     next
-}
-
-// The lines of a track that may be the one looked for.
-fn write_here(
-    here: bool,
-    tracks: &[u32],
-    findings: &[u32],
-    out: &mut [u8],
-    at: usize,
-    side: u32,
-    track: u32,
-    start: usize,
-    own: usize,
-) -> usize
-    requires { ⌜ Whole (now tracks) (now findings) × (track ≤ 84) × (start + own ≤ findingsIn (now findings)) × (at + 80 * own ≤ far) ⌝ }
-    ensures { λ r. ⌜ Wrote (now (out .entry)) at (entryLines (cond here (joined (λ k. entryOf (now (tracks .entry)) (now (findings .entry)) side track (start + k)) own) [])) (80 * own) (now (out .exit)) r ⌝ }
-{
-    if here {
-        return write_findings(tracks, findings, out, at, side, track, start, own);
-    }
-    at
 }
 
 // A line for each finding of a track that has one.
@@ -253,22 +232,11 @@ fn has_tnf(tracks: &[u32], findings: &[u32], side: u32, track: u32) -> bool
     while i < count {
         let own = wide(tracks[3 * i + 2]);
         let here = is_same(tracks[3 * i + 1], side, tracks[3 * i], track);
-        if tnf_here(here, findings, start, own) {
+        if some_tnf(findings, start, count_if(here, own)) {
             return true;
         }
         start += own;
         i += 1;
-    }
-    false
-}
-
-// Whether a track that may be the one looked for is it and has TNF.
-fn tnf_here(here: bool, findings: &[u32], start: usize, own: usize) -> bool
-    requires { ⌜ start + own ≤ findingsIn (now findings) ⌝ }
-    ensures { λ r. ⌜ r ≡ (here && some (λ k. eqb (kindAt (now (findings .entry)) (start + k)) 4) own) ⌝ }
-{
-    if here {
-        return some_tnf(findings, start, own);
     }
     false
 }
@@ -286,6 +254,13 @@ fn some_tnf(findings: &[u32], start: usize, own: usize) -> bool
         k += 1;
     }
     false
+}
+
+// A count where a test passes, and else 0.
+fn count_if(test: bool, count: usize) -> usize
+    ensures { λ r. ⌜ (r ≡ cond test count 0) × (r ≤ count) ⌝ }
+{
+    if test { count } else { 0 }
 }
 
 // Two sides and two tracks are the same.

@@ -65,21 +65,28 @@ shared-slice-read-is-same-2 c = search needs
 is-same-requires : tie.Need-is-same-requires Inv-loop μ-loop
 is-same-requires c κs = search needs
 
-tnf-here-requires : tie.Need-tnf-here-requires Inv-loop μ-loop
-tnf-here-requires c κs =
-    let s = c .before .before .before .before .before .before .before .before .before in
-    within (now (s .args .tracks)) (now (s .args .findings)) (c .before .before .before .before .before .before .loop .i) (s .pre) (c .before .before .before .before .before .before .loop .inv .0) (c .before .before .before .wide .ensures .0) (c .before .before .before .before .before .loop-test .taken)
+count-if-requires : tie.Need-count-if-requires Inv-loop μ-loop
+count-if-requires c κs = search needs
+
+some-tnf-requires : tie.Need-some-tnf-requires Inv-loop μ-loop
+some-tnf-requires c κs =
+    let s = c .before .before .before .before .before .before .before .before .before .before in
+    let w = within (now (s .args .tracks)) (now (s .args .findings)) (c .before .before .before .before .before .before .before .loop .i) (s .pre) (c .before .before .before .before .before .before .before .loop .inv .0) (c .before .before .before .before .wide .ensures .0) (c .before .before .before .before .before .before .loop-test .taken) in
+    omega (arith, w, c .count-if .ensures .1)
 
 returns : tie.Need-returns Inv-loop μ-loop
 unfolding hasTnf
 returns c =
-    let l = c .before .before .before .before .before .before .before .before .loop in
-    sym (some-hit _ _ _ (c .before .before .before .before .before .before .before .loop-test .taken) (tnf-is (now (c .before .before .before .before .before .before .before .before .before .before .before .args .tracks)) (now (c .before .before .before .before .before .before .before .before .before .before .before .args .findings)) _ _ (l .i) (l .inv .0) (c .before .before .before .before .before .wide .ensures .0) (c .before .before .is-same .ensures) (c .before .tnf-here .ensures) ∙ c .if1 .taken))
+    let l = c .before .before .before .before .before .before .before .before .before .loop in
+    let s = c .before .before .before .before .before .before .before .before .before .before .before .before in
+    let e = tnf-is (now (s .args .tracks)) (now (s .args .findings)) _ _ (l .i) (l .inv .0) (c .before .before .before .before .before .before .wide .ensures .0) (c .before .before .before .is-same .ensures) (c .before .before .count-if .ensures .0) (c .before .some-tnf .ensures) in
+    sym (some-hit _ _ _ (c .before .before .before .before .before .before .before .before .loop-test .taken) (e ∙ c .if1 .taken))
 
 add-start : tie.Need-add-start Inv-loop μ-loop
 add-start c =
-    let s = c .before .before .before .before .before .before .before .before .before .before .before in
-    omega (arith, within (now (s .args .tracks)) (now (s .args .findings)) (c .before .before .before .before .before .before .before .before .loop .i) (s .pre) (c .before .before .before .before .before .before .before .before .loop .inv .0) (c .before .before .before .before .before .wide .ensures .0) (c .before .before .before .before .before .before .before .loop-test .taken), s .good .0 .1)
+    let s = c .before .before .before .before .before .before .before .before .before .before .before .before in
+    let w = within (now (s .args .tracks)) (now (s .args .findings)) (c .before .before .before .before .before .before .before .before .before .loop .i) (s .pre) (c .before .before .before .before .before .before .before .before .before .loop .inv .0) (c .before .before .before .before .before .before .wide .ensures .0) (c .before .before .before .before .before .before .before .before .loop-test .taken) in
+    omega (arith, w, s .good .0 .1)
 
 add-i : tie.Need-add-i Inv-loop μ-loop
 add-i c = search needs
@@ -89,10 +96,10 @@ loop-less c = search needs
 
 loop-again : tie.Need-loop-again Inv-loop μ-loop
 loop-again c =
-    let l = c .before .before .before .before .before .before .before .before .loop in (
-      omega (arith, before-more (now (c .before .before .before .before .before .before .before .before .before .before .before .args .tracks)) (l .i), l .inv .0, c .before .before .before .before .before .wide .ensures .0),
-      look-on _ (l .inv .1) (c .before .before .before .before .before .before .before .loop-test .taken) (tnf-is (now (c .before .before .before .before .before .before .before .before .before .before .before .args .tracks)) (now (c .before .before .before .before .before .before .before .before .before .before .before .args .findings)) _ _ (l .i) (l .inv .0) (c .before .before .before .before .before .wide .ensures .0) (c .before .before .is-same .ensures) (c .before .tnf-here .ensures) ∙ c .if1 .left),
-    )
+    let l = c .before .before .before .before .before .before .before .before .before .loop in
+    let s = c .before .before .before .before .before .before .before .before .before .before .before .before in
+    let e = tnf-is (now (s .args .tracks)) (now (s .args .findings)) _ _ (l .i) (l .inv .0) (c .before .before .before .before .before .before .wide .ensures .0) (c .before .before .before .is-same .ensures) (c .before .before .count-if .ensures .0) (c .before .some-tnf .ensures) in
+    (omega (arith, before-more (now (s .args .tracks)) (l .i), l .inv .0, c .before .before .before .before .before .before .wide .ensures .0), look-on _ (l .inv .1) (c .before .before .before .before .before .before .before .before .loop-test .taken) (e ∙ c .if1 .left))
 
 returns-2 : tie.Need-returns-2 Inv-loop μ-loop
 unfolding hasTnf
@@ -118,7 +125,8 @@ has-tnf-spec =
     mul-is-same-4
     shared-slice-read-is-same-2
     is-same-requires
-    tnf-here-requires
+    count-if-requires
+    some-tnf-requires
     returns
     add-start
     add-i

@@ -39,7 +39,7 @@ same-length-2 : tie.Need-same-length-2
 same-length-2 c = search needs
 
 returns-3 : tie.Need-returns-3
-returns-3 c = wrote-first _ _ _ _ _ (c .before .before .before .before .before .before .before .if1 .left) (sym (c .before .before .before .before .before .before .goes-on .ensures) ∙ c .before .before .before .before .before .if2 .left) (rw (c .before .before .before .before .last-of .ensures) at (c .before .before .write-entry2 .ensures))
+returns-3 c = wrote-first _ _ _ _ _ (c .before .before .before .before .before .before .before .if1 .left) (sym (c .before .before .before .before .before .before .goes-on .ensures) ∙ c .before .before .before .before .before .if2 .left) (c .before .before .before .before .last-of .ensures) (c .before .before .write-entry2 .ensures)
 
 pub write-finding-spec : {M : Type 1} → statement M
 write-finding-spec =

@@ -69,18 +69,22 @@ shared-slice-read-is-same-2 c = search needs
 is-same-requires : tie.Need-is-same-requires Inv-loop μ-loop
 is-same-requires c κs = search needs
 
-write-here-requires : tie.Need-write-here-requires Inv-loop μ-loop
-write-here-requires c κs =
-    let s = c .before .before .before .before .before .before .before .before .before .before .before in
-    let l = c .before .before .before .before .before .before .before .loop .inv in
+count-if-requires : tie.Need-count-if-requires Inv-loop μ-loop
+count-if-requires c κs = search needs
+
+write-findings-requires : tie.Need-write-findings-requires Inv-loop μ-loop
+write-findings-requires c κs =
+    let s = c .before .before .before .before .before .before .before .before .before .before .before .before in
+    let l = c .before .before .before .before .before .before .before .before .loop .inv in
     let p = s .pre in
-    let w = within (now (s .args .tracks)) (now (s .args .findings)) (c .before .before .before .before .before .before .before .loop .i) (p .0) (l .1) (c .before .before .before .before .wide .ensures .0) (c .before .before .before .before .before .before .loop-test .taken) in
-    (p .0, p .1, w, omega (arith, p .2, p .0 .few, c .before .before .before .before .before .before .loop-test .taken, l .3 .place, l .3 .few, c .before .before .before .before .wide .ensures .1))
+    let few = c .before .count-if .ensures .1 in
+    let w = within (now (s .args .tracks)) (now (s .args .findings)) (c .before .before .before .before .before .before .before .before .loop .i) (p .0) (l .1) (c .before .before .before .before .before .wide .ensures .0) (c .before .before .before .before .before .before .before .loop-test .taken) in
+    (p .0, p .1, omega (arith, w, few), omega (arith, p .2, p .0 .few, c .before .before .before .before .before .before .before .loop-test .taken, l .3 .place, l .3 .few, c .before .before .before .before .before .wide .ensures .1, few))
 
 add-start : tie.Need-add-start Inv-loop μ-loop
 add-start c =
-    let s = c .before .before .before .before .before .before .before .before .before .before .before .before .before .before in
-    let w = within (now (s .args .tracks)) (now (s .args .findings)) (c .before .before .before .before .before .before .before .before .before .before .loop .i) (s .pre .0) (c .before .before .before .before .before .before .before .before .before .before .loop .inv .1) (c .before .before .before .before .before .before .before .wide .ensures .0) (c .before .before .before .before .before .before .before .before .before .loop-test .taken) in
+    let s = c .before .before .before .before .before .before .before .before .before .before .before .before .before .before .before in
+    let w = within (now (s .args .tracks)) (now (s .args .findings)) (c .before .before .before .before .before .before .before .before .before .before .before .loop .i) (s .pre .0) (c .before .before .before .before .before .before .before .before .before .before .before .loop .inv .1) (c .before .before .before .before .before .before .before .before .wide .ensures .0) (c .before .before .before .before .before .before .before .before .before .before .loop-test .taken) in
     omega (arith, w, s .good .1 .1)
 
 add-i : tie.Need-add-i Inv-loop μ-loop
@@ -91,13 +95,14 @@ loop-less c = search needs
 
 loop-again : tie.Need-loop-again Inv-loop μ-loop
 loop-again c =
-    let s = c .before .before .before .before .before .before .before .before .before .before .before .before .before .before in
-    let l = c .before .before .before .before .before .before .before .before .before .before .loop in
-    let e = entries-are (now (s .args .tracks)) (now (s .args .findings)) (s .args .side) (s .args .track) (l .i) (l .inv .1) (c .before .before .before .before .before .before .before .wide .ensures .0) (c .before .before .before .before .is-same .ensures) in (
+    let s = c .before .before .before .before .before .before .before .before .before .before .before .before .before .before .before in
+    let l = c .before .before .before .before .before .before .before .before .before .before .before .loop in
+    let few = c .before .before .before .before .count-if .ensures in
+    let e = entries-are (now (s .args .tracks)) (now (s .args .findings)) (s .args .side) (s .args .track) (l .i) (l .inv .1) (c .before .before .before .before .before .before .before .before .wide .ensures .0) (c .before .before .before .before .before .is-same .ensures) (few .0) in (
       omega arith,
-      omega (arith, before-more (now (s .args .tracks)) (l .i), l .inv .1, c .before .before .before .before .before .before .before .wide .ensures .0),
-      c .before .before .write-here .kept .1 .1 .1 .0 ∙ l .inv .2,
-      lines-more _ (l .i) (l .inv .3) (same-entries e (c .before .before .write-here .ensures)) (omega (arith, c .before .before .before .before .before .before .before .wide .ensures .1)),
+      omega (arith, before-more (now (s .args .tracks)) (l .i), l .inv .1, c .before .before .before .before .before .before .before .before .wide .ensures .0),
+      c .before .before .write-findings .kept .1 .1 .0 ∙ l .inv .2,
+      lines-more _ (l .i) (l .inv .3) (same-entries e (c .before .before .write-findings .ensures)) (omega (arith, c .before .before .before .before .before .before .before .before .wide .ensures .1, few .1)),
     )
 
 same-length : tie.Need-same-length Inv-loop μ-loop
@@ -129,7 +134,8 @@ write-track-spec =
     mul-is-same-4
     shared-slice-read-is-same-2
     is-same-requires
-    write-here-requires
+    count-if-requires
+    write-findings-requires
     add-start
     add-i
     loop-less
