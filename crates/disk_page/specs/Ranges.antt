@@ -1,4 +1,4 @@
--- Section 16 of the specification, rules 16.10 to 16.12 and 16.16: which tracks of a disk have TNF, and the ranges that they make. H is a side
+-- Section 16 of the specification, rules 16.10, 16.11 and 16.16: which tracks of a disk have TNF, and the ranges that they make. H is a side
 -- and T a track. Assumes nothing.
 use Prim.Native.Nat.{ℕ, zero, suc, _+_, _-_}
 use mathlib.Core.Bool.{Bool, true, false, not, _&&_}
