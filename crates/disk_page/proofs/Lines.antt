@@ -15,7 +15,7 @@ use Rattle.disk_page.specs.PrivateContracts.{far}
 use Rattle.disk_page.specs.Ranges.{goesOn, lastOf, isSingleSided}
 use Rattle.disk_page.specs.Page.{Entry, entry, entryOf, sideEntries, pageEntries, lineOf, entryLines, pageOf}
 
-lines-append : (es fs : List Entry) → entryLines (es ++ fs) ≡ entryLines es ++ entryLines fs
+pub lines-append : (es fs : List Entry) → entryLines (es ++ fs) ≡ entryLines es ++ entryLines fs
 unfolding entryLines
 lines-append [] fs = refl
 lines-append (e ∷ es) fs = rw (lines-append es fs, append-assoc)

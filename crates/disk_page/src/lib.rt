@@ -13,6 +13,7 @@ ghost use Rattle.lines.specs.Writing.{Wrote};
 ghost use Rattle.refusals.specs.RefusedCalls.{countedAnswer};
 ghost use Rattle.disk_page.specs.Ranges.{hasTnf, goesOn, lastOf, isEmpty, isSingleSided};
 ghost use Rattle.disk_page.specs.Page.{entry, entryOf, lineOf, entryLines, trackEntries, sideEntries, pageOf, pageAnswer, pageAfter};
+ghost use Rattle.disk_page.specs.Parts.{partOf, partAnswer, partAfter};
 ghost use Rattle.disk_page.specs.PrivateContracts.{Whole, far};
 
 // The page of the tracks, three numbers each (track, side, how many findings), and of their findings in the same order, four numbers each
@@ -25,6 +26,19 @@ pub fn disk_page(tracks: &[u32], findings: &[u32], out: &mut [u8]) -> Counted
     match judged {
         Counted::Refused(refusal) => Counted::Refused(refusal),
         Counted::Count(_) => Counted::Count(write_page(tracks, findings, out)),
+    }
+}
+
+// One part of the page, for those who have no room for all of it: 84 * H + T is the number of the part that has the lines of track T of side H, and
+// 168 that of the part with the last line. The parts 0 to 168, one after the other, are the page.
+pub fn page_part(tracks: &[u32], findings: &[u32], part: usize, out: &mut [u8]) -> Counted
+    ensures answer { λ r. ⌜ countedAnswer r ≡ partAnswer (now (tracks .entry)) (now (findings .entry)) part ⌝ }
+    ensures out { λ _. ⌜ now (out .exit) ≡ partAfter (now (tracks .entry)) (now (findings .entry)) part (now (out .entry)) ⌝ }
+{
+    let judged = disk_tracks::judge_tracks(tracks, findings);
+    match judged {
+        Counted::Refused(refusal) => Counted::Refused(refusal),
+        Counted::Count(_) => Counted::Count(write_part(tracks, findings, part, out)),
     }
 }
 
@@ -42,6 +56,25 @@ fn write_page(tracks: &[u32], findings: &[u32], out: &mut [u8]) -> usize
         return write_word(out, next, b"single-sided\n");
     }
     next
+}
+
+// A part of it.
+fn write_part(tracks: &[u32], findings: &[u32], part: usize, out: &mut [u8]) -> usize
+    requires { ⌜ Whole (now tracks) (now findings) ⌝ }
+    ensures { λ r. ⌜ Wrote (now (out .entry)) 0 (partOf (now (tracks .entry)) (now (findings .entry)) part) far (now (out .exit)) r ⌝ }
+{
+    if part < 168 {
+        let side = (part / 84) as u32;
+        let track = (part % 84) as u32;
+        return write_track(tracks, findings, out, 0, side, track);
+    }
+    if part > 168 {
+        return 0;
+    }
+    if is_single_sided(tracks, findings) {
+        return write_word(out, 0, b"single-sided\n");
+    }
+    0
 }
 
 // The lines of a side, track after track.
