@@ -10,9 +10,6 @@ pub const MOST_TRACKS: usize = 168;
 /// The longest line of a page: a kind of two digits on one track, and the greatest place and detail.
 const LONGEST_LINE: &str = "T83 H1 20 MTV level 3 place 4294967295 detail 4294967295\n";
 
-/// What the page of a single-sided disk ends with.
-const LAST_LINE: &str = "single-sided\n";
-
 /// The page of a disk: the findings of its tracks, sorted by side, then track, then kind, then place (rules 16.10 to 16.16). The
 /// tracks come in any order, each as its track, its side and its findings, which [`Track::findings`](crate::Track::findings) gives.
 ///
@@ -23,7 +20,7 @@ const LAST_LINE: &str = "single-sided\n";
 /// Refuses [`TooManyTracks`](Refusal::TooManyTracks), [`TrackOrSide`](Refusal::TrackOrSide), [`TrackGivenTwice`](Refusal::TrackGivenTwice), and
 /// [`NotTheirFindings`](Refusal::NotTheirFindings) where a track cannot have its findings: they are not strictly in order by kind and place, one
 /// is [`Fzd`](crate::Kind::Fzd), or one is [`Tnf`](crate::Kind::Tnf) above track 79 or with another place or detail than 0. Findings that the
-/// library gave for a track are never refused (rule 16.20).
+/// library gave for the same track and side are never refused so (rule 16.20).
 ///
 /// ```
 /// use thikbromu::{disk_page, Track};
@@ -50,8 +47,8 @@ pub fn disk_page<F: AsRef<[Finding]>>(tracks: &[(u32, u32, F)]) -> Result<String
         track_numbers.extend([*track, *side, u32::try_from(findings.len()).unwrap_or(u32::MAX)]);
         finding_numbers.extend(findings.iter().flat_map(numbers_of));
     }
-    let most = LONGEST_LINE.len() * (finding_numbers.len() / FINDING_NUMBERS) + LAST_LINE.len();
-    let mut page = vec![0; most];
+    // A last line for a single-sided disk has room too, as 80 findings share a line there.
+    let mut page = vec![0; LONGEST_LINE.len() * (finding_numbers.len() / FINDING_NUMBERS)];
     let length = boundary::disk_page(&track_numbers, &finding_numbers, &mut page)?;
     page.truncate(length);
     Ok(String::from_utf8(page).expect("a page is ASCII"))
@@ -71,6 +68,11 @@ mod tests {
     fn the_longest_line() {
         let longest = Finding { kind: Kind::Mtv, place: u32::MAX, detail: u32::MAX };
         assert_eq!(disk_page(&[(83, 1, [longest])]), Ok(LONGEST_LINE.to_string()));
+        // A page of nothing else.
+        let many: Vec<Finding> = (0..99).map(|before| Finding { place: u32::MAX - 98 + before, ..longest }).collect();
+        let page: String = many.iter().map(|finding| format!("T83 H1 {finding}\n")).collect();
+        assert_eq!(page.len(), 99 * LONGEST_LINE.len());
+        assert_eq!(disk_page(&[(83, 1, many)]), Ok(page));
         // No level has two digits, and no kind has four letters.
         for kind in Kind::ALL {
             assert!(kind.level() <= 9 && kind.name().len() == 3);
@@ -81,7 +83,7 @@ mod tests {
     fn pages_that_leave_room() {
         let tnf = Finding { kind: Kind::Tnf, place: 0, detail: 0 };
         let empty_side: Vec<(u32, u32, [Finding; 1])> = (0..80).map(|track| (track, 1, [tnf])).collect();
-        assert_eq!(disk_page(&empty_side), Ok(format!("T00-79 H1 {tnf}\n{LAST_LINE}")));
+        assert_eq!(disk_page(&empty_side), Ok(format!("T00-79 H1 {tnf}\nsingle-sided\n")));
         assert_eq!(disk_page::<&[Finding]>(&[]), Ok(String::new()));
     }
 }
