@@ -56,7 +56,7 @@ module _ (tracks after : List ℕ) (at : ℕ) (findings later : List ℕ) (from 
         let k = count-is cells N T H e in
         let all : numbers ≡ writtenOver (numbersOf fs) array = n ∙ rw (long, e) in
         let front : take (4 * count) numbers ≡ numbersOf fs =
-            rw (all, k) (take-at (numbersOf fs) (drop (length (numbersOf fs)) array) (4 * length fs) (length-numbers fs)) in
+        rw (all, k) (take-at (numbersOf fs) (drop (length (numbersOf fs)) array) (4 * length fs) (length-numbers fs)) in
         rw e (ap gives k, (a ∙ ap (λ (n : ℕ). sets tracks at (T ∷ H ∷ n ∷ [])) k, l ∙ ap (sets findings from) front))
 
   -- a file
@@ -107,4 +107,3 @@ few-numbers room file = go (fileAnswerIn room file)
     go : (x : Answer Content) → length (findingNumbers (fileTrack x (fileBuffer room file))) ≤ 3604
     go (gives content) = few-found (fileBuffer room file) (content .cells) (content .track) (content .side)
     go (refused number value) = refusal-none number value
-

@@ -73,5 +73,5 @@ module _ (tracks findings : List ℕ) where
       let first : joined part 84 ≡ entryLines (sideEntries tracks findings 0) = joined-lines part (trackEntries tracks findings 0) 84 (λ k h. of-side 0 k k (omega arith) (omega arith) h) in
       let second : joined (λ k. part (84 + k)) 84 ≡ entryLines (sideEntries tracks findings 1) = joined-lines (λ k. part (84 + k)) (trackEntries tracks findings 1) 84 (λ k h. of-side 1 k (84 + k) (omega arith) (omega arith) h) in
       let tracksOf : joined part 168 ≡ entryLines (pageEntries tracks findings) =
-          joined-further part 84 84 ∙ rw (first, second) (sym (lines-append (sideEntries tracks findings 0) (sideEntries tracks findings 1))) in
+      joined-further part 84 84 ∙ rw (first, second) (sym (lines-append (sideEntries tracks findings 0) (sideEntries tracks findings 1))) in
       ap (λ (l : List ℕ). l ++ part 168) tracksOf
