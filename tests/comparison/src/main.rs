@@ -12,6 +12,7 @@ mod blocks;
 mod coding;
 mod densities;
 mod disk_page;
+mod disk_program;
 mod files;
 mod findings;
 mod flux;
@@ -34,7 +35,7 @@ use std::thread;
 type Part = fn(&mut Report);
 
 /// The parts, by their modules. The long ones come first, so that no worker is left alone with one at the end.
-const PARTS: [(&str, Part); 62] = [
+const PARTS: [(&str, Part); 64] = [
     ("files", files::in_memory),
     ("findings", findings::any_tracks),
     ("sectors", sectors::standard),
@@ -53,6 +54,8 @@ const PARTS: [(&str, Part); 62] = [
     ("findings", findings::size_codes),
     ("sectors", sectors::size_codes),
     ("program", program::portions),
+    ("disk_program", disk_program::few_files),
+    ("disk_program", disk_program::many_files),
     ("image_program", image_program::whole_files),
     ("image_program", image_program::portions),
     ("image_program", image_program::failing_inputs),

@@ -104,6 +104,7 @@ pub const LAWS: &[Law] = &[
         &["equal-reads", "no-finding-means-equal"],
     ),
     ("15.1", "sector_image/proofs/Laws", &["part-read-out"]),
+    ("16.25", "disk_page/proofs/Parts", &["parts-are-page"]),
 ];
 
 /// A rule that no function promises, or, where it is only run, that no test names; and why.
