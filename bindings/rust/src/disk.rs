@@ -10,7 +10,7 @@ pub const MOST_TRACKS: usize = 168;
 /// The longest line of a page: a kind of two digits on one track, and the greatest place and detail.
 const LONGEST_LINE: &str = "T83 H1 20 MTV level 3 place 4294967295 detail 4294967295\n";
 
-/// The page of a disk: the findings of its tracks, sorted by side, then track, then kind, then place (rules 16.10 to 16.16). The
+/// The page of a disk: the findings of its tracks, in the order of side, track, kind and place (rules 16.10 to 16.16). The
 /// tracks come in any order, each as its track, its side and its findings, which [`Track::findings`](crate::Track::findings) gives.
 ///
 /// A line has the track, the side and a finding. Tracks of a side that follow each other and have [`Tnf`](crate::Kind::Tnf) share the line of the

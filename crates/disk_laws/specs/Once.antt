@@ -1,4 +1,4 @@
--- Section 16 of the specification, rule 16.19: each finding given stands on the page exactly once, a range standing for the TNF of each of its
+-- Section 16 of the specification, rule 16.19: the page has each finding that is given just once, a range standing for the TNF of each of its
 -- tracks. The main property is `EachOnce`, proved in proofs/Once for all tracks and findings that are accepted. Assumes nothing.
 use Prim.Native.Nat.{ℕ, _+_, _≤_}
 use mathlib.Core.Path.{_≡_}

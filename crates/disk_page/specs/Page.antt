@@ -86,7 +86,7 @@ abbrev pub giving : Answer ℕ → ℕ → Answer ℕ
 giving (gives findings) count = gives count
 giving (refused number value) count = refused number value
 
--- 16.17: what the call answers: the length of the whole page, or the refusal
+-- 9.62, 16.17: what the call answers: the length of the whole page, or the refusal
 unfoldable pub pageAnswer : (tracks findings : List ℕ) → Answer ℕ
 pageAnswer tracks findings = giving (judged tracks findings) (length (pageOf tracks findings))
 

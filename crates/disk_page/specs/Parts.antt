@@ -12,7 +12,7 @@ use Rattle.refusals.specs.RefusedCalls.{Answer, bufferAfter}
 use Rattle.disk_page.specs.Ranges.{isSingleSided}
 use Rattle.disk_page.specs.Page.{trackEntries, entryLines, giving}
 
--- 16.23: the parts of the page, by their numbers: 0 to 83 have the lines of these tracks of side 0, 84 to 167 those of the tracks of side 1, and 168
+-- 16.23, 16.25: the parts of the page, by their numbers: 0 to 83 have the lines of these tracks of side 0, 84 to 167 those of the tracks of side 1, and 168
 -- has the last line, where it stands. A part with another number is empty
 unfoldable pub partOf : (tracks findings : List ℕ) → ℕ → List ℕ
 partOf tracks findings k =

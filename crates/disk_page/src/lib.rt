@@ -228,7 +228,7 @@ fn last_of(tracks: &[u32], findings: &[u32], side: u32, track: u32) -> u32
     last
 }
 
-// Whether exactly one side has TNF on all of its tracks.
+// Whether just one side has TNF on each of its tracks.
 fn is_single_sided(tracks: &[u32], findings: &[u32]) -> bool
     requires { ⌜ Whole (now tracks) (now findings) ⌝ }
     ensures { λ r. ⌜ r ≡ isSingleSided (now (tracks .entry)) (now (findings .entry)) ⌝ }

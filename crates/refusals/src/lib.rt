@@ -46,7 +46,7 @@ pub enum Refusal {
     TrackGivenTwice,
     // 22: more than 168 tracks.
     TooManyTracks,
-    // 24: the track has no plain image: the least of the numbers 1 to 9 that stands in the way, or 0.
+    // 24: the track has no plain image: the first number from 1 to 9 that stands in the way, or 0.
     NoPlainImage(usize),
     // 25: what is given is no list of the tracks' findings.
     NotTheirFindings,

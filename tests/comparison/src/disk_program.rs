@@ -162,7 +162,7 @@ pub fn many_files(report: &mut Report) {
         let mut files = folder.with(files.into_iter().map(Some).collect());
         same_page(&mut group, &mut random, &mut files, name);
     }
-    // Rule 13.48, and rule 13.47: a standard output that takes nothing.
+    // By rule 13.48 no names, and by rule 13.47 a standard output that takes nothing.
     let usage = left(&[]);
     group.same(usage, (Vec::new(), "usage: disk_listing FILE..\n".to_string(), true), || "no files".to_string());
     let full_disk = Stdio::from(fs::OpenOptions::new().write(true).open("/dev/full").expect("a full disk"));

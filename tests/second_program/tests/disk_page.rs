@@ -94,7 +94,7 @@ fn numbers_may_be_any() {
 }
 
 #[test]
-fn by_side_then_track_then_kind_then_place() {
+fn sides_before_tracks_before_kinds_before_places() {
     let mut disk: Vec<Given> = vec![
         (10, 0, vec![[1, 1, 0, 1]]),
         (9, 1, vec![[2, 1, 0, 2]]),
