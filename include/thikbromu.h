@@ -346,8 +346,8 @@ size_t thikbromu_listing(const uint8_t *bytes, size_t length, size_t n, uint32_t
  */
 
 /* The page (rules 9.62 and 16.10 to 16.18) at the front of `out`, or as much of it as there is room for; what is behind it keeps its contents.
- * Gives the length of the whole. A line has the track, the side and a finding, as in `T05 H0 3 NOS level 3 place 0 detail 0`. Their order is
- * that of side, track, kind and place. Tracks of a side that follow each other and have TNF share the TNF line of the first, as in
+ * Gives the length of the whole. A line has the track, the side and a finding, as in `T05 H0 3 NOS level 3 place 0 detail 0`. The lines stand
+ * in the order of side, track, kind and place. Tracks of a side that follow each other and have TNF share the TNF line of the first, as in
  * `T74-79 H0 4 TNF level 2 place 0 detail 0`. Where just one of the sides has TNF on all of the tracks 0 to 79, the last line is `single-sided`. No
  * tracks give an empty page.
  *

@@ -1,4 +1,4 @@
--- Each finding given stands on the page exactly once. Assumes nothing.
+-- The page has each finding that is given just once. Assumes nothing.
 use Prim.Native.Nat.{ℕ, zero, suc, _+_, _<_, _≤_}
 use mathlib.Core.Path.{_≡_, refl, sym, ap, _∙_}
 use mathlib.Core.Bool.{true, false}
