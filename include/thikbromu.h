@@ -51,6 +51,8 @@ extern "C" {
 #define THIKBROMU_LONGEST_READ 1026 /* the longest sector with its check bytes */
 #define THIKBROMU_SECTOR_IMAGE_BYTES 4608 /* nine sectors of 512 bytes */
 #define THIKBROMU_PLACE_NUMBERS 2 /* the track and the side */
+#define THIKBROMU_DISK_TRACK_NUMBERS 3 /* the track, the side and how many findings */
+#define THIKBROMU_MOST_TRACKS 168 /* tracks 0 to 83 of two sides */
 #define THIKBROMU_LONGEST_LISTING 65536
 #define THIKBROMU_LONGEST_FILE 278542 /* both sections at their longest; a longer file is answered as its first 278,543 bytes are */
 
@@ -75,7 +77,10 @@ enum thikbromu_refusal {
     THIKBROMU_REFUSED_NO_SUCH_REVOLUTION = 17,  /* the block has no such revolution; 0 */
     THIKBROMU_REFUSED_LENGTHS_DIFFER = 18,      /* two reads of a sector differ in length; 0 */
     THIKBROMU_REFUSED_NOT_A_SECTOR_LENGTH = 19, /* the reads have not 130, 258, 514 or 1,026 bytes; 0 */
-    THIKBROMU_REFUSED_NO_PLAIN_IMAGE = 24       /* the track has no plain image; the first number from 1 to 9 in the way, or 0 (rule 15.4) */
+    THIKBROMU_REFUSED_TRACK_GIVEN_TWICE = 21,   /* a disk has the same track and side twice; 0 */
+    THIKBROMU_REFUSED_TOO_MANY_TRACKS = 22,     /* a disk of more than 168 tracks; 0 */
+    THIKBROMU_REFUSED_NO_PLAIN_IMAGE = 24,      /* the track has no plain image; the first number from 1 to 9 in the way, or 0 (rule 15.4) */
+    THIKBROMU_REFUSED_NOT_THEIR_FINDINGS = 25   /* the numbers are no findings of the tracks (rules 16.6 to 16.8); 0 */
 };
 
 /* The kinds of findings by their numbers, with their levels: rule 7.K is that of kind K, up to 21. T is the track of the drive, N how many
@@ -331,6 +336,27 @@ size_t thikbromu_file_listing(const uint8_t *file, size_t length, uint8_t *out, 
 
 /* The listing of a track (rules 9.12 and 11.1 to 11.7), in the same way. */
 size_t thikbromu_listing(const uint8_t *bytes, size_t length, size_t n, uint32_t track, uint32_t side, uint8_t *out, size_t out_room);
+
+/*
+ * The page of a disk (section 16 of the specification): the findings of up to 168 tracks in one text.
+ *
+ * `tracks` has three numbers for each track, in any order: the track, the side, and how many findings it has. `findings` has four for each
+ * finding, as thikbromu_findings and thikbromu_fm_findings write them: those of the first track, then those of the second, and so on. Both
+ * lengths count numbers.
+ */
+
+/* The page (rules 9.62 and 16.10 to 16.18) at the front of `out`, or as much of it as there is room for; what is behind it keeps its contents.
+ * Gives the length of the whole. A line has the track, the side and a finding, as in `T05 H0 3 NOS level 3 place 0 detail 0`. The lines stand
+ * in the order of side, track, kind and place. Tracks of a side that follow each other and have TNF share the TNF line of the first, as in
+ * `T74-79 H0 4 TNF level 2 place 0 detail 0`. Where just one of the sides has TNF on all of the tracks 0 to 79, the last line is `single-sided`. No
+ * tracks give an empty page.
+ *
+ * Refuses 22 where there are more than 168 tracks; 1; 21 where a track and side stands twice; 25 where the length of `tracks` is no multiple of
+ * three, that of `findings` none of four, the counts do not add up to the number of findings, or a track has findings that it cannot have: not
+ * strictly in order by kind and place, of a kind that is none of 1 to 21, or TNF above track 79 or with other numbers than level 2, place 0
+ * and detail 0. Levels of other kinds are not judged. */
+uint32_t thikbromu_disk_page(const uint32_t *tracks, size_t track_numbers, const uint32_t *findings, size_t finding_numbers, uint8_t *out,
+                             size_t out_room, size_t *value);
 
 #ifdef __cplusplus
 }

@@ -13,6 +13,7 @@ mod revolution;
 mod search;
 
 use second_program::check_word;
+use second_program::disk_page;
 use second_program::findings;
 use second_program::listing::listing;
 use second_program::separator::{self, SeparatorState};
@@ -27,6 +28,7 @@ use std::path::Path;
 use std::process::{Command, Stdio};
 use std::time::Instant;
 use test_inputs::block_inputs::standard_track_block;
+use test_inputs::disk_inputs::{full_disks, DiskInput, TRACK_NOT_FOUND};
 use test_inputs::file_inputs::{file_of_cells, file_of_timings};
 use test_inputs::flux_inputs::{flux_track, timings_of_cells, Choice};
 use test_inputs::random::Random;
@@ -309,6 +311,37 @@ fn tracks_of_single_density() {
     );
 }
 
+/// The page of a disk, into a lent buffer that has room for all of it.
+fn page(what: &str, disk: &DiskInput) {
+    let (tracks, findings) = (&disk.tracks[..], &disk.findings[..]);
+    let expected = disk_page::disk_page(tracks, findings).expect("a disk that is not refused");
+    let (mut out, mut plain_out) = (vec![0; expected.len()], vec![0; expected.len()]);
+    // What is measured beside the library writes the same.
+    assert_eq!(boundary::disk_page(tracks, findings, &mut out), Ok(expected.len()));
+    assert_eq!(out, expected);
+    row(
+        what,
+        (21, 10),
+        Some((1, "pages")),
+        || boundary::disk_page(black_box(tracks), black_box(findings), &mut out),
+        || disk_page::write_disk_page(black_box(tracks), black_box(findings), &mut plain_out),
+    );
+}
+
+/// Whole disks: every track with many findings, and no track with sectors.
+fn pages() {
+    let disks = full_disks(&mut Random::new(8));
+    let many = disks.iter().find(|disk| disk.name == "40 findings a track").expect("a disk with 40 findings a track");
+    assert_eq!((many.tracks.len(), many.findings.len()), (168 * 3, 168 * 40 * FINDING_NUMBERS));
+    page("disk page, 168 tracks with 40 findings each", many);
+    let blank = DiskInput {
+        name: String::from("no sectors"),
+        tracks: (0..160).flat_map(|place| [place / 2, place % 2, 1]).collect(),
+        findings: TRACK_NOT_FOUND.repeat(160),
+    };
+    page("disk page, TNF on all of 160 tracks", &blank);
+}
+
 /// The cells and the listing of a whole file that is in memory, without a process of its own.
 fn file_in_memory(name: &str, file: &[u8]) {
     let mut packed = [0; MOST_CELL_BYTES];
@@ -421,6 +454,7 @@ fn main() {
     let any: Vec<u8> = (0..12_500).map(|_| random.byte()).collect();
     listing_sectors("random cells", &any, 100_000);
     tracks_of_single_density();
+    pages();
     whole_files();
     whole_block();
 }

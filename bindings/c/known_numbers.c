@@ -1,6 +1,7 @@
 /*
  * The numbers that docs/SPECIFICATION.md gives to know (rules 1.17, 2.4, 3.13, 3.14, 6.19, 11.10 and 14.10), a small track block, the plain image
- * of a track, and a track of single density, through include/thikbromu.h: every routine is called, and every refusal is given.
+ * of a track, the page of a disk, and a track of single density, through include/thikbromu.h: every routine is called, and every refusal is
+ * given.
  * The argument is samples/standard.track. It compiles as C99 and as C++.
  */
 #include "thikbromu.h"
@@ -783,6 +784,146 @@ static void test_listings(const uint8_t *file, size_t length)
     EXPECT(memcmp(out, refused, sizeof refused - 1) == 0);
 }
 
+/* The page of a disk, in so much room. */
+static uint8_t page[8192];
+
+static uint32_t page_of(const uint32_t *tracks, size_t track_count, const uint32_t *findings, size_t finding_count, size_t page_room)
+{
+    return thikbromu_disk_page(tracks, THIKBROMU_DISK_TRACK_NUMBERS * track_count, findings, THIKBROMU_FINDING_NUMBERS * finding_count, page,
+                               page_room, &value);
+}
+
+/* Whether the page has this text at its front and is as it was behind it. */
+static int page_is(const char *text)
+{
+    size_t length = strlen(text);
+    for (size_t place = length; place < sizeof page; place++) {
+        if (page[place] != 77) {
+            return 0;
+        }
+    }
+    return memcmp(page, text, length) == 0;
+}
+
+/* The page is this text, in a room that it fills and in others, of which it takes the front. */
+static void test_page(const uint32_t *tracks, size_t track_count, const uint32_t *findings, size_t finding_count, const char *text)
+{
+    size_t length = strlen(text);
+    char front[sizeof page] = "";
+    const size_t rooms[5] = {length, length + 1, 0, length / 2, length == 0 ? 0 : length - 1};
+    for (size_t index = 0; index < 5; index++) {
+        size_t written = rooms[index] < length ? rooms[index] : length;
+        memcpy(front, text, written);
+        front[written] = 0;
+        memset(page, 77, sizeof page);
+        GIVES(page_of(tracks, track_count, findings, finding_count, rooms[index]), length);
+        EXPECT(page_is(front));
+    }
+}
+
+/* Three tracks, of which the first two have one finding each. */
+static void test_refused_page(uint32_t first, uint32_t second, uint32_t third, uint32_t side, uint32_t number)
+{
+    const uint32_t tracks[9] = {first, 0, 1, second, side, 1, third, 1, 0};
+    const uint32_t findings[8] = {THIKBROMU_KIND_MTV, 3, 5, 6, THIKBROMU_KIND_NFA, 1, 7, 8};
+    memset(page, 77, sizeof page);
+    EXPECT((value = 77, page_of(tracks, 3, findings, 2, sizeof page) == number && value == 0));
+    EXPECT(page_is(""));
+}
+
+static void test_refused_findings(uint32_t track, const uint32_t *findings, size_t finding_count)
+{
+    const uint32_t tracks[3] = {track, 1, (uint32_t)finding_count};
+    memset(page, 77, sizeof page);
+    REFUSES(page_of(tracks, 1, findings, finding_count, sizeof page), NOT_THEIR_FINDINGS, 0);
+    EXPECT(page_is(""));
+}
+
+static void test_disk_page(void)
+{
+    /* Both sides, given in a mixed order; tracks 5 to 7 of side 1 have TNF, track 9 too, and track 8 is not given. */
+    const uint32_t tracks[] = {7, 1, 1, 9, 1, 1, 5, 0, 1, 6, 1, 2, 83, 0, 2, 5, 1, 2, 4, 1, 0};
+    const uint32_t findings[] = {4, 2, 0, 0, 4, 2, 0, 0, 3, 3, 0, 12, 3, 3, 0, 0, 4, 2, 0, 0,
+                                 20, 4294967295u, 4294967295u, 10, 21, 1, 0, 1000, 4, 2, 0, 0, 5, 9, 8, 7};
+    test_page(tracks, 7, findings, 9,
+              "T05 H0 3 NOS level 3 place 0 detail 12\n"
+              "T83 H0 20 MTV level 4294967295 place 4294967295 detail 10\n"
+              "T83 H0 21 NFA level 1 place 0 detail 1000\n"
+              "T05-07 H1 4 TNF level 2 place 0 detail 0\n"
+              "T05 H1 5 EXT level 9 place 8 detail 7\n"
+              "T06 H1 3 NOS level 3 place 0 detail 0\n"
+              "T09 H1 4 TNF level 2 place 0 detail 0\n");
+    test_page(tracks, 0, findings, 0, "");
+    const uint32_t without_findings[3] = {83, 1, 0};
+    test_page(without_findings, 1, findings, 0, "");
+
+    /* All tracks of both sides, from the last to the first; 0 to 79 of side 0 have TNF, then all of both sides. */
+    static uint32_t disk[THIKBROMU_DISK_TRACK_NUMBERS * (THIKBROMU_MOST_TRACKS + 1)];
+    static uint32_t tnf[THIKBROMU_FINDING_NUMBERS * THIKBROMU_MOST_TRACKS];
+    for (uint32_t index = 0; index < THIKBROMU_MOST_TRACKS; index++) {
+        uint32_t track = 83 - index / 2;
+        disk[3 * index] = track;
+        disk[3 * index + 1] = index % 2;
+        disk[3 * index + 2] = track < 80 && index % 2 == 0;
+        tnf[4 * index] = THIKBROMU_KIND_TNF;
+        tnf[4 * index + 1] = 2;
+    }
+    test_page(disk, THIKBROMU_MOST_TRACKS, tnf, 80, "T00-79 H0 4 TNF level 2 place 0 detail 0\nsingle-sided\n");
+    /* Track 40 of side 1 has it also, then track 40 of side 0 has it no longer. */
+    disk[3 * 87 + 2] = 1;
+    test_page(disk, THIKBROMU_MOST_TRACKS, tnf, 81,
+              "T00-79 H0 4 TNF level 2 place 0 detail 0\nT40 H1 4 TNF level 2 place 0 detail 0\nsingle-sided\n");
+    disk[3 * 86 + 2] = 0;
+    test_page(disk, THIKBROMU_MOST_TRACKS, tnf, 80,
+              "T00-39 H0 4 TNF level 2 place 0 detail 0\nT41-79 H0 4 TNF level 2 place 0 detail 0\n"
+              "T40 H1 4 TNF level 2 place 0 detail 0\n");
+    for (uint32_t index = 0; index < THIKBROMU_MOST_TRACKS; index++) {
+        disk[3 * index + 2] = disk[3 * index] < 80;
+    }
+    test_page(disk, THIKBROMU_MOST_TRACKS, tnf, 160, "T00-79 H0 4 TNF level 2 place 0 detail 0\nT00-79 H1 4 TNF level 2 place 0 detail 0\n");
+
+    /* 22, then 1, then 21, then 25; the lists are as they were. */
+    memset(page, 77, sizeof page);
+    REFUSES(page_of(disk, THIKBROMU_MOST_TRACKS + 1, tnf, 160, sizeof page), TOO_MANY_TRACKS, 0);
+    disk[0] = 84;
+    REFUSES(page_of(disk, THIKBROMU_MOST_TRACKS + 1, tnf, 0, sizeof page), TOO_MANY_TRACKS, 0);
+    REFUSES(page_of(disk, THIKBROMU_MOST_TRACKS, tnf, 0, sizeof page), TRACK_OR_SIDE, 0);
+    disk[0] = 82;
+    REFUSES(page_of(disk, THIKBROMU_MOST_TRACKS, tnf, 0, sizeof page), TRACK_GIVEN_TWICE, 0);
+    disk[0] = 83;
+    REFUSES(page_of(disk, THIKBROMU_MOST_TRACKS, tnf, 159, sizeof page), NOT_THEIR_FINDINGS, 0);
+    EXPECT(page_is(""));
+    test_refused_page(84, 3, 3, 1, THIKBROMU_REFUSED_TRACK_OR_SIDE);
+    test_refused_page(3, 3, 3, 2, THIKBROMU_REFUSED_TRACK_OR_SIDE);
+    test_refused_page(2, 3, 3, 1, THIKBROMU_REFUSED_TRACK_GIVEN_TWICE);
+    test_refused_page(3, 3, 83, 0, THIKBROMU_REFUSED_TRACK_GIVEN_TWICE);
+
+    /* Findings that a track cannot have: track 80 without sectors; the kinds 0 and 22; TNF with other numbers; not in order, or one twice. */
+    test_refused_findings(80, tnf, 1);
+    const uint32_t kinds[8] = {0, 1, 0, 0, 22, 1, 0, 0};
+    test_refused_findings(0, kinds, 1);
+    test_refused_findings(0, kinds + 4, 1);
+    for (size_t place = 1; place < 4; place++) {
+        uint32_t other[4] = {THIKBROMU_KIND_TNF, 2, 0, 0};
+        other[place] = 1;
+        test_refused_findings(79, other, 1);
+    }
+    const uint32_t pairs[] = {3, 3, 0, 0, 2, 1, 0, 0, 6, 1, 9, 0, 6, 1, 8, 0, 7, 1, 5, 1, 7, 1, 5, 2};
+    for (size_t pair = 0; pair < 3; pair++) {
+        test_refused_findings(0, pairs + 8 * pair, 2);
+    }
+    /* Numbers that are no whole track or finding, and counts whose sum is 2^32 more than the findings. */
+    memset(page, 77, sizeof page);
+    for (size_t rest = 1; rest < 4; rest++) {
+        REFUSES(thikbromu_disk_page(without_findings, rest % 3, findings, rest, page, sizeof page, &value), NOT_THEIR_FINDINGS, 0);
+    }
+    REFUSES(thikbromu_disk_page(disk, 4, tnf, 4, page, sizeof page, &value), NOT_THEIR_FINDINGS, 0);
+    REFUSES(thikbromu_disk_page(disk, 3 * 168 + 1, tnf, 4 * 160, page, sizeof page, &value), NOT_THEIR_FINDINGS, 0);
+    const uint32_t too_many[6] = {0, 0, 2147483649u, 1, 0, 2147483648u};
+    REFUSES(page_of(too_many, 2, tnf, 1, sizeof page), NOT_THEIR_FINDINGS, 0);
+    EXPECT(page_is(""));
+}
+
 int main(int count, char **arguments)
 {
     static uint8_t file[BEFORE_CELLS + TRACK_BYTES + 4];
@@ -810,6 +951,7 @@ int main(int count, char **arguments)
     test_single_findings();
     test_file_cells(file, sizeof file);
     test_listings(file, sizeof file);
+    test_disk_page();
     printf("%d passed, %d failed\n", passed, failed);
     return failed == 0 ? 0 : 1;
 }

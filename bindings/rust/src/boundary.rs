@@ -49,6 +49,9 @@ pub const SECTOR_IMAGE_BYTES: usize = 4_608;
 /// The numbers of a place: the track and the side.
 pub const PLACE_NUMBERS: usize = 2;
 
+/// The numbers of a track of a disk: the track, the side and how many findings it has.
+pub const DISK_TRACK_NUMBERS: usize = 3;
+
 /// A finding as the library lays it out for C.
 #[repr(C)]
 #[derive(Clone, Copy, Debug, Default, PartialEq, Eq)]
@@ -269,6 +272,15 @@ extern "C" {
         out: *mut u8,
         out_room: usize,
     ) -> usize;
+    fn thikbromu_disk_page(
+        tracks: *const u32,
+        track_numbers: usize,
+        findings: *const u32,
+        finding_numbers: usize,
+        out: *mut u8,
+        out_room: usize,
+        value: *mut usize,
+    ) -> u32;
 }
 
 /// What a call answers that returns a refusal's number, or 0, and stores a value.
@@ -792,4 +804,28 @@ pub fn file_listing(file: &[u8], out: &mut [u8]) -> usize {
 pub fn listing(packed: &[u8], cells: usize, track: u32, side: u32, out: &mut [u8]) -> usize {
     // SAFETY: each address and length are those of one slice; `out` is lent to this call alone.
     unsafe { thikbromu_listing(packed.as_ptr(), packed.len(), cells, track, side, out.as_mut_ptr(), out.len()) }
+}
+
+/// The page of a disk (rules 9.62 and 16.1 to 16.18) at the front of `out`, or as much of it as there is room for. Gives the length of the whole.
+/// [`disk_page`](crate::disk_page) says what stands on it.
+///
+/// `tracks` has three numbers for each track, in any order: the track, the side, and how many findings it has. `findings` has four for each
+/// finding, as [`findings`] writes them: those of the first track, then those of the second, and so on.
+///
+/// Refuses [`TooManyTracks`](Refusal::TooManyTracks), [`TrackOrSide`](Refusal::TrackOrSide), [`TrackGivenTwice`](Refusal::TrackGivenTwice),
+/// [`NotTheirFindings`](Refusal::NotTheirFindings), the last also where the numbers are no whole tracks or no whole findings (rule 16.6).
+#[inline]
+pub fn disk_page(tracks: &[u32], findings: &[u32], out: &mut [u8]) -> Result<usize, Refusal> {
+    // SAFETY: each address and length are those of one slice; `out` and `value` are lent to this call alone.
+    answer(|value| unsafe {
+        thikbromu_disk_page(
+            tracks.as_ptr(),
+            tracks.len(),
+            findings.as_ptr(),
+            findings.len(),
+            out.as_mut_ptr(),
+            out.len(),
+            value,
+        )
+    })
 }

@@ -29,6 +29,7 @@
 pub mod boundary;
 mod coding;
 mod density;
+mod disk;
 mod finding;
 mod flux;
 mod refusal;
@@ -42,6 +43,7 @@ mod two_reads;
 pub use boundary::{check_word, check_word_from, clear, decode, encode, put_one, SECTOR_IMAGE_BYTES};
 pub use coding::{decode_to_vec, encode_to_vec, MOST_BYTES_TO_CODE, MOST_BYTES_TO_DECODE};
 pub use density::Density;
+pub use disk::{disk_page, MOST_TRACKS};
 pub use finding::{Finding, Kind, NotAKind, MOST_FINDINGS};
 pub use flux::{
     histogram, separate, separate_in_density, separate_in_density_to_vec, separate_to_vec, Cells, Separation,

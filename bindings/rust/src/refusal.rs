@@ -44,13 +44,19 @@ pub enum Refusal {
     LengthsDiffer,
     /// 19: the reads have not 130, 258, 514 or 1,026 bytes (rule 14.2).
     NotASectorLength,
+    /// 21: a disk has the same track and side twice (rule 16.5).
+    TrackGivenTwice,
+    /// 22: a disk of more than 168 tracks (rule 16.3).
+    TooManyTracks,
     /// 24: the track has no plain image (rule 15.2). The first number from 1 to 9 that stands in the way, or 0 where only a number besides
     /// these does (rule 15.4).
     NoPlainImage(usize),
+    /// 25: the findings of a disk are not as many as its tracks say, or none that these tracks can have (rules 16.6 to 16.8).
+    NotTheirFindings,
 }
 
 impl Refusal {
-    /// Its number, 1 to 19 or 24.
+    /// Its number: 1 to 19, 21, 22, 24 or 25.
     pub const fn number(self) -> u32 {
         match self {
             Refusal::TrackOrSide => 1,
@@ -72,7 +78,10 @@ impl Refusal {
             Refusal::NoSuchRevolution => 17,
             Refusal::LengthsDiffer => 18,
             Refusal::NotASectorLength => 19,
+            Refusal::TrackGivenTwice => 21,
+            Refusal::TooManyTracks => 22,
             Refusal::NoPlainImage(_) => 24,
+            Refusal::NotTheirFindings => 25,
         }
     }
 
@@ -98,7 +107,10 @@ impl Refusal {
             | Refusal::NotATrackBlock
             | Refusal::NoSuchRevolution
             | Refusal::LengthsDiffer
-            | Refusal::NotASectorLength => 0,
+            | Refusal::NotASectorLength
+            | Refusal::TrackGivenTwice
+            | Refusal::TooManyTracks
+            | Refusal::NotTheirFindings => 0,
         }
     }
 }
@@ -137,7 +149,10 @@ impl TryFrom<(u32, usize)> for Refusal {
             (17, 0) => Refusal::NoSuchRevolution,
             (18, 0) => Refusal::LengthsDiffer,
             (19, 0) => Refusal::NotASectorLength,
+            (21, 0) => Refusal::TrackGivenTwice,
+            (22, 0) => Refusal::TooManyTracks,
             (24, _) => Refusal::NoPlainImage(value),
+            (25, 0) => Refusal::NotTheirFindings,
             _ => return Err(NotARefusal { number, value }),
         })
     }
@@ -166,10 +181,13 @@ impl fmt::Display for Refusal {
             Refusal::NoSuchRevolution => write!(out, "the track block lacks that revolution"),
             Refusal::LengthsDiffer => write!(out, "the two reads differ in length"),
             Refusal::NotASectorLength => write!(out, "the reads have not 130, 258, 514 or 1,026 bytes"),
+            Refusal::TrackGivenTwice => write!(out, "a track and side stands twice"),
+            Refusal::TooManyTracks => write!(out, "more than 168 tracks"),
             Refusal::NoPlainImage(0) => write!(out, "no plain image: there is a sector besides 1 to 9"),
             Refusal::NoPlainImage(number) => {
                 write!(out, "no plain image: sector {number} is missing, double, of another size or with a bad check")
             }
+            Refusal::NotTheirFindings => write!(out, "not the findings of these tracks"),
         }
     }
 }
@@ -191,8 +209,8 @@ mod tests {
     #[test]
     fn numbers_and_values_are_those_of_the_table() {
         // The refusals beside which 0 is given.
-        let without_value = [1, 6, 12, 15, 16, 17, 18, 19];
-        for number in (1..=19).chain([24]) {
+        let without_value = [1, 6, 12, 15, 16, 17, 18, 19, 21, 22, 25];
+        for number in (1..=19).chain([21, 22, 24, 25]) {
             for value in [0, 7] {
                 let refusal = Refusal::try_from((number, value));
                 if value != 0 && without_value.contains(&number) {
@@ -206,7 +224,7 @@ mod tests {
 
     #[test]
     fn other_numbers_are_no_refusals() {
-        for number in [0, 20, 21, 22, 23, 25, u32::MAX] {
+        for number in [0, 20, 23, 26, u32::MAX] {
             assert_eq!(Refusal::try_from((number, 0)), Err(NotARefusal { number, value: 0 }));
         }
     }

@@ -1,9 +1,11 @@
-//! The samples' listings, printed from the crate's findings.
+//! The samples' listings and the page of the sample disk, printed from the crate's findings.
 
 mod common;
 
 use common::samples;
-use thikbromu::{separate_to_vec, Cells, Density, Track};
+use std::fs;
+use std::path::Path;
+use thikbromu::{disk_page, separate_to_vec, Cells, Density, Track, TrackFile};
 
 fn number_at(file: &[u8], place: usize) -> usize {
     u32::from_le_bytes(file[place..place + 4].try_into().unwrap()) as usize
@@ -52,4 +54,17 @@ fn the_sample_of_single_density() {
     let file = include_bytes!("../../../samples/single-density.track");
     let listing = include_str!("../../../samples/single-density.fm-listing");
     assert_eq!(listing_of(file, Density::Single), listing);
+}
+
+#[test]
+fn the_sample_disk() {
+    let folder = Path::new(env!("CARGO_MANIFEST_DIR")).join("../../samples/disk");
+    let mut disk = Vec::new();
+    for entry in fs::read_dir(folder).unwrap() {
+        let file = fs::read(entry.unwrap().path()).unwrap();
+        let cells = TrackFile::new(&file).cells().unwrap();
+        disk.push((file[4].into(), file[5].into(), cells.track().findings().unwrap()));
+    }
+    assert_eq!(disk.len(), 12);
+    assert_eq!(disk_page(&disk).as_deref(), Ok(include_str!("../../../samples/disk.page")));
 }

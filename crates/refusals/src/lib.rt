@@ -42,8 +42,14 @@ pub enum Refusal {
     LengthsDiffer,
     // 19: the length of the reads is that of no sector.
     NotASectorLength,
+    // 21: a track and side is given twice.
+    TrackGivenTwice,
+    // 22: more than 168 tracks.
+    TooManyTracks,
     // 24: the track has no plain image: the first number from 1 to 9 that stands in the way, or 0.
     NoPlainImage(usize),
+    // 25: what is given is no list of the tracks' findings.
+    NotTheirFindings,
 }
 
 // What a call answers that counts something, as bytes written or findings: their number, or a refusal.
@@ -77,7 +83,10 @@ impl Refusal {
             Refusal::NoSuchRevolution => 17,
             Refusal::LengthsDiffer => 18,
             Refusal::NotASectorLength => 19,
+            Refusal::TrackGivenTwice => 21,
+            Refusal::TooManyTracks => 22,
             Refusal::NoPlainImage(_) => 24,
+            Refusal::NotTheirFindings => 25,
         }
     }
 
@@ -105,7 +114,10 @@ impl Refusal {
             Refusal::NoSuchRevolution => 0,
             Refusal::LengthsDiffer => 0,
             Refusal::NotASectorLength => 0,
+            Refusal::TrackGivenTwice => 0,
+            Refusal::TooManyTracks => 0,
             Refusal::NoPlainImage(number) => number,
+            Refusal::NotTheirFindings => 0,
         }
     }
 }

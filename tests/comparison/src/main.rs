@@ -11,6 +11,8 @@ mod block_program;
 mod blocks;
 mod coding;
 mod densities;
+mod disk_page;
+mod disk_program;
 mod files;
 mod findings;
 mod flux;
@@ -33,7 +35,7 @@ use std::thread;
 type Part = fn(&mut Report);
 
 /// The parts, by their modules. The long ones come first, so that no worker is left alone with one at the end.
-const PARTS: [(&str, Part); 59] = [
+const PARTS: [(&str, Part); 64] = [
     ("files", files::in_memory),
     ("findings", findings::any_tracks),
     ("sectors", sectors::standard),
@@ -52,16 +54,21 @@ const PARTS: [(&str, Part); 59] = [
     ("findings", findings::size_codes),
     ("sectors", sectors::size_codes),
     ("program", program::portions),
+    ("disk_program", disk_program::few_files),
+    ("disk_program", disk_program::many_files),
     ("image_program", image_program::whole_files),
     ("image_program", image_program::portions),
     ("image_program", image_program::failing_inputs),
     ("sector_image", sector_image::tracks),
     ("sector_image", sector_image::planned),
+    ("disk_page", disk_page::disks),
+    ("disk_page", disk_page::of_tracks),
     ("blocks", blocks::timings),
     ("blocks", blocks::short_rooms),
     ("two_reads", two_reads::pairs),
     ("two_reads", two_reads::data_marks),
     ("sector_image", sector_image::any_tracks),
+    ("disk_page", disk_page::counts),
     ("terms", terms::tables),
     ("track_cells", track_cells::reading),
     ("track_cells", track_cells::finding),

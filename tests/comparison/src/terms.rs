@@ -31,8 +31,11 @@ fn refusal(ours: thikbromu::Refusal) -> Refusal {
         Ours::NoSuchRevolution => Refusal::no_such_revolution(),
         Ours::LengthsDiffer => Refusal::reads_differ_in_length(),
         Ours::NotASectorLength => Refusal::no_length_of_a_read(),
+        Ours::TrackGivenTwice => Refusal::place_given_twice(),
+        Ours::TooManyTracks => Refusal::too_many_tracks(),
         // The second program has a byte there: another number shows as a difference.
         Ours::NoPlainImage(number) => Refusal::no_plain_image(u8::try_from(number).unwrap_or(u8::MAX)),
+        Ours::NotTheirFindings => Refusal::not_findings_of_a_disk(),
     }
 }
 
@@ -94,7 +97,10 @@ pub fn tables(report: &mut Report) {
         Refusal::no_such_revolution(),
         Refusal::reads_differ_in_length(),
         Refusal::no_length_of_a_read(),
+        Refusal::place_given_twice(),
+        Refusal::too_many_tracks(),
         Refusal::no_plain_image(7),
+        Refusal::not_findings_of_a_disk(),
     ];
     for row in rows {
         let ours = thikbromu::Refusal::try_from((row.number, row.value as usize));

@@ -1,8 +1,9 @@
-//! Writes the track files and the track block of samples/ into the folder that its argument names, and the listing of the track of single
-//! density, which no program of the library lists. samples/README.md says what each shows.
+//! Writes the track files and the track block of samples/ into the folder that its argument names, the listing of the track of single density,
+//! which no program of the library lists, and the page of the disk. samples/README.md says what each shows.
 
 use second_program::cells;
 use second_program::check_word::check_word;
+use second_program::disk_page::disk_page;
 use second_program::findings::{self, Finding};
 use second_program::single_density::{self, DELETED_DATA_MARK, ID_MARK};
 use std::path::Path;
@@ -206,6 +207,48 @@ fn single_density_listing(track_cells: &[u8]) -> String {
     listing
 }
 
+/// A track of the sample disk: its place on the disk, and its cells.
+struct DiskTrack {
+    track: u8,
+    side: u8,
+    cells: Vec<u8>,
+}
+
+/// A disk of twelve tracks. Track 2 is protected: the data of sector 3 has a bad check, and sector 9 has the number 247. Track 80 is one more than
+/// usual. On side 1 only track 0 is written on; track 5 was not read.
+fn disk(blank: &[u8]) -> Vec<DiskTrack> {
+    let protected = changed(2, |plan| match plan.number {
+        3 => plan.data_check_error = 0x0001,
+        9 => plan.number = 247,
+        _ => {}
+    });
+    let mut disk = Vec::new();
+    let mut add = |track, side, cells| disk.push(DiskTrack { track, side, cells });
+    for track in [0, 1, 79, 80] {
+        add(track, 0, standard_track(track, 0, 0xE5));
+    }
+    add(2, 0, protected);
+    add(81, 0, blank.to_vec());
+    add(0, 1, standard_track(0, 1, 0xE5));
+    for track in [1, 2, 3, 4, 6] {
+        add(track, 1, blank.to_vec());
+    }
+    disk
+}
+
+/// The page of a disk, by the second program.
+fn page_of(disk: &[DiskTrack]) -> Vec<u8> {
+    let (mut tracks, mut all_findings) = (Vec::new(), Vec::new());
+    for DiskTrack { track, side, cells: track_cells } in disk {
+        let (track, side) = (u32::from(*track), u32::from(*side));
+        let (bytes, n) = (cells::pack(track_cells), track_cells.len());
+        let found = findings::findings(track, side, &bytes, n, usize::MAX).expect("a track that is not refused");
+        tracks.extend([track, side, found.len() as u32]);
+        all_findings.extend(found.iter().flat_map(|it| [it.kind, it.level, it.place as u32, it.detail as u32]));
+    }
+    disk_page(&tracks, &all_findings).expect("a disk that is not refused")
+}
+
 fn main() {
     let folder = std::env::args().nth(1).expect("the folder to write to");
     let standard = standard_track(0, 0, 0xE5);
@@ -245,6 +288,12 @@ fn main() {
     for (name, file) in samples {
         write(&format!("{name}.track"), file);
     }
+    let disk = disk(&all_aa);
+    std::fs::create_dir_all(Path::new(&folder).join("disk")).expect("a folder for the disk");
+    for DiskTrack { track, side, cells } in &disk {
+        write(&format!("disk/t{track:02}-h{side}.track"), file_of_cells(*track, *side, cells));
+    }
+    write("disk.page", page_of(&disk));
     write("single-density.fm-listing", single_density_listing(&single_density).into_bytes());
     // Two revolutions of the standard track, each with shifts of its own.
     write("standard-two-revolutions.block", standard_track_block(1, 0, 0, 0xE5, 2).bytes());

@@ -1,4 +1,5 @@
-//! The second program: a track's cells, sectors, findings, files and blocks in plain Rust.
+//! The second program: a track's cells, sectors, findings, files and blocks, and a disk's
+//! page, in plain Rust.
 //!
 //! It was written from the papers that the project was given, and neither from the
 //! library nor from its statements: where one of the two misreads a rule, the comparison
@@ -9,6 +10,7 @@
 
 pub mod cells;
 pub mod check_word;
+pub mod disk_page;
 pub mod findings;
 pub mod listing;
 pub mod mfm;

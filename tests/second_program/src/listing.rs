@@ -1,8 +1,20 @@
 //! The listings of a track and of a track file (rules 11.1 to 11.8, 11.12 and 11.13).
 
-use crate::findings;
+use crate::findings::{self, Finding};
 use crate::refusal::Refusal;
 use crate::track_file::{self, Track, TrackCells};
+
+/// The line of a finding (rule 11.3).
+pub(crate) fn line_of(finding: &Finding) -> String {
+    format!(
+        "{} {} level {} place {} detail {}\n",
+        finding.kind,
+        findings::name_of(finding.kind),
+        finding.level,
+        finding.place,
+        finding.detail
+    )
+}
 
 /// The listing of a track that is not refused: the header (rules 11.2 and 11.5), then a
 /// line for each finding (rule 11.3), and, where its cells are from timings, a line with
@@ -17,14 +29,7 @@ fn lines_of(track: &Track) -> String {
         track.findings.len()
     );
     for finding in &track.findings {
-        lines += &format!(
-            "{} {} level {} place {} detail {}\n",
-            finding.kind,
-            findings::name_of(finding.kind),
-            finding.level,
-            finding.place,
-            finding.detail
-        );
+        lines += &line_of(finding);
     }
     if let Some(number) = track.cells.border_pulses {
         lines += &format!("FAA {number}\n");

@@ -10,6 +10,8 @@ pub const HIGHEST_SIDE: u32 = 1;
 pub const FEWEST_CELLS: usize = 20_000;
 /// Rules 8.2 and 8.9: the most cells of a track.
 pub const MOST_CELLS: usize = 131_072;
+/// The most tracks of a disk: 84 on each of two sides.
+pub const MOST_TRACKS: usize = 168;
 /// Rule 8.4: the most sectors of a track.
 pub const MOST_SECTORS: usize = 64;
 /// Rule 8.7: the most timings of a list.
@@ -136,10 +138,25 @@ impl Refusal {
         Refusal::new(19, 0)
     }
 
+    /// 21: a track and side are given twice. Beside it: 0.
+    pub fn place_given_twice() -> Refusal {
+        Refusal::new(21, 0)
+    }
+
+    /// 22: a disk has not so many tracks. Beside it: 0.
+    pub fn too_many_tracks() -> Refusal {
+        Refusal::new(22, 0)
+    }
+
     /// 24: the sectors make no plain image. Beside it: the first number from 1 to 9 that
     /// is at fault, or 0 where only sectors of other numbers are.
     pub fn no_plain_image(number_at_fault: u8) -> Refusal {
         Refusal::new(24, usize::from(number_at_fault))
+    }
+
+    /// 25: the findings of a disk are not such as its tracks can have. Beside it: 0.
+    pub fn not_findings_of_a_disk() -> Refusal {
+        Refusal::new(25, 0)
     }
 }
 
@@ -170,8 +187,11 @@ mod tests {
             (Refusal::no_such_revolution(), 17, 0),
             (Refusal::reads_differ_in_length(), 18, 0),
             (Refusal::no_length_of_a_read(), 19, 0),
+            (Refusal::place_given_twice(), 21, 0),
+            (Refusal::too_many_tracks(), 22, 0),
             (Refusal::no_plain_image(0), 24, 0),
             (Refusal::no_plain_image(9), 24, 9),
+            (Refusal::not_findings_of_a_disk(), 25, 0),
         ];
         for (refusal, number, value) in rows {
             assert_eq!(refusal, Refusal { number, value });

@@ -15,9 +15,11 @@ pub struct Function {
 }
 
 /// Programs have no public function. These make their promises.
-const OF_PROGRAMS: [(&str, &str); 4] = [
+const OF_PROGRAMS: [(&str, &str); 6] = [
     ("track_listing", "list_input"),
     ("st_track", "image_input"),
+    ("disk_listing", "take_file"),
+    ("disk_listing", "gather"),
     ("scp_track", "read_choice"),
     ("scp_track", "list_input"),
 ];

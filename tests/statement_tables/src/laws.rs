@@ -104,6 +104,11 @@ pub const LAWS: &[Law] = &[
         &["equal-reads", "no-finding-means-equal"],
     ),
     ("15.1", "sector_image/proofs/Laws", &["part-read-out"]),
+    ("16.19", "disk_laws/proofs/Once", &["each-once"]),
+    ("16.20", "disk_laws/proofs/Library", &["never-amiss"]),
+    ("16.21", "disk_laws/proofs/Order", &["ordered"]),
+    ("16.22", "disk_laws/proofs/LastLine", &["last-line"]),
+    ("16.25", "disk_page/proofs/Parts", &["parts-are-page"]),
 ];
 
 /// A rule that no function promises, or, where it is only run, that no test names; and why.
@@ -132,6 +137,10 @@ pub const EXCEPTIONS: &[(&str, &str)] = &[
         "13.12",
         "tells users what the system does with packets; nothing tries it",
     ),
+    ("16.19", "a theorem of the definitions, for no code"),
+    ("16.20", "a theorem of the definitions, for no code"),
+    ("16.21", "a theorem of the definitions, for no code"),
+    ("16.22", "a theorem of the definitions, for no code"),
 ];
 
 pub fn parsed(rule: &str) -> Number {

@@ -1,5 +1,5 @@
-//! Inputs for the tests: tracks, flux timings, track files and track blocks, sound and
-//! broken, made by hand or at random from a seed.
+//! Inputs for the tests: tracks, flux timings, track files, track blocks and disks, sound
+//! and broken, made by hand or at random from a seed.
 //!
 //! Nothing here says what a program should answer. Cells and check words are made by the
 //! second program, whose own tests, the comparison, the samples and the benchmarks use
@@ -8,6 +8,7 @@
 //! are those of docs/SPECIFICATION.md.
 
 pub mod block_inputs;
+pub mod disk_inputs;
 pub mod file_inputs;
 pub mod flux_inputs;
 pub mod image_tracks;

@@ -1,0 +1,11 @@
+pub mod Accepted
+pub mod Tnf
+pub mod LastLine
+pub mod Entries
+pub mod Order
+pub mod Runs
+pub mod Times
+pub mod Items
+pub mod Once
+pub mod Numbers
+pub mod Library

@@ -1,0 +1,4 @@
+pub mod Once
+pub mod Order
+pub mod LastLine
+pub mod Library

@@ -1,0 +1,19 @@
+-- `disk_lines::digit` meets its contract. Assumes nothing.
+use mathlib.Core.Path.{refl}
+use Rattle.lines.specs.Lines.{digit}
+use borrow.Author.Needs.{needs}
+use Rattle.disk_lines.proofs.digit.Statement.{statement}
+use Rattle.disk_lines.proofs.digit.Tie as tie
+
+cast-result : tie.Need-cast-result
+cast-result c = search needs
+
+add-result : tie.Need-add-result
+add-result c = search needs
+
+returns : tie.Need-returns
+unfolding digit
+returns c = refl
+
+pub digit-spec : {M : Type 1} → statement M
+digit-spec = tie.close (tie.spec cast-result add-result returns)

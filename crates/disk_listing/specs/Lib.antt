@@ -1,0 +1,2 @@
+pub mod DiskOfFiles
+pub mod PrivateContracts

@@ -1,0 +1,4 @@
+pub mod Lines
+pub mod Tracks
+pub mod Calls
+pub mod Parts

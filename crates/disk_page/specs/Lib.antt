@@ -1,0 +1,4 @@
+pub mod Ranges
+pub mod Page
+pub mod Parts
+pub mod PrivateContracts

@@ -1,0 +1,4 @@
+pub mod Some
+pub mod Sums
+pub mod Findings
+pub mod Branches
