@@ -134,7 +134,7 @@ length-packed before (x ∷ xs) = omega (arith, length-packed (byteOf x % 2) xs)
 
 pub length-written : (list : List ℕ) → length (written list) ≡ 2 * length (piecesOf list)
 unfolding written
-length-written list = length-packed 0 (piecesOf list)
+length-written list = length-packed _ (piecesOf list)
 
 pub fits : (list : List ℕ) (r room : ℕ) → UpToMost (length (piecesOf list)) r → r ≤ 8192 → 2 * r ≤ room → length (written list) ≤ room
 fits list r room c h g = omega (arith, counted-few (length (piecesOf list)) r c h, length-written list)

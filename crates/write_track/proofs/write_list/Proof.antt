@@ -36,13 +36,12 @@ loop-less c = search needs
 
 loop-again : tie.Need-loop-again Inv-loop μ-loop
 loop-again c =
-    let b3 = c .before .before .before in
-    let b6 = b3 .before .before .before in
-    let b7 = b6 .before in
-    let b10 = b7 .before .before .before in
-    let l = b7 .loop in
-    let more = wrote-step _ _ (l .writer) (l .cells) (l .at) (l .i) (l .inv .1) (b6 .loop-test .taken) _ _ _ (b10 .pre) in
-    (search needs, more (c .step .ensures) (b3 .put-byte .ensures))
+    let b7 = c .before .before .before .before .before .before .before in
+    let l = b7 .loop in (
+      search needs,
+      wrote-step _ _ (l .writer) (l .cells) (l .at) (l .i) (l .inv .1) (c .before .before .before .before .before .before .loop-test .taken) _ _ _ (b7 .before .before .before .pre)
+          (c .step .ensures) (c .before .before .before .put-byte .ensures),
+    )
 
 same-length : tie.Need-same-length Inv-loop μ-loop
 same-length c = c .before .loop .inv .1 .long
