@@ -1,0 +1,11 @@
+pub mod Searching
+pub mod Lawful
+pub mod Gaps
+pub mod PieceCells
+pub mod Round
+pub mod Standard
+pub mod ListPieces
+pub mod MarksThere
+pub mod SectorsThere
+pub mod FindingsThere
+pub mod Theorems
