@@ -1,4 +1,4 @@
--- MTV and NFA find nothing on lawful cells. Assumes nothing.
+-- On cells that keep the clock rule but for syncs, the rules of MTV and NFA do not hold. Assumes nothing.
 use Prim.Native.Nat.{ℕ, _+_, _-_, _≤_}
 use mathlib.Core.Path.{_≡_, refl, sym, ap, _∙_}
 use mathlib.Core.Bool.{Bool, true, false, _&&_, _||_}
@@ -26,7 +26,7 @@ unfolding isOne
 is-one f p e = eqb-true (f p) 1 e
 
 module _ (f d : ℕ → ℕ) (m : ℕ → Bool) (L : Lawful f d m) (n : ℕ) (big : 2 ≤ n) (again : (p : ℕ) → f (p + n) ≡ f p) where
-  -- a one and the next: of a place in the first turn, by the same place in the second
+  -- the law of ones asks for two cells before them, so it is taken one turn later
   one-spaced : (p : ℕ) → f p ≡ 1 → (f (p + 1) ≡ 0) × ((f (p + 2) ≡ 1) ⊎ ((f (p + 3) ≡ 1) ⊎ (f (p + 4) ≡ 1)))
   one-spaced p e =
       let s = spaced f d m L (p + n) (omega arith) (again p ∙ e) in (

@@ -3,9 +3,9 @@ pub mod Lawful
 pub mod Gaps
 pub mod PieceCells
 pub mod Round
-pub mod Standard
+pub mod Pieces
 pub mod ListPieces
-pub mod MarksThere
-pub mod SectorsThere
-pub mod FindingsThere
+pub mod Marks
+pub mod Sectors
+pub mod Findings
 pub mod Theorems

@@ -1,23 +1,21 @@
--- The pieces of the standard track's list. Assumes nothing.
+-- From the list of the standard track to its pieces, part by part. Assumes nothing.
 use Prim.Native.Nat.{ℕ, zero, suc, _+_, _/_, _%_, _^_, _<_}
 use mathlib.Core.Path.{_≡_, refl, sym, ap, _∙_}
 use mathlib.Core.Bool.{Bool, true, false}
 use mathlib.Core.List.{List, [], _∷_, _++_, map, append-assoc, append-nil}
 use mathlib.Core.Logic.{_⊎_, inl, inr, ⊎-elim}
 use native.Mathlib.Omega.{arith}
-use borrow.Author.Tests.{ne-eqb}
 use lib.ListN.{getD, replicate}
 use Rattle.basis.specs.Lists.{joined}
 use Rattle.crc.specs.CheckWord.{afterBit, afterBits, afterByte, checkWordFrom, checkWord}
 use Rattle.crc.proofs.Linear.{bit-lt}
-use Rattle.mfm.specs.Coding.{encoded}
-use Rattle.mfm.proofs.Coder.{encoded-none, encoded-more}
-use Rattle.write_track.specs.WriteTrack.{Piece, piecesFrom, piecesOf, pieceCells, packedFrom, written}
+use Rattle.write_track.specs.WriteTrack.{Piece, piecesFrom, piecesOf}
 use Rattle.write_track.specs.WriteTrack.Piece.{coded, syncA1}
+use Rattle.write_track.proofs.PlainLists.{Ordinary, one-coded, all-coded}
 use Rattle.standard_track.specs.StandardTrack.{sectorList, Plain}
-use Rattle.standard_track.proofs.Standard.{front, back, block}
+use Rattle.standard_track.proofs.Pieces.{front, back, block}
 
--- the check word fits sixteen bits
+-- check words are below 65,536
 bits-lt : (k w byte : ℕ) → w < 65536 → afterBits k w byte < 65536
 unfolding afterBits
 bits-lt zero w byte h = h
@@ -28,40 +26,22 @@ unfolding checkWordFrom afterByte
 check-lt w [] h = h
 check-lt w (b ∷ bs) h = check-lt (afterByte w b) bs (bits-lt 8 w b h)
 
--- a plain byte
+-- plain bytes are coded
+ordinary : (byte : ℕ) → Plain byte → Ordinary byte
+ordinary byte p = (
+  λ e. ⊎-elim (λ h. omega arith) (λ h. omega arith) (p .1),
+  λ e. ⊎-elim (λ h. omega arith) (λ h. omega arith) (p .1),
+  λ e. ⊎-elim (λ h. omega arith) (λ h. omega arith) (p .1),
+)
+
 pub plain-one : (byte : ℕ) → Plain byte → (w : ℕ) (run : Bool) (rest : List ℕ) → piecesFrom w run (byte ∷ rest) ≡ coded byte ∷ piecesFrom (afterByte w byte) false rest
-unfolding piecesFrom
-plain-one byte p w run rest = rw (ne-eqb byte 0xF5 (λ e. not-one e), ne-eqb byte 0xF6 (λ e. not-two e), ne-eqb byte 0xF7 (λ e. not-three e))
-  where
-    not-one : byte ≡ 0xF5 → ⊥
-    not-one e = ⊎-elim (λ h. omega arith) (λ h. omega arith) (p .1)
+plain-one byte p w run rest = one-coded byte (ordinary byte p) w run rest
 
-    not-two : byte ≡ 0xF6 → ⊥
-    not-two e = ⊎-elim (λ h. omega arith) (λ h. omega arith) (p .1)
-
-    not-three : byte ≡ 0xF7 → ⊥
-    not-three e = ⊎-elim (λ h. omega arith) (λ h. omega arith) (p .1)
-
--- plain bytes, and the check word after them
 pub plain-bytes : (bytes : List ℕ) → ((i : ℕ) → Plain (getD bytes i 0)) → (w : ℕ) (rest : List ℕ)
     → piecesFrom w false (bytes ++ rest) ≡ map coded bytes ++ piecesFrom (checkWordFrom w bytes) false rest
-unfolding checkWordFrom
-plain-bytes [] p w rest = refl
-plain-bytes (b ∷ bs) p w rest = plain-one b (p 0) w false (bs ++ rest) ∙ ap (λ (l : List Piece). coded b ∷ l) (plain-bytes bs (λ i. p (suc i)) (afterByte w b) rest)
+plain-bytes bytes p w rest = all-coded bytes (λ i. ordinary (getD bytes i 0) (p i)) w rest
 
--- so a list of plain bytes alone is coded, as the coder does it after a 0
-packed-coded : (before : ℕ) (bytes : List ℕ) → packedFrom before (map coded bytes) ≡ encoded before bytes
-unfolding packedFrom pieceCells
-packed-coded before [] = sym (encoded-none before)
-packed-coded before (b ∷ bs) = rw (packed-coded (b % 2) bs) (sym (encoded-more before b bs))
-
-pub plain-is-coded : (bytes : List ℕ) → ((i : ℕ) → Plain (getD bytes i 0)) → written bytes ≡ encoded 0 bytes
-unfolding written piecesFrom
-plain-is-coded bytes p =
-    let e : piecesFrom 0xFFFF false bytes ≡ map coded bytes = rw (append-nil bytes, append-nil (map coded bytes)) at (plain-bytes bytes p 0xFFFF []) in
-    rw e (packed-coded 0 bytes)
-
--- a list gives pieces, whatever the check word before it and whatever comes after
+-- a part of a list that gives the same pieces wherever it stands, as long as no F5 comes before it. `after` is what it makes of the check word
 pub record Gives (list : List ℕ) (pieces : List Piece) : Type 0 where
   pub after : ℕ → ℕ
   pub is : (w : ℕ) (rest : List ℕ) → piecesFrom w false (list ++ rest) ≡ pieces ++ piecesFrom (after w) false rest
@@ -99,7 +79,7 @@ unfolding joined
 gives-joined g h zero e = gives-none
 gives-joined g h (suc n) e = gives-append (joined g n) (g n) (joined h n) (h n) (gives-joined g h n (λ i l. e i (omega arith))) (e n (omega arith))
 
--- a sync that is the first of a run, one that is not, and F7
+-- the first F5 of a run, a later one, and F7
 sync-new : (w : ℕ) (rest : List ℕ) → piecesFrom w false (0xF5 ∷ rest) ≡ syncA1 ∷ piecesFrom (afterByte 0xFFFF 0xA1) true rest
 unfolding piecesFrom
 sync-new w rest = refl
@@ -119,7 +99,7 @@ low-plain byte h = (omega arith, inl h)
 high-plain : (byte : ℕ) → 0xF7 < byte → byte < 256 → Plain byte
 high-plain byte h l = (l, inr h)
 
--- an ID
+-- ---- the ID of a sector
 abbrev pub idWord : (T H number : ℕ) → ℕ
 idWord T H number = checkWord (0xA1 ∷ 0xA1 ∷ 0xA1 ∷ 0xFE ∷ T ∷ H ∷ number ∷ 2 ∷ [])
 
@@ -150,11 +130,11 @@ gives-id T H number t h n =
           check-two,
         )
 
--- a data field, and what follows
+-- ---- its data
 abbrev pub dataWord : List ℕ → ℕ
 dataWord bytes = checkWord (0xA1 ∷ 0xA1 ∷ 0xA1 ∷ 0xFB ∷ bytes)
 
--- after bytes with the check word w, `end` gives the two bytes e1 and e2
+-- where the check word is w, `end` gives the bytes e1 and e2
 pub record Ends (end : List ℕ) (w e1 e2 : ℕ) : Type 0 where
   pub after : ℕ
   pub is : (rest : List ℕ) → piecesFrom w false (end ++ rest) ≡ coded e1 ∷ coded e2 ∷ piecesFrom after false rest
@@ -191,7 +171,7 @@ gives-data bytes end e1 e2 list pieces p e g = record { after = λ w. g .after (
           append-assoc (map coded bytes) (coded e1 ∷ coded e2 ∷ pieces) (piecesFrom (g .after (e .after)) false rest),
         )
 
--- a record
+-- ---- the whole sector
 pub gives-sector : (T H number : ℕ) (bytes end : List ℕ) (e1 e2 : ℕ) → T < 0xF5 → H < 0xF5 → number < 0xF5 → ((i : ℕ) → Plain (getD bytes i 0)) → Ends end (dataWord bytes) e1 e2
     → Gives (sectorList T H number bytes end) (block T H number (idWord T H number / 256) (idWord T H number % 256) bytes e1 e2)
 unfolding sectorList block front back
@@ -204,7 +184,7 @@ gives-sector T H number bytes end e1 e2 t h n p e =
     (gives-append (replicate 12 0) _ (replicate 12 (coded 0)) _ (gives-replicate 12 0 (omega arith))
     (gives-data bytes end e1 e2 (replicate 40 0x4E) (replicate 40 (coded 0x4E)) p e (gives-replicate 40 0x4E (omega arith))))))
 
--- the whole list: what it gives from its start is its pieces
+-- a list that is such a part as a whole
 pub pieces-of : (list : List ℕ) (pieces : List Piece) → Gives list pieces → piecesOf list ≡ pieces
 unfolding piecesFrom
 pieces-of list pieces g = rw (append-nil list, append-nil pieces) at (g .is 0xFFFF [])

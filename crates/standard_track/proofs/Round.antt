@@ -1,5 +1,5 @@
--- A round track of 6,250 pieces, 100,000 cells: its cells are lawful, 4489 stands exactly where a sync A1 was written, and each piece decodes to
--- its byte. Assumes nothing.
+-- 6,250 pieces as a track, whose end meets its start: 4489 stands exactly where a sync of A1 was written, each piece decodes to its byte, and MTV and NFA
+-- find nothing. Assumes nothing.
 use Prim.Native.Nat.{ℕ, suc, _+_, _*_, _/_, _%_, _<_}
 use mathlib.Core.Path.{_≡_, refl, sym, ap, _∙_}
 use mathlib.Core.Bool.{Bool, true, false, cond, _&&_}
@@ -26,12 +26,12 @@ use Rattle.standard_track.proofs.Lawful.{Lawful, sync-where}
 use Rattle.standard_track.proofs.Gaps.{no-mtv, no-nfa}
 use Rattle.standard_track.proofs.PieceCells.{isSync, isC2, cellOf, bitAt, bit-first, bit-later, piece-cell, data-of, first-clock, later-clock}
 
--- piece i, counted on round the track
+-- piece i; after the last comes the first again
 abbrev pub pieceAt : List Piece → ℕ → Piece
 pieceAt pieces i = getD pieces (i % 6250) (coded 0)
 
--- what is asked of the pieces: none is a sync C2, the data bit after each sync A1 is a one, and the last data bit is a zero, as the bit
--- before the first
+-- what the laws ask of the pieces. The byte behind a sync has to begin with a one: else 4489 can stand seven cells after the sync too. The last data bit
+-- has to be 0, which is what the first piece was coded after
 pub record Round (pieces : List Piece) : Type 0 where
   pub long : length pieces ≡ 6250
   pub no-c2 : (i : ℕ) → isC2 (pieceAt pieces i) ≡ false
@@ -47,11 +47,11 @@ sync-is syncC2 e = let z : _≡_ {A = ℕ} 0 1 = cc in absurd (omega arith)
 lowest-bit : (y : ℕ) → bitOf y 7 ≡ y % 2
 lowest-bit y = rw (div-one y)
 
--- the cells of the track, whatever bytes follow
+-- the cells of the track; `rest` are bytes behind it
 abbrev pub trackCells : List Piece → List ℕ → ℕ → ℕ
 trackCells pieces rest = cell (packedFrom 0 pieces ++ rest) 100000
 
--- its data bits, and where a clock is missing
+-- its data bits, and before which of them the clock is left out
 abbrev pub bitsOf : List Piece → ℕ → ℕ
 bitsOf pieces j = bitOf (byteOf (pieceAt pieces (j / 8))) (j % 8)
 
@@ -65,7 +65,7 @@ module _ (pieces : List Piece) (rest : List ℕ) (R : Round pieces) where
       cell-is (packedFrom 0 pieces ++ rest) 100000 (16 * i + j) (omega arith)
       ∙ ap (cellAt (packedFrom 0 pieces ++ rest)) e ∙ piece-cell 0 pieces rest (i % 6250) (omega (arith, R .long)) j h
 
-  -- the data bit before a piece is the last of the piece before it, round the track
+  -- a piece was coded after the last bit of the one before it, also the first
   bit-before : (i : ℕ) → bitAt 0 pieces ((i + 1) % 6250) ≡ bitOf (byteOf (pieceAt pieces i)) 7
   bit-before i = go (ℕ-discrete (i % 6250) 6249) ∙ sym (lowest-bit (byteOf (pieceAt pieces i)))
     where
@@ -108,12 +108,12 @@ module _ (pieces : List Piece) (rest : List ℕ) (R : Round pieces) where
           let c : (j + 1) % 8 ≡ suc (j % 8) = omega arith in
           rw (a, b, c) (clock-later (j / 8) (j % 8) (omega arith))
 
-  -- where a clock is missing stands a sync A1, and the bit is its sixth
+  -- a clock is left out only before bit 5 of a sync of A1
   misses : (j : ℕ) → missesAt pieces j ≡ true → (isSync (pieceAt pieces (j / 8)) ≡ true) × (j % 8 ≡ 5)
   misses j e =
       (and-left (isSync (pieceAt pieces (j / 8))) (eqb (j % 8) 5) e, eqb-true (j % 8) 5 (and-right (isSync (pieceAt pieces (j / 8))) (eqb (j % 8) 5) e))
 
-  -- a bit of that sync
+  -- the bits of that sync
   bit-in : (j i r : ℕ) → isSync (pieceAt pieces i) ≡ true → j / 8 ≡ i → j % 8 ≡ r → bitsOf pieces j ≡ bitOf 0xA1 r
   bit-in j i r s e g = rw (e, g) (ap (λ (x : Piece). bitOf (byteOf x) r) (sync-is (pieceAt pieces i) s))
 
@@ -140,7 +140,7 @@ module _ (pieces : List Piece) (rest : List ℕ) (R : Round pieces) where
       only : (j : ℕ) → (j + 1) % 8 ≡ 6 → missesAt pieces (j + 1) ≡ false
       only j e = rw (e, and-false (isSync (pieceAt pieces ((j + 1) / 8))))
 
-  -- 4489 stands exactly at the syncs A1
+  -- 4489 stands at the syncs of A1 and nowhere else
   pub sync-only : (q : ℕ) → syncAt (trackCells pieces rest) q ≡ true → (q % 16 ≡ 0) × (isSync (pieceAt pieces (q / 16)) ≡ true)
   sync-only q e =
       let w = sync-where (trackCells pieces rest) (bitsOf pieces) (missesAt pieces) lawful q (eqb-true (word (trackCells pieces rest) 16 q) 0x4489 e) in
@@ -161,7 +161,7 @@ module _ (pieces : List Piece) (rest : List ℕ) (R : Round pieces) where
           let z : 0 + j ≡ j = omega arith in
           on-track i j h ∙ ap (λ (x : Piece). cellOf (bitAt 0 pieces (i % 6250)) x j) (sync-is (pieceAt pieces i) e) ∙ ap (cellOf 0 syncA1) (sym z)
 
-  -- each piece decodes to its byte
+  -- what the sixteen cells of a piece decode to
   pub byte-there : (i : ℕ) → byteOn (trackCells pieces rest) (16 * i) ≡ byteOf (pieceAt pieces i)
   unfolding byteOn
   byte-there i =

@@ -4,8 +4,10 @@ use mathlib.Core.Path.{_≡_, refl, sym, ap, ap₂, _∙_}
 use mathlib.Core.Bool.{Bool, true, false}
 use mathlib.Core.List.{List, [], _++_}
 use native.Mathlib.Decide.{decLe, ℕ-discrete}
-use native.Mathlib.Nat.{lt-of-not-le, zero-add, max-le}
+use native.Mathlib.Nat.{lt-of-not-le, zero-add, max-le, mul-suc, mul-le-mul-left}
 use native.Mathlib.Omega.{arith}
+use lib.ListN.{length, getD, length-append, List·getD-append}
+use lib.Seq.{getD-append-add}
 use Rattle.basis.specs.Lists.{joined}
 use Rattle.basis.specs.Search.{least, count, most}
 use Rattle.basis.proofs.Joined.{joined-none, joined-more, joined-to}
@@ -61,3 +63,33 @@ pub joined-one : {A : Type 0} (f : ℕ → List A) (n k : ℕ) → k < n → ((i
 joined-one f n k h none =
     joined-to f (k + 1) n (omega arith) (λ q a b. none q b (λ e. absurd (omega arith)))
     ∙ joined-more f k ∙ rw (joined-empty f k (λ i l. none i (omega arith) (λ e. absurd (omega arith))))
+
+-- joined lists of the same length m: element k of list i
+module _ {A : Type 0} (g : ℕ → List A) where
+  pub length-joined : (m n : ℕ) → ((i : ℕ) → i < n → length (g i) ≡ m) → length (joined g n) ≡ m * n
+  unfolding joined
+  length-joined m zero long = omega arith
+  length-joined m (suc n) long =
+      length-append (joined g n) (g n) ∙ ap₂ (λ (x y : ℕ). x + y) (length-joined m n (λ i h. long i (omega arith))) (long n (omega arith)) ∙ sym (mul-suc m n)
+
+  in-list : (a b m k : ℕ) → a + m ≤ b → k < m → a + k < b
+  in-list a b m k h l = omega arith
+
+  pub joined-at : (z : A) (m n : ℕ) → ((i : ℕ) → i < n → length (g i) ≡ m) → (i k : ℕ) → i < n → k < m → getD (joined g n) (m * i + k) z ≡ getD (g i) k z
+  unfolding joined
+  joined-at z m zero long i k h l = absurd (omega arith)
+  joined-at z m (suc n) long i k h l = go (decLe n i) (λ b. joined-at z m n before i k b l)
+    where
+      before : (j : ℕ) → j < n → length (g j) ≡ m
+      before j b = long j (omega arith)
+
+      inside : i < n → m * i + k < length (joined g n)
+      inside b =
+          rw (length-joined m n before)
+          (in-list (m * i) (m * n) m k (rw (mul-suc m i) at (mul-le-mul-left m b)) l)
+
+      go : Dec (n ≤ i) → (i < n → getD (joined g n) (m * i + k) z ≡ getD (g i) k z) → getD (joined g n ++ g n) (m * i + k) z ≡ getD (g i) k z
+      go (yes b) more =
+          let e : i ≡ n = omega arith in
+          rw e (ap (λ (x : ℕ). getD (joined g n ++ g n) (x + k) z) (sym (length-joined m n before)) ∙ getD-append-add (joined g n) (g n) k z)
+      go (no b) more = List·getD-append (joined g n) (g n) z (m * i + k) (inside (lt-of-not-le b)) ∙ more (lt-of-not-le b)

@@ -32,9 +32,9 @@ use Rattle.write_track.proofs.Laws.{length-written, length-packed}
 use Rattle.standard_track.specs.StandardTrack.{sectorListAt, trackList, checked, standardList, replaced, allE5, Plain, PlainData}
 use Rattle.standard_track.specs.Claims.{Finds, extFinding, extFindings, sbdFinding, checkOf, NoFindings, OnlyExt, AnyData, ChosenCheck, SbdExactly, ReadsBack}
 use Rattle.standard_track.proofs.Searching.{joined-empty, joined-one}
-use Rattle.standard_track.proofs.Standard.{Content, Bytes, blockAt, trackPieces, pieces-long}
-use Rattle.standard_track.proofs.SectorsThere.{goodEnd, recordOf, IdChecks, sectors-there, read-there}
-use Rattle.standard_track.proofs.FindingsThere.{findings-there}
+use Rattle.standard_track.proofs.Pieces.{Content, Bytes, blockAt, trackPieces, pieces-long}
+use Rattle.standard_track.proofs.Sectors.{goodEnd, recordOf, IdChecks, sectors-there, read-there}
+use Rattle.standard_track.proofs.Findings.{findings-there}
 use Rattle.standard_track.proofs.ListPieces.{check-lt, repeated-plain, Gives, gives-append, gives-replicate, gives-joined, idWord, dataWord, Ends, ends-checked, ends-chosen, gives-sector, pieces-of}
 
 -- what a list puts onto the track, where e1 and e2 are the two bytes behind the data of each sector

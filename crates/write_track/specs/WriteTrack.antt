@@ -4,8 +4,7 @@
 --   pieces              sync, 4489    sync, 5224    two check bytes, coded       the byte, coded
 --   check word          counts A1     counts C2     counts both                  counts the byte
 --
--- The main properties: each piece decodes to the byte that is counted for it, and a list without F5 to F7 gives what the coder gives (`byte-there`
--- and `plain-is-coded`, both in proofs of standard_track). Assumes nothing.
+-- The main property: a list without F5 to F7 gives what the coder gives (`as-encoded`, in proofs/PlainLists). Assumes nothing.
 use Prim.Native.Nat.{ℕ, _*_, _/_, _%_}
 use mathlib.Core.Bool.{Bool, true, false, cond}
 use mathlib.Core.List.{List, [], _∷_}

@@ -28,9 +28,9 @@ use Rattle.sector_records.specs.declared.Sector.{Sector}
 use Rattle.write_track.specs.WriteTrack.{packedFrom}
 use Rattle.standard_track.proofs.Searching.{both, fails, count-none, joined-same, joined-empty}
 use Rattle.standard_track.proofs.Round.{trackCells, round-mtv, round-nfa}
-use Rattle.standard_track.proofs.Standard.{SyncPlace, Content, Bytes, trackPieces, standard-round}
-use Rattle.standard_track.proofs.MarksThere.{placeOf, same-sector, SyncIn, sync-found}
-use Rattle.standard_track.proofs.SectorsThere.{goodEnd, recordOf, IdChecks, sectors-there}
+use Rattle.standard_track.proofs.Pieces.{SyncPlace, Content, Bytes, trackPieces, standard-round}
+use Rattle.standard_track.proofs.Marks.{placeOf, same-sector, SyncIn, sync-found}
+use Rattle.standard_track.proofs.Sectors.{goodEnd, recordOf, IdChecks, sectors-there}
 
 some-none : (test : Sector → Bool) (xs : List Sector) → ((j : ℕ) → j < length xs → test (nth xs j) ≡ false) → someSector test xs ≡ false
 unfolding someSector

@@ -1,4 +1,4 @@
--- The marks of the standard track, and what is decoded after them. Assumes nothing.
+-- Where the marks of the standard track stand, that there are no others, and what its pieces decode to. Assumes nothing.
 use Prim.Native.Nat.{ℕ, _+_, _*_, _/_, _≤_, _<_}
 use mathlib.Core.Path.{_≡_, refl, sym, ap, _∙_}
 use mathlib.Core.Bool.{true, false, _&&_}
@@ -16,13 +16,13 @@ use Rattle.write_track.specs.WriteTrack.Piece.{coded}
 use Rattle.standard_track.proofs.Searching.{both}
 use Rattle.standard_track.proofs.PieceCells.{isSync}
 use Rattle.standard_track.proofs.Round.{Round, trackCells, sync-only, sync-there, byte-there}
-use Rattle.standard_track.proofs.Standard.{front, SyncPlace, Content, Bytes, blockAt, trackPieces, piece-at, in-front, syncs-in, standard-round}
+use Rattle.standard_track.proofs.Pieces.{front, SyncPlace, Content, Bytes, blockAt, trackPieces, piece-at, in-front, syncs-in, standard-round}
 
--- the place of the ID mark of sector s, from 0; its data mark stands 704 cells on
+-- where the ID mark of sector s stands; its data mark stands 704 cells later
 abbrev pub placeOf : ℕ → ℕ
 placeOf s = 1152 + 9824 * s
 
--- three syncs in a row begin at the first or the second three of a sector
+-- three syncs that follow each other are those of one mark
 starts : (k : ℕ) → SyncPlace k → SyncPlace (k + 1) → SyncPlace (k + 2) → (k ≡ 12) ⊎ (k ≡ 56)
 starts k (inl a) (inl b) (inl c) = inl (omega (arith, a .0, c .1))
 starts k (inl a) (inl b) (inr c) = absurd (omega (arith, a .1, c .0))
@@ -35,7 +35,7 @@ place-high : (k : ℕ) → SyncPlace k → k ≤ 58
 place-high k (inl h) = omega (arith, h .1)
 place-high k (inr h) = h .1
 
--- a piece stands in one sector, at one place
+-- blocks do not overlap
 pub same-sector : (s t k l : ℕ) → 614 * s + k ≡ 614 * t + l → k < 614 → l < 614 → s ≡ t
 same-sector s t k l e h g =
     let a : (614 * s + k) / 614 ≡ s = omega arith in
@@ -49,7 +49,7 @@ module _ (C : Content) (B : Bytes C) (rest : List ℕ) where
   R : Round (trackPieces C)
   R = standard-round C B
 
-  -- what is decoded at piece k of sector s
+  -- what piece k of sector s decodes to
   pub byte-in : (s k q : ℕ) → s < 9 → k < 614 → q ≡ 16 * (60 + (614 * s + k)) → byteOn (trackCells (trackPieces C) rest) q ≡ byteOf (getD (blockAt C s) k (coded 0))
   byte-in s k q h l e =
       ap (byteOn cells) e ∙ byte-there (trackPieces C) rest R (60 + (614 * s + k)) ∙ ap byteOf (piece-at C B s k (60 + (614 * s + k)) h l refl)
@@ -65,7 +65,7 @@ module _ (C : Content) (B : Bytes C) (rest : List ℕ) where
       ∙ sync-there (trackPieces C) rest R (60 + (614 * s + k))
       (ap isSync (piece-at C B s k (60 + (614 * s + k)) h (omega arith) refl ∙ in-front C B s k l) ∙ g)
 
-  -- the marks that are written
+  -- both marks of a sector are there
   id-mark-at : (s : ℕ) → s < 9 → markAt (trackCells (trackPieces C) rest) (placeOf s) ≡ true
   unfolding markAt front
   id-mark-at s h =
@@ -96,7 +96,7 @@ module _ (C : Content) (B : Bytes C) (rest : List ℕ) where
   no-id-mark : (s : ℕ) → s < 9 → markOf (trackCells (trackPieces C) rest) 0xFC 0xFF (placeOf s + 704) ≡ false
   no-id-mark s h = mark-of cells 0xFC 0xFF (placeOf s + 704) false (data-mark-at s h) (rw (data-byte s h))
 
-  -- a sync stands in a sector
+  -- a sync at q belongs to a sector
   pub record SyncIn (q : ℕ) : Type 0 where
     pub sector : ℕ
     pub offset : ℕ
@@ -115,7 +115,7 @@ module _ (C : Content) (B : Bytes C) (rest : List ℕ) where
   sync-low : (q : ℕ) → SyncIn q → q ≤ 80480
   sync-low q a = let k = place-high (a .offset) (a .place) in omega (arith, a .below, a .is)
 
-  -- so a mark stands only at these places
+  -- and so does a mark
   pub record MarkIn (q : ℕ) : Type 0 where
     pub sector : ℕ
     pub below : sector < 9

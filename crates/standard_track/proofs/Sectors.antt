@@ -1,4 +1,4 @@
--- The sectors of the standard track: nine, with these records and these data bytes. Assumes nothing.
+-- The sectors that are read on the standard track: their records, their data bytes, and that there are nine. Assumes nothing.
 use Prim.Native.Nat.{ℕ, zero, suc, _+_, _*_, _≤_, _<_}
 use mathlib.Core.Path.{_≡_, refl, sym, ap, ap₂, _∙_}
 use mathlib.Core.Bool.{Bool, true}
@@ -22,10 +22,10 @@ use Rattle.write_track.specs.WriteTrack.{byteOf, packedFrom}
 use Rattle.write_track.specs.WriteTrack.Piece.{coded}
 use Rattle.standard_track.proofs.Searching.{fails}
 use Rattle.standard_track.proofs.Round.{trackCells}
-use Rattle.standard_track.proofs.Standard.{front, back, Content, Bytes, trackPieces, in-data, in-back}
-use Rattle.standard_track.proofs.MarksThere.{placeOf, byte-in, byte-in-front, id-byte, data-byte, id-mark, data-mark, marked, id-found, data-found}
+use Rattle.standard_track.proofs.Pieces.{front, back, Content, Bytes, trackPieces, in-data, in-back}
+use Rattle.standard_track.proofs.Marks.{placeOf, byte-in, byte-in-front, id-byte, data-byte, id-mark, data-mark, marked, id-found, data-found}
 
--- the marks of double density
+-- marks, in double density
 id-is : (f : ℕ → ℕ) (p : ℕ) → idMarkAt doubleDensity f p ≡ markOf f 0xFC 0xFF p
 unfolding idMarkAt doubleDensity
 id-is f p = refl
@@ -34,11 +34,11 @@ data-is : (f : ℕ → ℕ) (p : ℕ) → dataMarkAt doubleDensity f p ≡ markO
 unfolding dataMarkAt doubleDensity
 data-is f p = refl
 
--- whether two bytes are the check word of a sector's data
+-- e1 and e2 are the check bytes of a sector with these data bytes
 unfoldable pub goodEnd : List ℕ → (e1 e2 : ℕ) → Bool
 goodEnd bytes e1 e2 = eqb (checkWord (0xA1 ∷ 0xA1 ∷ 0xA1 ∷ 0xFB ∷ bytes)) (e1 * 256 + e2)
 
--- the record of sector s, from 0
+-- the record of sector s
 unfoldable pub recordOf : Content → ℕ → Sector
 recordOf C s =
     record {
@@ -57,7 +57,7 @@ recordOf C s =
       density = 2;
     }
 
--- the two bytes after each ID are its check word
+-- each ID has its check bytes
 abbrev pub IdChecks : Content → Type 0
 IdChecks C = (s : ℕ) → checkWord (0xA1 ∷ 0xA1 ∷ 0xA1 ∷ 0xFE ∷ C .track ∷ C .side ∷ (s + 1) ∷ 2 ∷ []) ≡ C .c1 s * 256 + C .c2 s
 
@@ -65,7 +65,7 @@ module _ (C : Content) (B : Bytes C) (ids : IdChecks C) (rest : List ℕ) where
   abbrev cells : ℕ → ℕ
   cells = trackCells (trackPieces C) rest
 
-  -- ---- the ID
+  -- ---- what is read of its ID
   id-byte-is : (s k byte : ℕ) → s < 9 → k < 44 → byteOf (getD (front (C .track) (C .side) (s + 1) (C .c1 s) (C .c2 s)) (k + 16) (coded 0)) ≡ byte
       → byteOn (trackCells (trackPieces C) rest) (placeOf s + 64 + 16 * k) ≡ byte
   id-byte-is s k byte h l e = byte-in-front C B rest s (k + 16) (placeOf s + 64 + 16 * k) h (omega arith) (omega arith) ∙ e
@@ -93,7 +93,7 @@ module _ (C : Content) (B : Bytes C) (ids : IdChecks C) (rest : List ℕ) where
   unfolding checkGood checkWordFrom doubleDensity
   id-good s h = rw (id-bytes s h, id-check s h) (eq-eqb _ _ (ids s))
 
-  -- ---- the data
+  -- ---- what is read of its data
   data-least : (s : ℕ) → s < 9 → leastData doubleDensity (trackCells (trackPieces C) rest) (placeOf s) ≡ placeOf s + 704
   unfolding doubleDensity
   data-least s h =
@@ -143,7 +143,7 @@ module _ (C : Content) (B : Bytes C) (ids : IdChecks C) (rest : List ℕ) where
   unfolding checkGood goodEnd checkWordFrom doubleDensity
   data-good s h = rw (with-mark s h, end-check s h)
 
-  -- ---- the record
+  -- ---- all fields together
   pub record-there : (s : ℕ) → s < 9 → sectorAt doubleDensity (trackCells (trackPieces C) rest) (placeOf s) ≡ recordOf C s
   unfolding recordOf lengthOf front doubleDensity
   record-there s h =
@@ -163,7 +163,7 @@ module _ (C : Content) (B : Bytes C) (ids : IdChecks C) (rest : List ℕ) where
       (rw found (sym (data-good s h)))
       (rw found))
 
-  -- ---- the list
+  -- ---- all sectors, from mark to mark
   no-sector : (q : ℕ) → q < 100000 → ((s : ℕ) → s < 9 → q ≡ placeOf s → ⊥) → sectorsAt doubleDensity (trackCells (trackPieces C) rest) q ≡ []
   unfolding sectorsAt
   no-sector q h none = rw (fails (idMarkAt doubleDensity cells q) (λ e. seen e))
