@@ -11,10 +11,11 @@ use lib.Dec.{T, eqb, leb, ltb}
 use lib.ListN.{length, getD, take, List·getD-map}
 use lib.Seq.{getD-take, length-take-le}
 use Rattle.basis.specs.Lists.{listed, joined}
-use Rattle.basis.proofs.Bools.{and-false}
-use Rattle.basis.proofs.Joined.{joined-to, joined-none, joined-more}
+use Rattle.basis.proofs.Bools.{and-false, never-both, fails}
+use Rattle.basis.proofs.Joined.{joined-to, joined-none, joined-more, joined-same, joined-empty}
 use Rattle.basis.proofs.Lists.{length-listed, getD-listed}
 use Rattle.basis.proofs.Tables.{below, passes-below}
+use Rattle.basis.proofs.Search.{count-none}
 use Rattle.cell_patterns.specs.Cells.{syncsBetween, syncsInside}
 use Rattle.finding_list.specs.Findings.{looks, rowAt, foundBy, foundAt, ofKind, findingsOf}
 use Rattle.finding_list.specs.declared.Finding.{Finding}
@@ -26,7 +27,6 @@ use Rattle.sector_records.specs.Marks.{syncAt, wordMarkAt}
 use Rattle.sector_records.specs.Sectors.{noSector}
 use Rattle.sector_records.specs.declared.Sector.{Sector}
 use Rattle.write_track.specs.WriteTrack.{packedFrom}
-use Rattle.standard_track.proofs.Searching.{both, fails, count-none, joined-same, joined-empty}
 use Rattle.standard_track.proofs.Round.{trackCells, round-mtv, round-nfa}
 use Rattle.standard_track.proofs.Pieces.{SyncPlace, Content, Bytes, trackPieces, standard-round}
 use Rattle.standard_track.proofs.Marks.{placeOf, same-sector, SyncIn, sync-found}
@@ -60,8 +60,8 @@ others-fail : (x y : Bool) (k : ℕ) → k < 21 → (k ≡ 4 → ⊥) → (k ≡
 others-fail x y k l a b = go (eqb k 4) (eqb k 14) (getD (onlyTwo x y) k false) (ne-eqb k 4 a) (ne-eqb k 14 b) (passes-below (mayHold x y) 21 (all-others x y) k l)
   where
     go : (u v w : Bool) → u ≡ false → v ≡ false → T (u || (v || not w)) → w ≡ false
-    go true v w e g t = absurd (both true refl e)
-    go false true w e g t = absurd (both true refl g)
+    go true v w e g t = absurd (never-both true refl e)
+    go false true w e g t = absurd (never-both true refl g)
     go false false true e g t = absurd t
     go false false false e g t = refl
 

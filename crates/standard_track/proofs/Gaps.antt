@@ -7,10 +7,10 @@ use native.Mathlib.Omega.{arith}
 use borrow.Author.Tests.{eq-eqb, ne-eqb, eqb-true, le-ltb, lt-leb}
 use lib.Dec.{ltb}
 use Rattle.basis.specs.Search.{least, most}
+use Rattle.basis.proofs.Search.{least-le, least-past, count-none, most-le}
 use Rattle.cell_patterns.specs.Cells.{isOne, nextOne, violation, zerosFrom, longestRun, gapsOf}
 use Rattle.finding_rules.specs.Rules.{mtv, nfa}
 use Rattle.layouts.specs.Layouts.{doubleDensity}
-use Rattle.standard_track.proofs.Searching.{least-le, least-past, count-none, most-le}
 use Rattle.standard_track.proofs.Lawful.{Lawful, spaced, soon}
 
 one-is : (f : ℕ → ℕ) (p : ℕ) → f p ≡ 1 → isOne f p ≡ true

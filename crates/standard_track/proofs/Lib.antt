@@ -1,4 +1,3 @@
-pub mod Searching
 pub mod Lawful
 pub mod Gaps
 pub mod PieceCells

@@ -7,13 +7,12 @@ use mathlib.Core.Logic.{_⊎_, inl, inr, ⊎-elim}
 use native.Mathlib.Omega.{arith}
 use lib.Dec.{leb}
 use lib.ListN.{getD}
-use Rattle.basis.proofs.Bools.{and-left, and-right}
+use Rattle.basis.proofs.Bools.{and-left, and-right, never-both}
 use Rattle.mfm.specs.Coding.{byteOn}
 use Rattle.sector_records.specs.Marks.{syncAt, markAt, markByte, markOf}
 use Rattle.sector_records.proofs.Marks.{mark-of}
 use Rattle.write_track.specs.WriteTrack.{byteOf}
 use Rattle.write_track.specs.WriteTrack.Piece.{coded}
-use Rattle.standard_track.proofs.Searching.{both}
 use Rattle.standard_track.proofs.PieceCells.{isSync}
 use Rattle.standard_track.proofs.Round.{Round, trackCells, sync-only, sync-there, byte-there}
 use Rattle.standard_track.proofs.Pieces.{front, SyncPlace, Content, Bytes, blockAt, trackPieces, piece-at, in-front, syncs-in, standard-round}
@@ -152,11 +151,11 @@ module _ (C : Content) (B : Bytes C) (rest : List ℕ) where
 
   pub id-found : (q : ℕ) → q < 100000 → markOf (trackCells (trackPieces C) rest) 0xFC 0xFF q ≡ true → (m : MarkIn q) → q ≡ placeOf (m .sector)
   id-found q h e m =
-      ⊎-elim (λ u. u) (λ u. absurd (both (markOf cells 0xFC 0xFF q) e (ap (markOf cells 0xFC 0xFF) u ∙ no-id-mark (m .sector) (m .below)))) (m .is)
+      ⊎-elim (λ u. u) (λ u. absurd (never-both (markOf cells 0xFC 0xFF q) e (ap (markOf cells 0xFC 0xFF) u ∙ no-id-mark (m .sector) (m .below)))) (m .is)
 
   pub data-found : (q : ℕ) → q < 100000 → markOf (trackCells (trackPieces C) rest) 0xF8 0xFB q ≡ true → (m : MarkIn q) → q ≡ placeOf (m .sector) + 704
   data-found q h e m =
-      ⊎-elim (λ u. absurd (both (markOf cells 0xF8 0xFB q) e (ap (markOf cells 0xF8 0xFB) u ∙ no-data-mark (m .sector) (m .below)))) (λ u. u) (m .is)
+      ⊎-elim (λ u. absurd (never-both (markOf cells 0xF8 0xFB q) e (ap (markOf cells 0xF8 0xFB) u ∙ no-data-mark (m .sector) (m .below)))) (λ u. u) (m .is)
 
   pub marked : (low high q : ℕ) → q < 100000 → markOf (trackCells (trackPieces C) rest) low high q ≡ true → MarkIn q
   unfolding markOf

@@ -10,6 +10,7 @@ use lib.ListN.{length, getD}
 use Rattle.basis.specs.Lists.{listed, joined}
 use Rattle.basis.proofs.Lists.{is-listed}
 use Rattle.basis.proofs.Joined.{joined-to, joined-more}
+use Rattle.basis.proofs.Bools.{fails}
 use Rattle.crc.specs.CheckWord.{checkWordFrom, checkWord}
 use Rattle.layouts.specs.Layouts.{doubleDensity}
 use Rattle.mfm.specs.Coding.{byteOn}
@@ -20,7 +21,6 @@ use Rattle.sector_records.proofs.Places.{within-only}
 use Rattle.sector_records.proofs.Records.{record-is}
 use Rattle.write_track.specs.WriteTrack.{byteOf, packedFrom}
 use Rattle.write_track.specs.WriteTrack.Piece.{coded}
-use Rattle.standard_track.proofs.Searching.{fails}
 use Rattle.standard_track.proofs.Round.{trackCells}
 use Rattle.standard_track.proofs.Pieces.{front, back, Content, Bytes, trackPieces, in-data, in-back}
 use Rattle.standard_track.proofs.Marks.{placeOf, byte-in, byte-in-front, id-byte, data-byte, id-mark, data-mark, marked, id-found, data-found}

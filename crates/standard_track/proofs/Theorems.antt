@@ -12,6 +12,7 @@ use lib.Dec.{eqb, leb}
 use lib.ListN.{length, replicate, length-replicate, length-append, drop}
 use Rattle.basis.specs.Lists.{listed, joined, writtenOver}
 use Rattle.basis.proofs.Lists.{getD-listed, length-listed}
+use Rattle.basis.proofs.Joined.{joined-empty, joined-one}
 use Rattle.crc.specs.CheckWord.{checkWord}
 use Rattle.finding_list.specs.Findings.{foundBy, findingsOf}
 use Rattle.finding_list.specs.declared.Finding.{Finding}
@@ -31,7 +32,6 @@ use Rattle.write_track.specs.Calls.{judged, writeAnswer, writtenAfter}
 use Rattle.write_track.proofs.Laws.{length-written, length-packed}
 use Rattle.standard_track.specs.StandardTrack.{sectorListAt, trackList, checked, standardList, replaced, allE5, Plain, PlainData}
 use Rattle.standard_track.specs.Claims.{Finds, extFinding, extFindings, sbdFinding, checkOf, NoFindings, OnlyExt, AnyData, ChosenCheck, SbdExactly, ReadsBack}
-use Rattle.standard_track.proofs.Searching.{joined-empty, joined-one}
 use Rattle.standard_track.proofs.Pieces.{Content, Bytes, blockAt, trackPieces, pieces-long}
 use Rattle.standard_track.proofs.Sectors.{goodEnd, recordOf, IdChecks, sectors-there, read-there}
 use Rattle.standard_track.proofs.Findings.{findings-there}
