@@ -34,7 +34,8 @@ ordinary byte p = (
   λ e. ⊎-elim (λ h. omega arith) (λ h. omega arith) (p .1),
 )
 
-pub plain-one : (byte : ℕ) → Plain byte → (w : ℕ) (run : Bool) (rest : List ℕ) → piecesFrom w run (byte ∷ rest) ≡ coded byte ∷ piecesFrom (afterByte w byte) false rest
+pub plain-one : (byte : ℕ) → Plain byte → (w : ℕ) (run : Bool) (rest : List ℕ)
+    → piecesFrom w run (byte ∷ rest) ≡ coded byte ∷ piecesFrom (afterByte w byte) false rest
 plain-one byte p w run rest = one-coded byte (ordinary byte p) w run rest
 
 pub plain-bytes : (bytes : List ℕ) → ((i : ℕ) → Plain (getD bytes i 0)) → (w : ℕ) (rest : List ℕ)
@@ -149,7 +150,8 @@ ends-chosen w a b p q =
       is = λ rest. plain-one a p w false (b ∷ rest) ∙ ap (λ (l : List Piece). coded a ∷ l) (plain-one b q (afterByte w a) false rest);
     }
 
-gives-data : (bytes end : List ℕ) (e1 e2 : ℕ) (list : List ℕ) (pieces : List Piece) → ((i : ℕ) → Plain (getD bytes i 0)) → Ends end (dataWord bytes) e1 e2 → Gives list pieces
+gives-data : (bytes end : List ℕ) (e1 e2 : ℕ) (list : List ℕ) (pieces : List Piece) → ((i : ℕ) → Plain (getD bytes i 0))
+    → Ends end (dataWord bytes) e1 e2 → Gives list pieces
     → Gives (0xF5 ∷ 0xF5 ∷ 0xF5 ∷ 0xFB ∷ (bytes ++ (end ++ list))) (syncA1 ∷ syncA1 ∷ syncA1 ∷ coded 0xFB ∷ (map coded bytes ++ (coded e1 ∷ coded e2 ∷ pieces)))
 unfolding checkWordFrom
 gives-data bytes end e1 e2 list pieces p e g = record { after = λ w. g .after (e .after); is = λ w rest. steps w rest }
@@ -172,7 +174,8 @@ gives-data bytes end e1 e2 list pieces p e g = record { after = λ w. g .after (
         )
 
 -- ---- the whole sector
-pub gives-sector : (T H number : ℕ) (bytes end : List ℕ) (e1 e2 : ℕ) → T < 0xF5 → H < 0xF5 → number < 0xF5 → ((i : ℕ) → Plain (getD bytes i 0)) → Ends end (dataWord bytes) e1 e2
+pub gives-sector : (T H number : ℕ) (bytes end : List ℕ) (e1 e2 : ℕ) → T < 0xF5 → H < 0xF5 → number < 0xF5 → ((i : ℕ) → Plain (getD bytes i 0))
+    → Ends end (dataWord bytes) e1 e2
     → Gives (sectorList T H number bytes end) (block T H number (idWord T H number / 256) (idWord T H number % 256) bytes e1 e2)
 unfolding sectorList block front back
 gives-sector T H number bytes end e1 e2 t h n p e =

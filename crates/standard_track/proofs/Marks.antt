@@ -49,7 +49,8 @@ module _ (C : Content) (B : Bytes C) (rest : List ℕ) where
   R = standard-round C B
 
   -- what piece k of sector s decodes to
-  pub byte-in : (s k q : ℕ) → s < 9 → k < 614 → q ≡ 16 * (60 + (614 * s + k)) → byteOn (trackCells (trackPieces C) rest) q ≡ byteOf (getD (blockAt C s) k (coded 0))
+  pub byte-in : (s k q : ℕ) → s < 9 → k < 614 → q ≡ 16 * (60 + (614 * s + k))
+      → byteOn (trackCells (trackPieces C) rest) q ≡ byteOf (getD (blockAt C s) k (coded 0))
   byte-in s k q h l e =
       ap (byteOn cells) e ∙ byte-there (trackPieces C) rest R (60 + (614 * s + k)) ∙ ap byteOf (piece-at C B s k (60 + (614 * s + k)) h l refl)
 
@@ -57,7 +58,8 @@ module _ (C : Content) (B : Bytes C) (rest : List ℕ) where
       → byteOn (trackCells (trackPieces C) rest) q ≡ byteOf (getD (front (C .track) (C .side) (s + 1) (C .c1 s) (C .c2 s)) k (coded 0))
   byte-in-front s k q h l e = byte-in s k q h (omega arith) e ∙ ap byteOf (in-front C B s k l)
 
-  sync-in : (s k q : ℕ) → s < 9 → k < 60 → q ≡ 16 * (60 + (614 * s + k)) → isSync (getD (front (C .track) (C .side) (s + 1) (C .c1 s) (C .c2 s)) k (coded 0)) ≡ true
+  sync-in : (s k q : ℕ) → s < 9 → k < 60 → q ≡ 16 * (60 + (614 * s + k))
+      → isSync (getD (front (C .track) (C .side) (s + 1) (C .c1 s) (C .c2 s)) k (coded 0)) ≡ true
       → syncAt (trackCells (trackPieces C) rest) q ≡ true
   sync-in s k q h l e g =
       ap (syncAt cells) e

@@ -77,7 +77,8 @@ module _ (pieces : List Piece) (rest : List ℕ) (R : Round pieces) where
           let s : (i + 1) % 6250 ≡ suc (i % 6250) = omega arith in
           rw s (bit-later 0 pieces (i % 6250) (omega (arith, R .long)))
 
-  clock-first : (i : ℕ) → trackCells pieces rest (16 * (i + 1)) ≡ clock (bitOf (byteOf (pieceAt pieces i)) 7) (bitOf (byteOf (pieceAt pieces (i + 1))) 0)
+  clock-first : (i : ℕ)
+      → trackCells pieces rest (16 * (i + 1)) ≡ clock (bitOf (byteOf (pieceAt pieces i)) 7) (bitOf (byteOf (pieceAt pieces (i + 1))) 0)
   clock-first i =
       let z : 16 * (i + 1) + 0 ≡ 16 * (i + 1) = omega arith in
       ap (trackCells pieces rest) (sym z) ∙ on-track (i + 1) 0 (omega arith) ∙ first-clock (bitAt 0 pieces ((i + 1) % 6250)) (pieceAt pieces (i + 1))

@@ -139,7 +139,8 @@ module _ (C : Content) (B : Bytes C) (ids : IdChecks C) (rest : List ℕ) where
         in-back C B s 1 h,
       )
 
-  data-good : (s : ℕ) → s < 9 → checkGood doubleDensity (trackCells (trackPieces C) rest) (placeOf s + 704) 512 ≡ goodEnd (C .data-of s) (C .e1 s) (C .e2 s)
+  data-good : (s : ℕ) → s < 9
+      → checkGood doubleDensity (trackCells (trackPieces C) rest) (placeOf s + 704) 512 ≡ goodEnd (C .data-of s) (C .e1 s) (C .e2 s)
   unfolding checkGood goodEnd checkWordFrom doubleDensity
   data-good s h = rw (with-mark s h, end-check s h)
 

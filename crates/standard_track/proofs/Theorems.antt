@@ -31,7 +31,7 @@ use Rattle.write_track.specs.WriteTrack.Piece.{coded}
 use Rattle.write_track.specs.Calls.{judged, writeAnswer, writtenAfter}
 use Rattle.write_track.proofs.Laws.{length-written, length-packed}
 use Rattle.standard_track.specs.StandardTrack.{sectorListAt, trackList, checked, standardList, replaced, allE5, Plain, PlainData}
-use Rattle.standard_track.specs.Claims.{Finds, extFinding, extFindings, sbdFinding, checkOf, NoFindings, OnlyExt, AnyData, ChosenCheck, SbdExactly, ReadsBack}
+use Rattle.standard_track.specs.Claims.{HasRoom, Finds, extFinding, extFindings, sbdFinding, checkOf, NoFindings, OnlyExt, AnyData, ChosenCheck, SbdExactly, ReadsBack}
 use Rattle.standard_track.proofs.Pieces.{Content, Bytes, blockAt, trackPieces, pieces-long}
 use Rattle.standard_track.proofs.Sectors.{goodEnd, recordOf, IdChecks, sectors-there, read-there}
 use Rattle.standard_track.proofs.Findings.{findings-there}
@@ -128,9 +128,21 @@ module _ (T H : ℕ) (bytes ends : ℕ → List ℕ) (e1 e2 : ℕ → ℕ) (t : 
         ∙ sym (count-accepted _ _ (omega arith)) ∙ rw (e, le-ltb n (length found) fits)
 
     findings-listed : (found lent : List Finding) → findingsOf doubleDensity (writtenAfter (trackList T H bytes ends) buffer) 100000 T ≡ found
-        → length found ≤ length lent → listAfter doubleDensity (writtenAfter (trackList T H bytes ends) buffer) 100000 T H lent ≡ writtenOver found lent
+        → length found ≤ length lent
+        → listAfter doubleDensity (writtenAfter (trackList T H bytes ends) buffer) 100000 T H lent ≡ writtenOver found lent
     unfolding bufferAfter
     findings-listed found lent e fits = rw (findings-answer found (length lent) e fits, e)
+
+    finds : (found : List Finding) → foundBy 4 (ext 9 T) ++ joined (λ i. foundBy 14 (sbd (recordOf (content T H bytes e1 e2) i))) 9 ≡ found
+        → Finds T H (trackList T H bytes ends) buffer found
+    finds found e =
+        let f = found-are ∙ e in
+        record {
+          cells = answered;
+          all = f;
+          answer = λ n fits. findings-answer found n f fits;
+          listed = λ lent fits. findings-listed found lent f fits;
+        }
 
     -- the call that reads out sector i, into a buffer with room
     module _ (i : ℕ) (l : i < 9) (out : List ℕ) (fits : 512 ≤ length out) where
@@ -155,16 +167,6 @@ module _ (T H : ℕ) (bytes ends : ℕ → List ℕ) (e1 e2 : ℕ → ℕ) (t : 
       unfolding bufferAfter doubleDensity
       read-buffer = rw (read-answer, sector-is) (rw (track-is, read-there C in-bytes ids (drop 12500 buffer) i l))
 
-  finds : (found : List Finding) → foundBy 4 (ext 9 T) ++ joined (λ i. foundBy 14 (sbd (recordOf (content T H bytes e1 e2) i))) 9 ≡ found
-      → Finds T H (trackList T H bytes ends) found
-  finds found is =
-      record {
-        cells = answered;
-        all = λ buffer room. found-are buffer room ∙ is;
-        answer = λ buffer room n fits. findings-answer buffer room found n (found-are buffer room ∙ is) fits;
-        listed = λ buffer room lent fits. findings-listed buffer room found lent (found-are buffer room ∙ is) fits;
-      }
-
 -- ---- what EXT and SBD find
 check-small : (bytes : List ℕ) → checkWord (0xA1 ∷ 0xA1 ∷ 0xA1 ∷ 0xFB ∷ bytes) < 65536
 check-small bytes = check-lt 0xFFFF (0xA1 ∷ 0xA1 ∷ 0xA1 ∷ 0xFB ∷ bytes) (omega arith)
@@ -181,7 +183,8 @@ ext-is T = go (leb 80 T)
     go true = refl
     go false = refl
 
-sbd-is : (C : Content) (i : ℕ) (good : Bool) → goodEnd (C .data-of i) (C .e1 i) (C .e2 i) ≡ good → foundBy 14 (sbd (recordOf C i)) ≡ cond good [] (sbdFinding i ∷ [])
+sbd-is : (C : Content) (i : ℕ) (good : Bool) → goodEnd (C .data-of i) (C .e1 i) (C .e2 i) ≡ good
+    → foundBy 14 (sbd (recordOf C i)) ≡ cond good [] (sbdFinding i ∷ [])
 unfolding foundBy levels recordOf
 sbd-is C i good e = rw e (go good)
   where
@@ -207,35 +210,40 @@ module _ (T H : ℕ) (t : T ≤ 83) (h : H ≤ 1) (bytes : ℕ → List ℕ) (p 
   low-small : (i : ℕ) → checkOf (bytes i) % 256 < 256
   low-small i = omega arith
 
-  good-finds : Finds T H (trackList T H bytes checked) (extFindings T)
-  good-finds =
-      finds T H bytes checked high low t h p high-small low-small ends-all (extFindings T)
-      (rw (joined-empty (λ i. foundBy 14 (sbd (recordOf (content T H bytes high low) i))) 9 (λ i l. sbd-is (content T H bytes high low) i true (check-good (bytes i))))
-      (append-nil (foundBy 4 (ext 9 T)) ∙ ext-is T))
+  module _ (buffer : List ℕ) (room : HasRoom buffer) where
+    good-finds : Finds T H (trackList T H bytes checked) buffer (extFindings T)
+    good-finds =
+        let C = content T H bytes high low in
+        finds T H bytes checked high low t h p high-small low-small ends-all buffer room (extFindings T)
+        (rw (joined-empty (λ i. foundBy 14 (sbd (recordOf C i))) 9 (λ i l. sbd-is C i true (check-good (bytes i))))
+        (append-nil (foundBy 4 (ext 9 T)) ∙ ext-is T))
 
-  module _ (buffer : List ℕ) (room : 12500 ≤ length buffer) (i : ℕ) (l : i < 9) (out : List ℕ) (fits : 512 ≤ length out) where
-    good-read : (dataAnswer doubleDensity (writtenAfter (trackList T H bytes checked) buffer) 100000 T H i (length out) ≡ gives (record { size = 512; good = true }))
-        × (dataAfter doubleDensity (writtenAfter (trackList T H bytes checked) buffer) 100000 T H i out ≡ writtenOver (bytes i) out)
-    good-read = (
-      read-answer T H bytes checked high low t h p high-small low-small ends-all buffer room i l out fits ∙ rw (check-good (bytes i)),
-      read-buffer T H bytes checked high low t h p high-small low-small ends-all buffer room i l out fits,
-    )
+    module _ (i : ℕ) (l : i < 9) (out : List ℕ) (fits : 512 ≤ length out) where
+      good-answer : dataAnswer doubleDensity (writtenAfter (trackList T H bytes checked) buffer) 100000 T H i (length out)
+          ≡ gives (record { size = 512; good = true })
+      good-answer = read-answer T H bytes checked high low t h p high-small low-small ends-all buffer room i l out fits ∙ rw (check-good (bytes i))
+
+      good-buffer : dataAfter doubleDensity (writtenAfter (trackList T H bytes checked) buffer) 100000 T H i out ≡ writtenOver (bytes i) out
+      good-buffer = read-buffer T H bytes checked high low t h p high-small low-small ends-all buffer room i l out fits
 
 pub any-data : AnyData
-any-data T H t h bytes p = good-finds T H t h bytes p
+any-data T H t h bytes p buffer room = good-finds T H t h bytes p buffer room
 
 pub reads-back : ReadsBack
-reads-back T H t h bytes p buffer room i l out fits = good-read T H t h bytes p buffer room i l out fits
+reads-back T H t h bytes p buffer room i l out fits = (
+  good-answer T H t h bytes p buffer room i l out fits,
+  good-buffer T H t h bytes p buffer room i l out fits,
+)
 
 plain-e5 : PlainData allE5
 unfolding allE5
 plain-e5 = record { long = λ i l. length-replicate {A = ℕ} 512 0xE5; plain = λ i l k. repeated-plain 512 0xE5 (omega arith, inl (omega arith)) k }
 
 pub no-findings : NoFindings
-no-findings T H t h = rw (lt-leb 80 T (omega arith)) at (any-data T H (omega arith) h allE5 plain-e5)
+no-findings T H t h buffer room = rw (lt-leb 80 T (omega arith)) at (any-data T H (omega arith) h allE5 plain-e5 buffer room)
 
 pub only-ext : OnlyExt
-only-ext T H e t h = rw (le-leb 80 T e) at (any-data T H t h allE5 plain-e5)
+only-ext T H e t h buffer room = rw (le-leb 80 T e) at (any-data T H t h allE5 plain-e5 buffer room)
 
 -- ---- two chosen bytes in the place of one F7
 module _ (T H : ℕ) (t : T ≤ 83) (h : H ≤ 1) (bytes : ℕ → List ℕ) (p : PlainData bytes) (k a b : ℕ) (l : k < 9) (pa : Plain a) (pb : Plain b) where
@@ -245,11 +253,13 @@ module _ (T H : ℕ) (t : T ≤ 83) (h : H ≤ 1) (bytes : ℕ → List ℕ) (p 
   abbrev two : ℕ → ℕ
   two i = cond (eqb i k) b (checkOf (bytes i) % 256)
 
-  ends-but : (i : ℕ) → Ends (replaced k a b i) (dataWord (bytes i)) (cond (eqb i k) a (checkOf (bytes i) / 256)) (cond (eqb i k) b (checkOf (bytes i) % 256))
+  ends-but : (i : ℕ)
+      → Ends (replaced k a b i) (dataWord (bytes i)) (cond (eqb i k) a (checkOf (bytes i) / 256)) (cond (eqb i k) b (checkOf (bytes i) % 256))
   unfolding replaced
   ends-but i = go (eqb i k)
     where
-      go : (x : Bool) → Ends (cond x (a ∷ b ∷ []) (0xF7 ∷ [])) (dataWord (bytes i)) (cond x a (checkOf (bytes i) / 256)) (cond x b (checkOf (bytes i) % 256))
+      go : (x : Bool)
+          → Ends (cond x (a ∷ b ∷ []) (0xF7 ∷ [])) (dataWord (bytes i)) (cond x a (checkOf (bytes i) / 256)) (cond x b (checkOf (bytes i) % 256))
       go true = ends-chosen (dataWord (bytes i)) a b pa pb
       go false = ends-checked (checkOf (bytes i))
 
@@ -263,17 +273,19 @@ module _ (T H : ℕ) (t : T ≤ 83) (h : H ≤ 1) (bytes : ℕ → List ℕ) (p 
   two-small : (i : ℕ) → cond (eqb i k) b (checkOf (bytes i) % 256) < 256
   two-small i = small (eqb i k) b (checkOf (bytes i) % 256) (pb .0) (omega arith)
 
-  others-good : (i : ℕ) → (i ≡ k → ⊥) → goodEnd (bytes i) (cond (eqb i k) a (checkOf (bytes i) / 256)) (cond (eqb i k) b (checkOf (bytes i) % 256)) ≡ true
+  others-good : (i : ℕ) → (i ≡ k → ⊥)
+      → goodEnd (bytes i) (cond (eqb i k) a (checkOf (bytes i) / 256)) (cond (eqb i k) b (checkOf (bytes i) % 256)) ≡ true
   others-good i e = rw (ne-eqb i k e) (check-good (bytes i))
 
   this-good : goodEnd (bytes k) (cond (eqb k k) a (checkOf (bytes k) / 256)) (cond (eqb k k) b (checkOf (bytes k) % 256)) ≡ eqb (checkOf (bytes k)) (a * 256 + b)
   unfolding goodEnd
   this-good = rw (eq-eqb k k refl)
 
-  chosen-finds : Finds T H (trackList T H bytes (replaced k a b)) (extFindings T ++ cond (eqb (checkOf (bytes k)) (a * 256 + b)) [] (sbdFinding k ∷ []))
-  chosen-finds =
+  chosen-finds : (buffer : List ℕ) → HasRoom buffer
+      → Finds T H (trackList T H bytes (replaced k a b)) buffer (extFindings T ++ cond (eqb (checkOf (bytes k)) (a * 256 + b)) [] (sbdFinding k ∷ []))
+  chosen-finds buffer room =
       let C = content T H bytes one two in
-      finds T H bytes (replaced k a b) one two t h p one-small two-small ends-but _
+      finds T H bytes (replaced k a b) one two t h p one-small two-small ends-but buffer room _
       (rw (
         joined-one (λ i. foundBy 14 (sbd (recordOf C i))) 9 k l (λ i m e. sbd-is C i true (others-good i e)),
         sbd-is C k (eqb (checkOf (bytes k)) (a * 256 + b)) this-good,
@@ -287,17 +299,19 @@ module _ (T H : ℕ) (t : T ≤ 83) (h : H ≤ 1) (bytes : ℕ → List ℕ) (p 
   sbd-there : List·Memᴰ (sbdFinding k) (extFindings T ++ cond (eqb (checkOf (bytes k)) (a * 256 + b)) [] (sbdFinding k ∷ [])) ↔ (checkOf (bytes k) ≡ a * 256 + b → ⊥)
   sbd-there = (so, then)
     where
-      so : List·Memᴰ (sbdFinding k) (extFindings T ++ cond (eqb (checkOf (bytes k)) (a * 256 + b)) [] (sbdFinding k ∷ [])) → checkOf (bytes k) ≡ a * 256 + b → ⊥
+      so : List·Memᴰ (sbdFinding k) (extFindings T ++ cond (eqb (checkOf (bytes k)) (a * 256 + b)) [] (sbdFinding k ∷ []))
+          → checkOf (bytes k) ≡ a * 256 + b → ⊥
       so m e =
           ⊎-elim (λ u. no-sbd-in-ext (leb 80 T) u)
           (λ u. List·Memᴰ·not-nil (rw (eq-eqb (checkOf (bytes k)) (a * 256 + b) e) at u)) (List·Memᴰ·append-cases (extFindings T) m)
 
-      then : (checkOf (bytes k) ≡ a * 256 + b → ⊥) → List·Memᴰ (sbdFinding k) (extFindings T ++ cond (eqb (checkOf (bytes k)) (a * 256 + b)) [] (sbdFinding k ∷ []))
+      then : (checkOf (bytes k) ≡ a * 256 + b → ⊥)
+          → List·Memᴰ (sbdFinding k) (extFindings T ++ cond (eqb (checkOf (bytes k)) (a * 256 + b)) [] (sbdFinding k ∷ []))
       then e = rw (ne-eqb (checkOf (bytes k)) (a * 256 + b) e) (Memᴰ·append-right (extFindings T) (List·Memᴰ·head refl))
 
 pub chosen-check : ChosenCheck
-chosen-check T H t h bytes p k a b l pa pb = chosen-finds T H t h bytes p k a b l pa pb
+chosen-check T H t h bytes p k a b l pa pb buffer room = chosen-finds T H t h bytes p k a b l pa pb buffer room
 
 pub sbd-exactly : SbdExactly
 sbd-exactly T H t h bytes p k a b l pa pb buffer room =
-    rw (chosen-check T H t h bytes p k a b l pa pb .all buffer room) (sbd-there T H t h bytes p k a b l pa pb)
+    rw (chosen-check T H t h bytes p k a b l pa pb buffer room .all) (sbd-there T H t h bytes p k a b l pa pb)

@@ -195,7 +195,8 @@ module _ (s : Writer) (b : ℕ) where
   unfolding next
   next-7 h g e = rw (ne-eqb b 0xF5 h, ne-eqb b 0xF6 g, eq-eqb b 0xF7 e)
 
-  pub next-other : (b ≡ 0xF5 → ⊥) → (b ≡ 0xF6 → ⊥) → (b ≡ 0xF7 → ⊥) → next s b ≡ record { word = afterByte (s .word) b; odd = eqb (b % 2) 1; run = false }
+  pub next-other : (b ≡ 0xF5 → ⊥) → (b ≡ 0xF6 → ⊥) → (b ≡ 0xF7 → ⊥)
+      → next s b ≡ record { word = afterByte (s .word) b; odd = eqb (b % 2) 1; run = false }
   unfolding next
   next-other h g f = rw (ne-eqb b 0xF5 h, ne-eqb b 0xF6 g, ne-eqb b 0xF7 f)
 
@@ -291,7 +292,8 @@ module _ (s : Writer) (b : ℕ) (c : List ℕ) (at : ℕ) where
       → (at + 2 ≡ at + length (packedFor s b)) × (c′ ≡ take at c ++ (packedFor s b ++ drop (at + length (packedFor s b)) c))
   once x c′ e h = rw e (refl, h)
 
-  pub twice : (x y : ℕ) (c₁ c₂ : List ℕ) → packedFor s b ≡ twoBytes x ++ twoBytes y → at + 4 ≤ length c → c₁ ≡ take at c ++ (twoBytes x ++ drop (at + 2) c)
+  pub twice : (x y : ℕ) (c₁ c₂ : List ℕ) → packedFor s b ≡ twoBytes x ++ twoBytes y → at + 4 ≤ length c
+      → c₁ ≡ take at c ++ (twoBytes x ++ drop (at + 2) c)
       → c₂ ≡ take (at + 2) c₁ ++ (twoBytes y ++ drop (at + 2 + 2) c₁)
       → (at + 4 ≡ at + length (packedFor s b)) × (c₂ ≡ take at c ++ (packedFor s b ++ drop (at + length (packedFor s b)) c))
   twice x y c₁ c₂ e l h g =
