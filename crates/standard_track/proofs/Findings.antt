@@ -47,8 +47,8 @@ holdsIn = map (λ (r : Row). r .holds)
 -- of the 21 rows only those of EXT and SBD can hold
 abbrev onlyTwo : (x y : Bool) → List Bool
 onlyTwo x y =
-    false ∷ false ∷ false ∷ false ∷ x ∷ false ∷ false ∷ false ∷ false ∷ false ∷ false ∷ false ∷ false ∷ false ∷ y ∷ false ∷ false ∷ false ∷ false ∷ false
-    ∷ false ∷ []
+    false ∷ false ∷ false ∷ false ∷ x ∷ false ∷ false ∷ false ∷ false ∷ false ∷ false ∷ false ∷ false ∷ false ∷ y
+    ∷ false ∷ false ∷ false ∷ false ∷ false ∷ false ∷ []
 
 abbrev mayHold : (x y : Bool) → ℕ → Bool
 mayHold x y k = eqb k 4 || (eqb k 14 || not (getD (onlyTwo x y) k false))
@@ -57,7 +57,8 @@ all-others : (x y : Bool) → T (below (mayHold x y) 21)
 all-others x y = tt
 
 others-fail : (x y : Bool) (k : ℕ) → k < 21 → (k ≡ 4 → ⊥) → (k ≡ 14 → ⊥) → getD (onlyTwo x y) k false ≡ false
-others-fail x y k l a b = go (eqb k 4) (eqb k 14) (getD (onlyTwo x y) k false) (ne-eqb k 4 a) (ne-eqb k 14 b) (passes-below (mayHold x y) 21 (all-others x y) k l)
+others-fail x y k l a b =
+    go (eqb k 4) (eqb k 14) (getD (onlyTwo x y) k false) (ne-eqb k 4 a) (ne-eqb k 14 b) (passes-below (mayHold x y) 21 (all-others x y) k l)
   where
     go : (u v w : Bool) → u ≡ false → v ≡ false → T (u || (v || not w)) → w ≡ false
     go true v w e g t = absurd (never-both true refl e)
@@ -142,7 +143,8 @@ module _ (C : Content) where
   not-inside : (i j : ℕ) → i < 9 → j < 9 → startsInData 100000 (recordOf C i) (recordOf C j) ≡ false
   unfolding startsInData recordOf
   not-inside i j h l =
-      rw (outside (placeOf i) i j h l (inl refl), outside (placeOf i + 100000) i j h l (inr refl)) (and-false (not (eqb (placeOf j) (placeOf i)) && true))
+      rw (outside (placeOf i) i j h l (inl refl), outside (placeOf i + 100000) i j h l (inr refl))
+      (and-false (not (eqb (placeOf j) (placeOf i)) && true))
 
   no-sws : (i : ℕ) → i < 9 → sws 100000 (listed (recordOf C) 9) (recordOf C i) .holds ≡ false
   no-sws i h =

@@ -42,7 +42,8 @@ module _ (f d : ℕ → ℕ) (m : ℕ → Bool) (L : Lawful f d m) (n : ℕ) (bi
   next-near p e =
       let s = one-spaced p e in (
         (let l = least-past (isOne f) n (p + 1) (omega arith) (zero-is f (p + 1) (s .0)) in omega arith),
-        ⊎-elim (λ z. at 2 (omega arith) (omega arith) z) (λ z. ⊎-elim (λ y. at 3 (omega arith) (omega arith) y) (λ y. at 4 (omega arith) (omega arith) y) z) (s .1),
+        ⊎-elim (λ z. at 2 (omega arith) (omega arith) z)
+            (λ z. ⊎-elim (λ y. at 3 (omega arith) (omega arith) y) (λ y. at 4 (omega arith) (omega arith) y) z) (s .1),
       )
     where
       at : (k : ℕ) → 1 ≤ k → k ≤ 4 → f (p + k) ≡ 1 → least (isOne f) n (p + 1) ≤ p + 4

@@ -57,7 +57,9 @@ pub gives-append : (xs ys : List ℕ) (ps qs : List Piece) → Gives xs ps → G
 gives-append xs ys ps qs f g =
     record {
       after = λ w. g .after (f .after w);
-      is = λ w rest. rw (append-assoc xs ys rest) (f .is w (ys ++ rest) ∙ rw (g .is (f .after w) rest) (sym (append-assoc ps qs (piecesFrom (g .after (f .after w)) false rest))));
+      is =
+          λ w rest. rw (append-assoc xs ys rest)
+          (f .is w (ys ++ rest) ∙ rw (g .is (f .after w) rest) (sym (append-assoc ps qs (piecesFrom (g .after (f .after w)) false rest))));
     }
 
 repeated : (n byte : ℕ) → map coded (replicate n byte) ≡ replicate n (coded byte)
@@ -152,7 +154,8 @@ ends-chosen w a b p q =
 
 gives-data : (bytes end : List ℕ) (e1 e2 : ℕ) (list : List ℕ) (pieces : List Piece) → ((i : ℕ) → Plain (getD bytes i 0))
     → Ends end (dataWord bytes) e1 e2 → Gives list pieces
-    → Gives (0xF5 ∷ 0xF5 ∷ 0xF5 ∷ 0xFB ∷ (bytes ++ (end ++ list))) (syncA1 ∷ syncA1 ∷ syncA1 ∷ coded 0xFB ∷ (map coded bytes ++ (coded e1 ∷ coded e2 ∷ pieces)))
+    → Gives (0xF5 ∷ 0xF5 ∷ 0xF5 ∷ 0xFB ∷ (bytes ++ (end ++ list)))
+    (syncA1 ∷ syncA1 ∷ syncA1 ∷ coded 0xFB ∷ (map coded bytes ++ (coded e1 ∷ coded e2 ∷ pieces)))
 unfolding checkWordFrom
 gives-data bytes end e1 e2 list pieces p e g = record { after = λ w. g .after (e .after); is = λ w rest. steps w rest }
   where

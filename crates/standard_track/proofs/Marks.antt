@@ -70,12 +70,20 @@ module _ (C : Content) (B : Bytes C) (rest : List ℕ) where
   id-mark-at : (s : ℕ) → s < 9 → markAt (trackCells (trackPieces C) rest) (placeOf s) ≡ true
   unfolding markAt front
   id-mark-at s h =
-      rw (sync-in s 12 (placeOf s) h (omega arith) (omega arith) refl, sync-in s 13 (placeOf s + 16) h (omega arith) (omega arith) refl, sync-in s 14 (placeOf s + 32) h (omega arith) (omega arith) refl)
+      rw (
+        sync-in s 12 (placeOf s) h (omega arith) (omega arith) refl,
+        sync-in s 13 (placeOf s + 16) h (omega arith) (omega arith) refl,
+        sync-in s 14 (placeOf s + 32) h (omega arith) (omega arith) refl,
+      )
 
   data-mark-at : (s : ℕ) → s < 9 → markAt (trackCells (trackPieces C) rest) (placeOf s + 704) ≡ true
   unfolding markAt front
   data-mark-at s h =
-      rw (sync-in s 56 (placeOf s + 704) h (omega arith) (omega arith) refl, sync-in s 57 (placeOf s + 704 + 16) h (omega arith) (omega arith) refl, sync-in s 58 (placeOf s + 704 + 32) h (omega arith) (omega arith) refl)
+      rw (
+        sync-in s 56 (placeOf s + 704) h (omega arith) (omega arith) refl,
+        sync-in s 57 (placeOf s + 704 + 16) h (omega arith) (omega arith) refl,
+        sync-in s 58 (placeOf s + 704 + 32) h (omega arith) (omega arith) refl,
+      )
 
   pub id-byte : (s : ℕ) → s < 9 → markByte (trackCells (trackPieces C) rest) (placeOf s) ≡ 0xFE
   unfolding front
@@ -141,8 +149,10 @@ module _ (C : Content) (B : Bytes C) (rest : List ℕ) where
           let ak = place-high (a .offset) (a .place) in
           let bk = place-high (b .offset) (b .place) in
           let ck = place-high (c .offset) (c .place) in
-          let s1 : a .sector ≡ b .sector = same-sector (a .sector) (b .sector) (a .offset + 1) (b .offset) (omega arith) (omega arith) (omega arith) in
-          let s2 : a .sector ≡ c .sector = same-sector (a .sector) (c .sector) (a .offset + 2) (c .offset) (omega arith) (omega arith) (omega arith) in
+          let s1 : a .sector ≡ b .sector =
+          same-sector (a .sector) (b .sector) (a .offset + 1) (b .offset) (omega arith) (omega arith) (omega arith) in
+          let s2 : a .sector ≡ c .sector =
+          same-sector (a .sector) (c .sector) (a .offset + 2) (c .offset) (omega arith) (omega arith) (omega arith) in
           let e1 : b .offset ≡ a .offset + 1 = omega arith in
           let e2 : c .offset ≡ a .offset + 2 = omega arith in
           record {
@@ -153,11 +163,13 @@ module _ (C : Content) (B : Bytes C) (rest : List ℕ) where
 
   pub id-found : (q : ℕ) → q < 100000 → markOf (trackCells (trackPieces C) rest) 0xFC 0xFF q ≡ true → (m : MarkIn q) → q ≡ placeOf (m .sector)
   id-found q h e m =
-      ⊎-elim (λ u. u) (λ u. absurd (never-both (markOf cells 0xFC 0xFF q) e (ap (markOf cells 0xFC 0xFF) u ∙ no-id-mark (m .sector) (m .below)))) (m .is)
+      ⊎-elim (λ u. u) (λ u. absurd (never-both (markOf cells 0xFC 0xFF q) e (ap (markOf cells 0xFC 0xFF) u ∙ no-id-mark (m .sector) (m .below))))
+      (m .is)
 
   pub data-found : (q : ℕ) → q < 100000 → markOf (trackCells (trackPieces C) rest) 0xF8 0xFB q ≡ true → (m : MarkIn q) → q ≡ placeOf (m .sector) + 704
   data-found q h e m =
-      ⊎-elim (λ u. absurd (never-both (markOf cells 0xF8 0xFB q) e (ap (markOf cells 0xF8 0xFB) u ∙ no-data-mark (m .sector) (m .below)))) (λ u. u) (m .is)
+      ⊎-elim (λ u. absurd (never-both (markOf cells 0xF8 0xFB q) e (ap (markOf cells 0xF8 0xFB) u ∙ no-data-mark (m .sector) (m .below)))) (λ u. u)
+      (m .is)
 
   pub marked : (low high q : ℕ) → q < 100000 → markOf (trackCells (trackPieces C) rest) low high q ≡ true → MarkIn q
   unfolding markOf

@@ -1,5 +1,5 @@
--- 6,250 pieces as a track, whose end meets its start: 4489 stands exactly where a sync of A1 was written, each piece decodes to its byte, and MTV and NFA
--- find nothing. Assumes nothing.
+-- 6,250 pieces as a track, whose end meets its start: 4489 stands exactly where a sync of A1 was written, each piece decodes to its byte, and MTV
+-- and NFA find nothing. Assumes nothing.
 use Prim.Native.Nat.{ℕ, suc, _+_, _*_, _/_, _%_, _<_}
 use mathlib.Core.Path.{_≡_, refl, sym, ap, _∙_}
 use mathlib.Core.Bool.{Bool, true, false, cond, _&&_}
@@ -30,8 +30,8 @@ use Rattle.standard_track.proofs.PieceCells.{isSync, isC2, cellOf, bitA
 abbrev pub pieceAt : List Piece → ℕ → Piece
 pieceAt pieces i = getD pieces (i % 6250) (coded 0)
 
--- what the laws ask of the pieces. The byte behind a sync has to begin with a one: else 4489 can stand seven cells after the sync too. The last data bit
--- has to be 0, which is what the first piece was coded after
+-- what the laws ask of the pieces. The byte behind a sync has to begin with a one: else 4489 can stand seven cells after the sync too. The last
+-- data bit has to be 0, which is what the first piece was coded after
 pub record Round (pieces : List Piece) : Type 0 where
   pub long : length pieces ≡ 6250
   pub no-c2 : (i : ℕ) → isC2 (pieceAt pieces i) ≡ false
@@ -92,7 +92,8 @@ module _ (pieces : List Piece) (rest : List ℕ) (R : Round pieces) where
   data-cell : (j : ℕ) → trackCells pieces rest (2 * j + 1) ≡ bitsOf pieces j
   data-cell j =
       let e : 2 * j + 1 ≡ 16 * (j / 8) + (2 * (j % 8) + 1) = omega arith in
-      ap (trackCells pieces rest) e ∙ on-track (j / 8) (2 * (j % 8) + 1) (omega arith) ∙ data-of (bitAt 0 pieces (j / 8 % 6250)) (pieceAt pieces (j / 8)) (j % 8) (omega arith)
+      ap (trackCells pieces rest) e ∙ on-track (j / 8) (2 * (j % 8) + 1) (omega arith) ∙ data-of (bitAt 0 pieces (j / 8 % 6250))
+      (pieceAt pieces (j / 8)) (j % 8) (omega arith)
 
   clock-cell : (j : ℕ) → trackCells pieces rest (2 * (j + 1)) ≡ cond (missesAt pieces (j + 1)) 0 (clock (bitsOf pieces j) (bitsOf pieces (j + 1)))
   clock-cell j = go (ℕ-discrete (j % 8) 7)
@@ -144,7 +145,8 @@ module _ (pieces : List Piece) (rest : List ℕ) (R : Round pieces) where
   -- 4489 stands at the syncs of A1 and nowhere else
   pub sync-only : (q : ℕ) → syncAt (trackCells pieces rest) q ≡ true → (q % 16 ≡ 0) × (isSync (pieceAt pieces (q / 16)) ≡ true)
   sync-only q e =
-      let w = sync-where (trackCells pieces rest) (bitsOf pieces) (missesAt pieces) lawful q (eqb-true (word (trackCells pieces rest) 16 q) 0x4489 e) in
+      let w =
+      sync-where (trackCells pieces rest) (bitsOf pieces) (missesAt pieces) lawful q (eqb-true (word (trackCells pieces rest) 16 q) 0x4489 e) in
       let even = w .0 in
       let s = misses (q / 2 + 5) (w .1) in
       let five = s .1 in
@@ -166,7 +168,8 @@ module _ (pieces : List Piece) (rest : List ℕ) (R : Round pieces) where
   pub byte-there : (i : ℕ) → byteOn (trackCells pieces rest) (16 * i) ≡ byteOf (pieceAt pieces i)
   unfolding byteOn
   byte-there i =
-      word-same (dataCell (trackCells pieces rest) (16 * i)) (bitOf (byteOf (pieceAt pieces i))) 8 0 0 (λ k h. one k h) ∙ word-bits (byteOf (pieceAt pieces i)) (R .bytes i)
+      word-same (dataCell (trackCells pieces rest) (16 * i)) (bitOf (byteOf (pieceAt pieces i))) 8 0 0 (λ k h. one k h) ∙ word-bits
+      (byteOf (pieceAt pieces i)) (R .bytes i)
     where
       one : (k : ℕ) → k < 8 → trackCells pieces rest (16 * i + (2 * (0 + k) + 1)) ≡ bitOf (byteOf (pieceAt pieces i)) (0 + k)
       one k h =
@@ -174,7 +177,9 @@ module _ (pieces : List Piece) (rest : List ℕ) (R : Round pieces) where
           rw z (on-track i (2 * k + 1) (omega arith) ∙ data-of (bitAt 0 pieces (i % 6250)) (pieceAt pieces i) k h)
 
   pub round-mtv : mtv (gapsOf doubleDensity (trackCells pieces rest) 100000) .holds ≡ false
-  round-mtv = no-mtv (trackCells pieces rest) (bitsOf pieces) (missesAt pieces) lawful 100000 (omega arith) (cell-round (packedFrom 0 pieces ++ rest) 100000)
+  round-mtv =
+      no-mtv (trackCells pieces rest) (bitsOf pieces) (missesAt pieces) lawful 100000 (omega arith) (cell-round (packedFrom 0 pieces ++ rest) 100000)
 
   pub round-nfa : nfa (gapsOf doubleDensity (trackCells pieces rest) 100000) .holds ≡ false
-  round-nfa = no-nfa (trackCells pieces rest) (bitsOf pieces) (missesAt pieces) lawful 100000 (omega arith) (cell-round (packedFrom 0 pieces ++ rest) 100000)
+  round-nfa =
+      no-nfa (trackCells pieces rest) (bitsOf pieces) (missesAt pieces) lawful 100000 (omega arith) (cell-round (packedFrom 0 pieces ++ rest) 100000)

@@ -98,7 +98,12 @@ module _ (C : Content) (B : Bytes C) (ids : IdChecks C) (rest : List ℕ) where
   unfolding doubleDensity
   data-least s h =
       within-only (dataMarkAt doubleDensity cells) 160 784 (placeOf s) (placeOf s + 704)
-      (record { from = omega arith; to = omega arith; passes = data-is cells (placeOf s + 704) ∙ data-mark C B rest s h; before = λ r a b. fails (dataMarkAt doubleDensity cells r) (λ e. none r a b e) })
+      (record {
+        from = omega arith;
+        to = omega arith;
+        passes = data-is cells (placeOf s + 704) ∙ data-mark C B rest s h;
+        before = λ r a b. fails (dataMarkAt doubleDensity cells r) (λ e. none r a b e);
+      })
     where
       none : (r : ℕ) → placeOf s + 160 ≤ r → r < placeOf s + 704 → dataMarkAt doubleDensity cells r ≡ true → ⊥
       none r a b e =
@@ -150,7 +155,8 @@ module _ (C : Content) (B : Bytes C) (ids : IdChecks C) (rest : List ℕ) where
   record-there s h =
       let found = le-leb (placeOf s + 704) (placeOf s + 784) (omega arith) in
       sym
-      (record-is doubleDensity cells (placeOf s) 0xFE (C .track) (C .side) (s + 1) 2 true (placeOf s + 704) (placeOf s + 704) 0xFB 512 (goodEnd (C .data-of s) (C .e1 s) (C .e2 s)) (placeOf s + 704 + 64 + 16 * 512 + 32)
+      (record-is doubleDensity cells (placeOf s) 0xFE (C .track) (C .side) (s + 1) 2 true (placeOf s + 704) (placeOf s + 704) 0xFB 512
+      (goodEnd (C .data-of s) (C .e1 s) (C .e2 s)) (placeOf s + 704 + 64 + 16 * 512 + 32)
       (sym (id-byte C B rest s h))
       (sym (id-byte-is s 0 (C .track) h (omega arith) refl))
       (sym (id-byte-is s 1 (C .side) h (omega arith) refl))
@@ -184,8 +190,10 @@ module _ (C : Content) (B : Bytes C) (ids : IdChecks C) (rest : List ℕ) where
   up-to zero h = joined-to (sectorsAt doubleDensity cells) 0 1152 (omega arith) (λ q a b. no-sector q (omega arith) (λ s l e. omega arith))
   up-to (suc s) h =
       let p = placeOf s in
-      joined-to (sectorsAt doubleDensity cells) (placeOf s + 1) (placeOf (suc s)) (omega arith) (λ q a b. no-sector q (omega arith) (λ t l e. between q t a b e))
-      ∙ joined-more (sectorsAt doubleDensity cells) (placeOf s) ∙ ap₂ (λ (x y : List Sector). x ++ y) (up-to s (omega arith)) (sector-here s (omega arith))
+      joined-to (sectorsAt doubleDensity cells) (placeOf s + 1) (placeOf (suc s)) (omega arith)
+      (λ q a b. no-sector q (omega arith) (λ t l e. between q t a b e))
+      ∙ joined-more (sectorsAt doubleDensity cells) (placeOf s) ∙ ap₂ (λ (x y : List Sector). x ++ y) (up-to s (omega arith))
+      (sector-here s (omega arith))
     where
       between : (q t : ℕ) → placeOf s + 1 ≤ q → q < placeOf (suc s) → q ≡ placeOf t → ⊥
       between q t a b e = omega arith
@@ -193,7 +201,8 @@ module _ (C : Content) (B : Bytes C) (ids : IdChecks C) (rest : List ℕ) where
   pub sectors-there : sectorsOf doubleDensity (packedFrom 0 (trackPieces C) ++ rest) 100000 ≡ listed (recordOf C) 9
   unfolding sectorsOf
   sectors-there =
-      joined-to (sectorsAt doubleDensity cells) (placeOf 9) 100000 (omega arith) (λ q a b. no-sector q (omega arith) (λ s l e. omega arith)) ∙ up-to 9 (omega arith)
+      joined-to (sectorsAt doubleDensity cells) (placeOf 9) 100000 (omega arith) (λ q a b. no-sector q (omega arith) (λ s l e. omega arith))
+      ∙ up-to 9 (omega arith)
 
   pub read-there : (s : ℕ) → s < 9 → dataBytes 64 (trackCells (trackPieces C) rest) (recordOf C s) ≡ C .data-of s
   unfolding dataBytes recordOf

@@ -42,8 +42,8 @@ abbrev content : (T H : ℕ) → (ℕ → List ℕ) → (e1 e2 : ℕ → ℕ) �
 content T H bytes e1 e2 =
     record { track = T; side = H; c1 = λ s. idWord T H (s + 1) / 256; c2 = λ s. idWord T H (s + 1) % 256; data-of = bytes; e1 = e1; e2 = e2 }
 
-module _ (T H : ℕ) (bytes ends : ℕ → List ℕ) (e1 e2 : ℕ → ℕ) (t : T ≤ 83) (h : H ≤ 1) (p : PlainData bytes) (small1 : (i : ℕ) → e1 i < 256) (small2 : (i : ℕ) → e2 i < 256)
-    (e : (i : ℕ) → Ends (ends i) (dataWord (bytes i)) (e1 i) (e2 i)) where
+module _ (T H : ℕ) (bytes ends : ℕ → List ℕ) (e1 e2 : ℕ → ℕ) (t : T ≤ 83) (h : H ≤ 1) (p : PlainData bytes) (small1 : (i : ℕ) → e1 i < 256)
+    (small2 : (i : ℕ) → e2 i < 256) (e : (i : ℕ) → Ends (ends i) (dataWord (bytes i)) (e1 i) (e2 i)) where
   abbrev C : Content
   C = content T H bytes e1 e2
 
@@ -149,7 +149,8 @@ module _ (T H : ℕ) (bytes ends : ℕ → List ℕ) (e1 e2 : ℕ → ℕ) (t : 
       sector-is : sectorOf doubleDensity (writtenAfter (trackList T H bytes ends) buffer) 100000 i ≡ recordOf (content T H bytes e1 e2) i
       sector-is = rw sectors-are (getD-listed (recordOf C) noSector 9 i l)
 
-      judged-is : dataJudged (recordOf (content T H bytes e1 e2) i) (length out) ≡ gives (record { size = 512; good = goodEnd (bytes i) (e1 i) (e2 i) })
+      judged-is : dataJudged (recordOf (content T H bytes e1 e2) i) (length out)
+          ≡ gives (record { size = 512; good = goodEnd (bytes i) (e1 i) (e2 i) })
       unfolding recordOf
       judged-is = sym (data-accepted (recordOf C i) (length out) (λ z. absurd (omega arith)) fits)
 
@@ -277,7 +278,8 @@ module _ (T H : ℕ) (t : T ≤ 83) (h : H ≤ 1) (bytes : ℕ → List ℕ) (p 
       → goodEnd (bytes i) (cond (eqb i k) a (checkOf (bytes i) / 256)) (cond (eqb i k) b (checkOf (bytes i) % 256)) ≡ true
   others-good i e = rw (ne-eqb i k e) (check-good (bytes i))
 
-  this-good : goodEnd (bytes k) (cond (eqb k k) a (checkOf (bytes k) / 256)) (cond (eqb k k) b (checkOf (bytes k) % 256)) ≡ eqb (checkOf (bytes k)) (a * 256 + b)
+  this-good : goodEnd (bytes k) (cond (eqb k k) a (checkOf (bytes k) / 256)) (cond (eqb k k) b (checkOf (bytes k) % 256))
+      ≡ eqb (checkOf (bytes k)) (a * 256 + b)
   unfolding goodEnd
   this-good = rw (eq-eqb k k refl)
 
@@ -296,7 +298,8 @@ module _ (T H : ℕ) (t : T ≤ 83) (h : H ≤ 1) (bytes : ℕ → List ℕ) (p 
   no-sbd-in-ext true m = let e : _≡_ {A = ℕ} 15 5 = ap (λ (f : Finding). f .kind) (List·Memᴰ·eq-of-singleton m) in omega arith
   no-sbd-in-ext false m = List·Memᴰ·not-nil m
 
-  sbd-there : List·Memᴰ (sbdFinding k) (extFindings T ++ cond (eqb (checkOf (bytes k)) (a * 256 + b)) [] (sbdFinding k ∷ [])) ↔ (checkOf (bytes k) ≡ a * 256 + b → ⊥)
+  sbd-there : List·Memᴰ (sbdFinding k) (extFindings T ++ cond (eqb (checkOf (bytes k)) (a * 256 + b)) [] (sbdFinding k ∷ []))
+      ↔ (checkOf (bytes k) ≡ a * 256 + b → ⊥)
   sbd-there = (so, then)
     where
       so : List·Memᴰ (sbdFinding k) (extFindings T ++ cond (eqb (checkOf (bytes k)) (a * 256 + b)) [] (sbdFinding k ∷ []))

@@ -81,5 +81,6 @@ abbrev pub ReadsBack : Type 0
 ReadsBack =
     (T H : ℕ) → T ≤ 83 → H ≤ 1 → (bytes : ℕ → List ℕ) → PlainData bytes → (buffer : List ℕ) → HasRoom buffer
     → (i : ℕ) → i < 9 → (out : List ℕ) → 512 ≤ length out
-    → (dataAnswer doubleDensity (writtenAfter (trackList T H bytes checked) buffer) 100000 T H i (length out) ≡ gives (record { size = 512; good = true }))
+    → (dataAnswer doubleDensity (writtenAfter (trackList T H bytes checked) buffer) 100000 T H i (length out)
+    ≡ gives (record { size = 512; good = true }))
     × (dataAfter doubleDensity (writtenAfter (trackList T H bytes checked) buffer) 100000 T H i out ≡ writtenOver (bytes i) out)

@@ -148,14 +148,21 @@ module _ (c : List ℕ) (at : ℕ) (xs : List ℕ) (h : at + length xs ≤ lengt
   front-long = length-append (take at c) xs ∙ ap (λ (n : ℕ). n + length xs) (length-take-le at c (omega arith))
 
   pub placed-take : take (at + length xs) (take at c ++ (xs ++ drop (at + length xs) c)) ≡ take at c ++ xs
-  placed-take = rw (← append-assoc (take at c) xs (drop (at + length xs) c)) (take-at (take at c ++ xs) (drop (at + length xs) c) (at + length xs) front-long)
+  placed-take =
+      rw (← append-assoc (take at c) xs (drop (at + length xs) c)) (take-at (take at c ++ xs) (drop (at + length xs) c) (at + length xs) front-long)
 
   pub placed-drop : drop (at + length xs) (take at c ++ (xs ++ drop (at + length xs) c)) ≡ drop (at + length xs) c
-  placed-drop = rw (← append-assoc (take at c) xs (drop (at + length xs) c)) (drop-at (take at c ++ xs) (drop (at + length xs) c) (at + length xs) front-long)
+  placed-drop =
+      rw (← append-assoc (take at c) xs (drop (at + length xs) c)) (drop-at (take at c ++ xs) (drop (at + length xs) c) (at + length xs) front-long)
 
   pub placed-long : length (take at c ++ (xs ++ drop (at + length xs) c)) ≡ length c
   placed-long =
-      rw (← append-assoc (take at c) xs (drop (at + length xs) c), length-append (take at c ++ xs) (drop (at + length xs) c), front-long, length-drop (at + length xs) c) (omega arith)
+      rw (
+        ← append-assoc (take at c) xs (drop (at + length xs) c),
+        length-append (take at c ++ xs) (drop (at + length xs) c),
+        front-long,
+        length-drop (at + length xs) c,
+      ) (omega arith)
 
 -- ---- what a byte of the list puts, and the writer after it, arm by arm
 module _ (s : Writer) (b : ℕ) where
@@ -269,7 +276,8 @@ module _ (list c₀ : List ℕ) where
         }
 
     pub wrote-step : (st′ : Writer) (c′ : List ℕ) (at′ : ℕ) → length (written list) ≤ length c₀ → st′ ≡ next st (getD list i 0)
-        → (at′ ≡ at + length (packedFor st (getD list i 0))) × (c′ ≡ take at c ++ (packedFor st (getD list i 0) ++ drop (at + length (packedFor st (getD list i 0))) c))
+        → (at′ ≡ at + length (packedFor st (getD list i 0)))
+        × (c′ ≡ take at c ++ (packedFor st (getD list i 0) ++ drop (at + length (packedFor st (getD list i 0))) c))
         → Wrote list c₀ st′ c′ at′ (i + 1)
     wrote-step st′ c′ at′ f e g = rw (e, g .0, g .1) (wrote-more f)
 
@@ -301,5 +309,6 @@ module _ (s : Writer) (b : ℕ) (c : List ℕ) (at : ℕ) where
       let t : take (at + 2) c₁ ≡ take at c ++ twoBytes x = ap (take (at + 2)) h ∙ placed-take c at (twoBytes x) m in
       let d : drop (at + 2) c₁ ≡ drop (at + 2) c = ap (drop (at + 2)) h ∙ placed-drop c at (twoBytes x) m in
       let f : at + 2 + 2 ≡ at + 4 = omega arith in
-      let d₂ : drop (at + 2 + 2) c₁ ≡ drop (at + 4) c = sym (drop-drop 2 (at + 2) c₁) ∙ ap (drop 2) d ∙ drop-drop 2 (at + 2) c ∙ ap (λ (n : ℕ). drop n c) f in
+      let d₂ : drop (at + 2 + 2) c₁ ≡ drop (at + 4) c =
+      sym (drop-drop 2 (at + 2) c₁) ∙ ap (drop 2) d ∙ drop-drop 2 (at + 2) c ∙ ap (λ (n : ℕ). drop n c) f in
       rw e (refl, g ∙ rw (t, d₂) (append-assoc (take at c) (twoBytes x) (twoBytes y ++ drop (at + 4) c)))

@@ -39,7 +39,8 @@ loop-again c =
     let b7 = c .before .before .before .before .before .before .before in
     let l = b7 .loop in (
       search needs,
-      wrote-step _ _ (l .writer) (l .cells) (l .at) (l .i) (l .inv .1) (c .before .before .before .before .before .before .loop-test .taken) _ _ _ (b7 .before .before .before .pre)
+      wrote-step _ _ (l .writer) (l .cells) (l .at) (l .i) (l .inv .1) (c .before .before .before .before .before .before .loop-test .taken) _ _ _
+          (b7 .before .before .before .pre)
           (c .step .ensures) (c .before .before .before .put-byte .ensures),
     )
 

@@ -25,7 +25,8 @@ unfolding bufferAfter
 returns-2 c =
     let b5 = c .before .before .before .before .before in
     let a = b5 .args in
-    answer-and-buffer _ _ (no-room (a .list .now) _ (length (a .cells .now)) (c .before .before .count-pieces .ensures) (c .before .if1 .left) (c .if2 .taken)) refl
+    answer-and-buffer _ _
+    (no-room (a .list .now) _ (length (a .cells .now)) (c .before .before .count-pieces .ensures) (c .before .if1 .left) (c .if2 .taken)) refl
 
 write-list-requires : tie.Need-write-list-requires
 write-list-requires c κs =
