@@ -26,7 +26,7 @@ use Rattle.layouts.specs.Layouts.{doubleDensity}
 use Rattle.sector_records.specs.Marks.{syncAt, wordMarkAt}
 use Rattle.sector_records.specs.Sectors.{noSector}
 use Rattle.sector_records.specs.declared.Sector.{Sector}
-use Rattle.write_track.specs.WriteTrack.{packedFrom}
+use Rattle.track_writer.specs.WriteTrack.{packedFrom}
 use Rattle.standard_track.proofs.Round.{trackCells, round-mtv, round-nfa}
 use Rattle.standard_track.proofs.Pieces.{SyncPlace, Content, Bytes, trackPieces, standard-round}
 use Rattle.standard_track.proofs.Marks.{placeOf, same-sector, SyncIn, sync-found}

@@ -9,9 +9,9 @@ use lib.ListN.{getD, replicate}
 use Rattle.basis.specs.Lists.{joined}
 use Rattle.crc.specs.CheckWord.{afterBit, afterBits, afterByte, checkWordFrom, checkWord}
 use Rattle.crc.proofs.Linear.{bit-lt}
-use Rattle.write_track.specs.WriteTrack.{Piece, piecesFrom, piecesOf}
-use Rattle.write_track.specs.WriteTrack.Piece.{coded, syncA1}
-use Rattle.write_track.proofs.PlainLists.{Ordinary, one-coded, all-coded}
+use Rattle.track_writer.specs.WriteTrack.{Piece, piecesFrom, piecesOf}
+use Rattle.track_writer.specs.WriteTrack.Piece.{coded, syncA1}
+use Rattle.track_writer.proofs.PlainLists.{Ordinary, one-coded, all-coded}
 use Rattle.standard_track.specs.StandardTrack.{sectorList, Plain}
 use Rattle.standard_track.proofs.Pieces.{front, back, block}
 

@@ -11,8 +11,8 @@ use Rattle.basis.proofs.Bools.{and-left, and-right, never-both}
 use Rattle.mfm.specs.Coding.{byteOn}
 use Rattle.sector_records.specs.Marks.{syncAt, markAt, markByte, markOf}
 use Rattle.sector_records.proofs.Marks.{mark-of}
-use Rattle.write_track.specs.WriteTrack.{byteOf}
-use Rattle.write_track.specs.WriteTrack.Piece.{coded}
+use Rattle.track_writer.specs.WriteTrack.{byteOf}
+use Rattle.track_writer.specs.WriteTrack.Piece.{coded}
 use Rattle.standard_track.proofs.PieceCells.{isSync}
 use Rattle.standard_track.proofs.Round.{Round, trackCells, sync-only, sync-there, byte-there}
 use Rattle.standard_track.proofs.Pieces.{front, SyncPlace, Content, Bytes, blockAt, trackPieces, piece-at, in-front, syncs-in, standard-round}

@@ -20,8 +20,8 @@ use Rattle.finding_rules.specs.Rules.{mtv, nfa}
 use Rattle.layouts.specs.Layouts.{doubleDensity}
 use Rattle.mfm.specs.Coding.{clock, dataCell, byteOn}
 use Rattle.sector_records.specs.Marks.{syncAt}
-use Rattle.write_track.specs.WriteTrack.{Piece, byteOf, packedFrom}
-use Rattle.write_track.specs.WriteTrack.Piece.{coded, syncA1, syncC2}
+use Rattle.track_writer.specs.WriteTrack.{Piece, byteOf, packedFrom}
+use Rattle.track_writer.specs.WriteTrack.Piece.{coded, syncA1, syncC2}
 use Rattle.standard_track.proofs.Lawful.{Lawful, sync-where}
 use Rattle.standard_track.proofs.Gaps.{no-mtv, no-nfa}
 use Rattle.standard_track.proofs.PieceCells.{isSync, isC2, cellOf, bitAt, bit-first, bit-later, piece-cell, data-of, first-clock, later-clock}

@@ -19,8 +19,8 @@ use Rattle.sector_records.specs.Sectors.{byteFrom, bytesFrom, checkBytes, check
 use Rattle.sector_records.specs.declared.Sector.{Sector}
 use Rattle.sector_records.proofs.Places.{within-only}
 use Rattle.sector_records.proofs.Records.{record-is}
-use Rattle.write_track.specs.WriteTrack.{byteOf, packedFrom}
-use Rattle.write_track.specs.WriteTrack.Piece.{coded}
+use Rattle.track_writer.specs.WriteTrack.{byteOf, packedFrom}
+use Rattle.track_writer.specs.WriteTrack.Piece.{coded}
 use Rattle.standard_track.proofs.Round.{trackCells}
 use Rattle.standard_track.proofs.Pieces.{front, back, Content, Bytes, trackPieces, in-data, in-back}
 use Rattle.standard_track.proofs.Marks.{placeOf, byte-in, byte-in-front, id-byte, data-byte, id-mark, data-mark, marked, id-found, data-found}

@@ -26,10 +26,10 @@ use Rattle.sectors.specs.Calls.{sectorOf, dataJudged, dataAnswer, dataAfter}
 use Rattle.sectors.proofs.Calls.{track-accepted, count-accepted, index-accepted, data-accepted}
 use Rattle.sector_records.specs.Sectors.{noSector, sectorsOf}
 use Rattle.sector_records.specs.declared.Sector.{Sector}
-use Rattle.write_track.specs.WriteTrack.{piecesOf, packedFrom, written, cellCount}
-use Rattle.write_track.specs.WriteTrack.Piece.{coded}
-use Rattle.write_track.specs.Calls.{judged, writeAnswer, writtenAfter}
-use Rattle.write_track.proofs.Laws.{length-written, length-packed}
+use Rattle.track_writer.specs.WriteTrack.{piecesOf, packedFrom, written, cellCount}
+use Rattle.track_writer.specs.WriteTrack.Piece.{coded}
+use Rattle.track_writer.specs.Calls.{judged, writeAnswer, writtenAfter}
+use Rattle.track_writer.proofs.Laws.{length-written, length-packed}
 use Rattle.standard_track.specs.StandardTrack.{sectorListAt, trackList, checked, standardList, replaced, allE5, Plain, PlainData}
 use Rattle.standard_track.specs.Claims.{HasRoom, Finds, extFinding, extFindings, sbdFinding, checkOf, NoFindings, OnlyExt, AnyData, ChosenCheck, SbdExactly, ReadsBack}
 use Rattle.standard_track.proofs.Pieces.{Content, Bytes, blockAt, trackPieces, pieces-long}

@@ -16,7 +16,7 @@ use Rattle.findings.specs.Calls.{findingsAnswer, listAfter}
 use Rattle.layouts.specs.Layouts.{doubleDensity}
 use Rattle.refusals.specs.RefusedCalls.Answer.{gives}
 use Rattle.sectors.specs.Calls.{dataAnswer, dataAfter}
-use Rattle.write_track.specs.Calls.{writeAnswer, writtenAfter}
+use Rattle.track_writer.specs.Calls.{writeAnswer, writtenAfter}
 use Rattle.standard_track.specs.StandardTrack.{trackList, checked, standardList, replaced, Plain, PlainData}
 
 -- 17.10: a buffer with room for the cells

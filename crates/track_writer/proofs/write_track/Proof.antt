@@ -1,12 +1,12 @@
--- `write_track::write_track` meets its contract. Assumes nothing.
+-- `track_writer::write_track` meets its contract. Assumes nothing.
 use mathlib.Core.Path.{refl}
 use lib.ListN.{length}
 use Rattle.mfm.proofs.Calls.{answer-and-buffer}
 use Rattle.refusals.specs.RefusedCalls.{bufferAfter}
-use Rattle.write_track.proofs.Laws.{too-many, no-room, in-room, fits}
+use Rattle.track_writer.proofs.Laws.{too-many, no-room, in-room, fits}
 use borrow.Author.Needs.{needs}
-use Rattle.write_track.proofs.write_track.Statement.{statement}
-use Rattle.write_track.proofs.write_track.Tie as tie
+use Rattle.track_writer.proofs.write_track.Statement.{statement}
+use Rattle.track_writer.proofs.write_track.Tie as tie
 
 count-pieces-requires : tie.Need-count-pieces-requires
 count-pieces-requires c κs = search needs

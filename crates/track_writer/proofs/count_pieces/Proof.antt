@@ -1,12 +1,12 @@
--- `write_track::count_pieces` meets its contract. Assumes nothing.
+-- `track_writer::count_pieces` meets its contract. Assumes nothing.
 use Prim.Native.Nat.{_+_, _-_, _≤_}
 use mathlib.Core.Path.{_≡_}
 use native.Mathlib.Omega.{arith}
 use lib.ListN.{length, drop}
-use Rattle.write_track.proofs.Laws.{pieceCount, count-none, count-more, count-done, counted, counted-above}
+use Rattle.track_writer.proofs.Laws.{pieceCount, count-none, count-more, count-done, counted, counted-above}
 use borrow.Author.Needs.{needs}
-use Rattle.write_track.proofs.count_pieces.Statement.{statement}
-use Rattle.write_track.proofs.count_pieces.Tie as tie
+use Rattle.track_writer.proofs.count_pieces.Statement.{statement}
+use Rattle.track_writer.proofs.count_pieces.Tie as tie
 
 abbrev Inv-loop : tie.InvT-loop
 Inv-loop list count₀ i₀ count i = (i ≤ length list) × (count ≤ 8194) × (count + pieceCount (drop i list) ≡ pieceCount list)

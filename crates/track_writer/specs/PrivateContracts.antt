@@ -6,8 +6,8 @@ use mathlib.Core.List.{List, [], _∷_, _++_}
 use lib.Dec.{eqb}
 use Rattle.crc.specs.CheckWord.{afterByte}
 use Rattle.mfm.specs.Coding.{byteCells}
-use Rattle.write_track.specs.WriteTrack.{piecesFrom, packedFrom}
-use Rattle.write_track.specs.declared.Writer.{Writer}
+use Rattle.track_writer.specs.WriteTrack.{piecesFrom, packedFrom}
+use Rattle.track_writer.specs.declared.Writer.{Writer}
 
 -- sixteen cells, packed
 abbrev pub twoBytes : ℕ → List ℕ

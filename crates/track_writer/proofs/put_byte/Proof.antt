@@ -1,15 +1,15 @@
--- `write_track::put_byte` meets its contract. Assumes nothing.
+-- `track_writer::put_byte` meets its contract. Assumes nothing.
 use Prim.Native.Nat.{ℕ, _/_, _%_}
 use mathlib.Core.Path.{sym, _∙_, ap, ap₂}
 use mathlib.Core.Bool.{cond}
 use mathlib.Core.List.{_++_}
 use native.Mathlib.Omega.{arith}
 use Rattle.mfm.specs.Coding.{byteCells}
-use Rattle.write_track.specs.PrivateContracts.{twoBytes}
-use Rattle.write_track.proofs.Laws.{odd-is, for-5, for-6, for-7, for-other, fits-2, fits-4, once, twice}
+use Rattle.track_writer.specs.PrivateContracts.{twoBytes}
+use Rattle.track_writer.proofs.Laws.{odd-is, for-5, for-6, for-7, for-other, fits-2, fits-4, once, twice}
 use borrow.Author.Needs.{needs}
-use Rattle.write_track.proofs.put_byte.Statement.{statement}
-use Rattle.write_track.proofs.put_byte.Tie as tie
+use Rattle.track_writer.proofs.put_byte.Statement.{statement}
+use Rattle.track_writer.proofs.put_byte.Tie as tie
 
 put-requires : tie.Need-put-requires
 put-requires c κs =

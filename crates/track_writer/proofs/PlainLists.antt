@@ -8,8 +8,8 @@ use lib.ListN.{getD}
 use Rattle.crc.specs.CheckWord.{afterByte, checkWordFrom}
 use Rattle.mfm.specs.Coding.{encoded}
 use Rattle.mfm.proofs.Coder.{encoded-none, encoded-more}
-use Rattle.write_track.specs.WriteTrack.{Piece, piecesFrom, pieceCells, packedFrom, written}
-use Rattle.write_track.specs.WriteTrack.Piece.{coded}
+use Rattle.track_writer.specs.WriteTrack.{Piece, piecesFrom, pieceCells, packedFrom, written}
+use Rattle.track_writer.specs.WriteTrack.Piece.{coded}
 
 abbrev pub Ordinary : ℕ → Type 0
 Ordinary byte = (byte ≡ 0xF5 → ⊥) × (byte ≡ 0xF6 → ⊥) × (byte ≡ 0xF7 → ⊥)

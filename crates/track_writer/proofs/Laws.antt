@@ -16,11 +16,11 @@ use Rattle.basis.specs.Lists.{writtenOver}
 use Rattle.crc.specs.CheckWord.{afterByte}
 use Rattle.mfm.specs.Coding.{byteCells}
 use Rattle.refusals.specs.RefusedCalls.Answer.{gives, refused}
-use Rattle.write_track.specs.declared.Writer.{Writer}
-use Rattle.write_track.specs.WriteTrack.Piece.{coded, syncA1, syncC2}
-use Rattle.write_track.specs.WriteTrack.{Piece, byteOf, piecesFrom, piecesOf, pieceCells, packedFrom, written, cellCount}
-use Rattle.write_track.specs.PrivateContracts.{twoBytes, bitBefore, packedFor, next, rest, piecesFor, UpToMost}
-use Rattle.write_track.specs.Calls.{judged}
+use Rattle.track_writer.specs.declared.Writer.{Writer}
+use Rattle.track_writer.specs.WriteTrack.Piece.{coded, syncA1, syncC2}
+use Rattle.track_writer.specs.WriteTrack.{Piece, byteOf, piecesFrom, piecesOf, pieceCells, packedFrom, written, cellCount}
+use Rattle.track_writer.specs.PrivateContracts.{twoBytes, bitBefore, packedFor, next, rest, piecesFor, UpToMost}
+use Rattle.track_writer.specs.Calls.{judged}
 
 -- a test for an odd number, as a bit
 pub odd-is : (x : ℕ) → cond (eqb (x % 2) 1) 1 0 ≡ x % 2

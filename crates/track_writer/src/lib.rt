@@ -7,9 +7,9 @@ ghost use lib.ListN.{length, take, drop};
 ghost use mathlib.Core.List.{_++_};
 ghost use Rattle.basis.specs.Lists.{writtenOver};
 ghost use Rattle.refusals.specs.RefusedCalls.{countedAnswer};
-ghost use Rattle.write_track.specs.WriteTrack.{written, piecesOf};
-ghost use Rattle.write_track.specs.PrivateContracts.{packedFor, next, twoBytes, piecesFor, UpToMost};
-ghost use Rattle.write_track.specs.Calls.{writeAnswer, writtenAfter};
+ghost use Rattle.track_writer.specs.WriteTrack.{written, piecesOf};
+ghost use Rattle.track_writer.specs.PrivateContracts.{packedFor, next, twoBytes, piecesFor, UpToMost};
+ghost use Rattle.track_writer.specs.Calls.{writeAnswer, writtenAfter};
 
 // The most that a track may have, 131,072 cells, in pieces of sixteen.
 pub const MOST_PIECES: usize = 8192;

@@ -1,10 +1,10 @@
--- `write_track::put` meets its contract. Assumes nothing.
+-- `track_writer::put` meets its contract. Assumes nothing.
 use native.Mathlib.Omega.{arith}
 use lib.ListN.{length-set}
-use Rattle.write_track.proofs.Laws.{put-two}
+use Rattle.track_writer.proofs.Laws.{put-two}
 use borrow.Author.Needs.{needs}
-use Rattle.write_track.proofs.put.Statement.{statement}
-use Rattle.write_track.proofs.put.Tie as tie
+use Rattle.track_writer.proofs.put.Statement.{statement}
+use Rattle.track_writer.proofs.put.Tie as tie
 
 high-byte-requires : tie.Need-high-byte-requires
 high-byte-requires c κs = search needs

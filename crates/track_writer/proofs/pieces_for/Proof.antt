@@ -1,9 +1,9 @@
--- `write_track::pieces_for` meets its contract. Assumes nothing.
+-- `track_writer::pieces_for` meets its contract. Assumes nothing.
 use mathlib.Core.Path.{refl}
 use borrow.Author.Tests.{eq-eqb, ne-eqb}
 use borrow.Author.Needs.{needs}
-use Rattle.write_track.proofs.pieces_for.Statement.{statement}
-use Rattle.write_track.proofs.pieces_for.Tie as tie
+use Rattle.track_writer.proofs.pieces_for.Statement.{statement}
+use Rattle.track_writer.proofs.pieces_for.Tie as tie
 
 returns : tie.Need-returns
 returns c = (rw (eq-eqb _ _ (c .if1 .taken)) refl, search needs)

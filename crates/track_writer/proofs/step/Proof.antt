@@ -1,9 +1,9 @@
--- `write_track::step` meets its contract. Assumes nothing.
+-- `track_writer::step` meets its contract. Assumes nothing.
 use mathlib.Core.Path.{sym}
-use Rattle.write_track.proofs.Laws.{next-5-on, next-5-new, next-6, next-7, next-other}
+use Rattle.track_writer.proofs.Laws.{next-5-on, next-5-new, next-6, next-7, next-other}
 use borrow.Author.Needs.{needs}
-use Rattle.write_track.proofs.step.Statement.{statement}
-use Rattle.write_track.proofs.step.Tie as tie
+use Rattle.track_writer.proofs.step.Statement.{statement}
+use Rattle.track_writer.proofs.step.Tie as tie
 
 step-requires : tie.Need-step-requires
 step-requires c κs = search needs

@@ -1,10 +1,10 @@
--- `write_track::write_list` meets its contract. Assumes nothing.
+-- `track_writer::write_list` meets its contract. Assumes nothing.
 use Prim.Native.Nat.{_-_, _≤_}
 use lib.ListN.{length}
-use Rattle.write_track.proofs.Laws.{Wrote, wrote-none, wrote-fits, wrote-step, wrote-all}
+use Rattle.track_writer.proofs.Laws.{Wrote, wrote-none, wrote-fits, wrote-step, wrote-all}
 use borrow.Author.Needs.{needs}
-use Rattle.write_track.proofs.write_list.Statement.{statement}
-use Rattle.write_track.proofs.write_list.Tie as tie
+use Rattle.track_writer.proofs.write_list.Statement.{statement}
+use Rattle.track_writer.proofs.write_list.Tie as tie
 
 abbrev Inv-loop : tie.InvT-loop
 Inv-loop list cells₀ writer₀ at₀ i₀ cells writer at i = (i ≤ length list) × Wrote list cells₀ writer cells at i

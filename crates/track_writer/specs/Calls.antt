@@ -7,7 +7,7 @@ use lib.ListN.{length}
 use Rattle.cells.specs.CellsAndBytes.{bytesFor}
 use Rattle.refusals.specs.RefusedCalls.{Answer, bufferAfter}
 use Rattle.refusals.specs.RefusedCalls.Answer.{gives, refused}
-use Rattle.write_track.specs.WriteTrack.{written, cellCount}
+use Rattle.track_writer.specs.WriteTrack.{written, cellCount}
 
 -- 8.10, 8.20, 17.8: more than 131,072 cells are refused with 20, and 0 beside it; then a room of fewer bytes than they need is refused with 10,
 -- and the bytes needed beside it. Else the number of cells is given
