@@ -17,8 +17,8 @@ nothing : (out : List ℕ) → AtFront [] 0 out
 nothing out = record { within = omega arith; front-is = refl }
 
 -- the lines of standard error
-pub refusal-made : (number : ℕ) → number < 0x1_0000_0000 → (before : List ℕ) {out : List ℕ} {n : ℕ} → length before ≡ 65536 → length out ≡ length before
-    → (n ≡ length (refusedLine number)) × (out ≡ outAfter (refusedLine number) before) → Made (refusal number) 0 n out
+pub refusal-made : (number : ℕ) → number < 0x1_0000_0000 → (before : List ℕ) {out : List ℕ} {n : ℕ} → length before ≡ 65536
+    → length out ≡ length before → (n ≡ length (refusedLine number)) × (out ≡ outAfter (refusedLine number) before) → Made (refusal number) 0 n out
 unfolding refusal
 refusal-made number fits before {out} {n} long same line =
     let made = refusedLine number in
@@ -30,7 +30,10 @@ refusal-made number fits before {out} {n} long same line =
       message-is =
           record {
             within = omega (arith, line .0);
-            front-is = ap (λ (k : ℕ). take k out) (line .0) ∙ ap (take (length made)) written ∙ take-at made (drop (length made) before) (length made) refl;
+            front-is =
+                ap (λ (k : ℕ). take k out) (line .0)
+                ∙ ap (take (length made)) written
+                ∙ take-at made (drop (length made) before) (length made) refl;
           };
     }
 
@@ -40,7 +43,8 @@ unfolding unreadable
 unreadable-made {out} long e line = record { output-is = nothing out; message-is = record { within = omega arith; front-is = line } }
 
 -- where the outputs are known
-made-as : {outputs other : Outputs} → outputs ≡ other → {output message : ℕ} {out : List ℕ} → Made other output message out → Made outputs output message out
+made-as : {outputs other : Outputs} → outputs ≡ other → {output message : ℕ} {out : List ℕ} → Made other output message out
+    → Made outputs output message out
 made-as e {output} {message} {out} m = subst (λ (o : Outputs). Made o output message out) (sym e) m
 
 -- a list at a place
@@ -70,7 +74,8 @@ module _ (T H : ℕ) (list : List ℕ) {output message : ℕ} {out : List ℕ} w
 
 -- the file of a list
 pub file-made : {T H : ℕ} (list : List ℕ) → T ≤ 83 → H ≤ 1 → (length list ≡ 0 → ⊥) → cellCount list ≤ 131072 → {count : ℕ} {packed : List ℕ}
-    → count ≡ cellCount list → packed ≡ written list → {n : ℕ} {out : List ℕ} → AtFront (fileWith T H count packed) n out → Made (outputsOf T H list) n 0 out
+    → count ≡ cellCount list → packed ≡ written list → {n : ℕ} {out : List ℕ} → AtFront (fileWith T H count packed) n out
+    → Made (outputsOf T H list) n 0 out
 unfolding outputsOf
 file-made {T} {H} list track side some few {count} {packed} c p {n} {out} at =
     made-as
@@ -84,7 +89,8 @@ module _ (T H : ℕ) (ended : Bool) (list : List ℕ) {output message : ℕ} {ou
   unfolding outputsOfInput
   long-input h m = made-as (rw (lt-ltb 8192 (length list) h)) m
 
-  pub ended-input : length list ≤ 8192 → ended ≡ true → Made (outputsOf T H list) output message out → Made (outputsOfInput T H ended list) output message out
+  pub ended-input : length list ≤ 8192 → ended ≡ true → Made (outputsOf T H list) output message out
+      → Made (outputsOfInput T H ended list) output message out
   unfolding outputsOfInput
   ended-input h e m = made-as (rw (le-ltb 8192 (length list) h, e)) m
 
