@@ -63,7 +63,7 @@ fn data_reads_back() {
 #[test]
 fn two_bytes_for_the_check() {
     let list = list_of(0, 0, |_| [0xE5; 512]);
-    let check_at = 60 + 4 * 610 + 569;
+    let check_at = 60 + 4 * 612 + 571;
     assert_eq!(list[check_at - 1..=check_at + 1], [0xE5, 0xF7, 0x4E]);
     let check = check_word(&[&[0xA1, 0xA1, 0xA1, 0xFB][..], &[0xE5; 512]].concat()).to_be_bytes();
     for (two, bad) in [(check, false), ([check[0], check[1] ^ 1], true), ([0, 0], true)] {
