@@ -117,9 +117,13 @@ fn lent_cells_and_refusals() {
     }
     assert_eq!(write_track(&[], &mut []), Ok(0));
     for (list, count) in [(vec![0x4E; 8_192], 131_072), (vec![0xF7; 4_096], 131_072), (vec![0xF7; 4_095], 131_040)] {
-        assert_eq!(write_track_to_vec(&list).map(|written| (written.count, written.packed.len())), Ok((count, count / 8)));
+        assert_eq!(
+            write_track_to_vec(&list).map(|written| (written.count, written.packed.len())),
+            Ok((count, count / 8))
+        );
     }
-    for list in [vec![0x4E; 8_193], vec![0xF7; 4_097], [vec![0x4E; 8_191], vec![0xF7]].concat(), vec![0xF5; 1_000_000]] {
+    for list in [vec![0x4E; 8_193], vec![0xF7; 4_097], [vec![0x4E; 8_191], vec![0xF7]].concat(), vec![0xF5; 1_000_000]]
+    {
         assert_eq!(write_track_to_vec(&list), Err(Refusal::TooLongATrack));
         for room in [0, 16_384, 20_000] {
             let mut cells = vec![7; room];
