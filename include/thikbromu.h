@@ -175,8 +175,8 @@ uint32_t thikbromu_encode(const uint8_t *bytes, size_t length, bool before, uint
 uint32_t thikbromu_decode(const uint8_t *cells, size_t length, uint8_t *bytes, size_t room, size_t *value);
 
 /* The controller's command Write Track (rules 9.63 and 17.1 to 17.9), which makes a track of a list of bytes. F5 gives the sync 4489 and F6 the
- * sync 5224, F7 gives the two check bytes, and every other byte is coded. The data bit before the list is 0. The check word is FFFF before the
- * list and before each F5 that has no F5 before it, and counts all that is written: A1 for F5, C2 for F6, both check bytes for F7. Gives the
+ * sync 5224, F7 gives the two check bytes, and every other byte is coded, the first one after a data bit 0. The check word is FFFF before the
+ * list and before each F5 that has no F5 before it. It goes over all bytes on the track, where F5 is an A1, F6 a C2 and F7 two bytes. Gives the
  * number of cells, 16 for each byte on the track, which stand packed at the front of `cells`; the bytes behind keep their contents. Refuses 20,
  * then 10 with the bytes that the cells need. */
 uint32_t thikbromu_write_track(const uint8_t *list, size_t length, uint8_t *cells, size_t room, size_t *value);

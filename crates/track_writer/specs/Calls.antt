@@ -14,7 +14,7 @@ use Rattle.track_writer.specs.WriteTrack.{written, cellCount}
 unfoldable pub judged : (cells room : ℕ) → Answer ℕ
 judged cells room = cond (ltb 131072 cells) (refused 20 0) (cond (ltb room (bytesFor cells)) (refused 10 (bytesFor cells)) (gives cells))
 
--- 17.8: the answer of the call
+-- 9.63, 17.8: the answer of the call
 abbrev pub writeAnswer : List ℕ → List ℕ → Answer ℕ
 writeAnswer list buffer = judged (cellCount list) (length buffer)
 

@@ -65,7 +65,7 @@ fn no_bytes_give_no_cells() {
 
 #[test]
 fn bytes_are_coded_and_commands_write_syncs() {
-    // The codings that the papers give; the data bit before the list is 0.
+    // The codings that the papers give, after a data bit 0.
     assert_eq!(words(&[0x4E]), [0x9254]);
     assert_eq!(words(&[0x00]), [0xAAAA]);
     assert_eq!(words(&[0xFF, 0x00]), [0x5555, 0x2AAA]);
