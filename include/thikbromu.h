@@ -77,6 +77,7 @@ enum thikbromu_refusal {
     THIKBROMU_REFUSED_NO_SUCH_REVOLUTION = 17,  /* the block has no such revolution; 0 */
     THIKBROMU_REFUSED_LENGTHS_DIFFER = 18,      /* two reads of a sector differ in length; 0 */
     THIKBROMU_REFUSED_NOT_A_SECTOR_LENGTH = 19, /* the reads have not 130, 258, 514 or 1,026 bytes; 0 */
+    THIKBROMU_REFUSED_TOO_LONG_A_TRACK = 20,    /* the cells of the list come to more than 131,072; 0 */
     THIKBROMU_REFUSED_TRACK_GIVEN_TWICE = 21,   /* a disk has the same track and side twice; 0 */
     THIKBROMU_REFUSED_TOO_MANY_TRACKS = 22,     /* a disk of more than 168 tracks; 0 */
     THIKBROMU_REFUSED_NO_PLAIN_IMAGE = 24,      /* the track has no plain image; the first number from 1 to 9 in the way, or 0 (rule 15.4) */
@@ -172,6 +173,13 @@ uint32_t thikbromu_encode(const uint8_t *bytes, size_t length, bool before, uint
 /* Decoding (rule 9.9). Two bytes of cells make a byte; where their number is odd, the last is passed over. Gives how many bytes it wrote to
  * the front of `bytes`. Refuses 14, 13. */
 uint32_t thikbromu_decode(const uint8_t *cells, size_t length, uint8_t *bytes, size_t room, size_t *value);
+
+/* The controller's command Write Track (rules 9.63 and 17.1 to 17.9), which makes a track of a list of bytes. F5 gives the sync 4489 and F6 the
+ * sync 5224, F7 gives the two check bytes, and every other byte is coded, the first one after a data bit 0. The check word is FFFF before the
+ * list and before each F5 that has no F5 before it. It goes over all bytes on the track, where F5 is an A1, F6 a C2 and F7 two bytes. Gives the
+ * number of cells, 16 for each byte on the track, which stand packed at the front of `cells`; the bytes behind keep their contents. Refuses 20,
+ * then 10 with the bytes that the cells need. */
+uint32_t thikbromu_write_track(const uint8_t *list, size_t length, uint8_t *cells, size_t room, size_t *value);
 
 /*
  * The separator of double density, from timings in nanoseconds to cells (rules 3.1 to 3.14). Its state is the residual r, which is 0 before

@@ -1,7 +1,7 @@
 /*
- * The numbers that docs/SPECIFICATION.md gives to know (rules 1.17, 2.4, 3.13, 3.14, 6.19, 11.10 and 14.10), a small track block, the plain image
- * of a track, the page of a disk, and a track of single density, through include/thikbromu.h: every routine is called, and every refusal is
- * given.
+ * The numbers that docs/SPECIFICATION.md gives to know (rules 1.17, 2.4, 3.13, 3.14, 6.19, 11.10, 14.10 and 17.10), a small track block, the plain
+ * image of a track, the page of a disk, and a track of single density, through include/thikbromu.h: every routine is called, and every refusal
+ * is given.
  * The argument is samples/standard.track. It compiles as C99 and as C++.
  */
 #include "thikbromu.h"
@@ -89,6 +89,78 @@ static void test_coding(void)
     EXPECT(thikbromu_check_word(mark, 3) == 0xCDB4);
     EXPECT(thikbromu_check_word(mark, 4) == 0xB230);
     EXPECT(thikbromu_check_word_from(0xCDB4, data_mark, 1) == 0xE295);
+}
+
+/* Fills bytes from `at` on, and gives the place behind them. */
+static size_t filled(uint8_t *list, size_t at, uint8_t byte, size_t count)
+{
+    memset(list + at, byte, count);
+    return at + count;
+}
+
+/* The list of the standard track, as rule 17.10 has it. */
+static size_t standard_list(uint8_t *list, uint8_t track, uint8_t side)
+{
+    size_t at = filled(list, 0, 0x4E, 60);
+    for (uint8_t number = 1; number <= 9; number++) {
+        at = filled(list, at, 0x00, 12);
+        at = filled(list, at, 0xF5, 3);
+        at = filled(list, at, 0xFE, 1);
+        at = filled(list, at, track, 1);
+        at = filled(list, at, side, 1);
+        at = filled(list, at, number, 1);
+        at = filled(list, at, 0x02, 1);
+        at = filled(list, at, 0xF7, 1);
+        at = filled(list, at, 0x4E, 22);
+        at = filled(list, at, 0x00, 12);
+        at = filled(list, at, 0xF5, 3);
+        at = filled(list, at, 0xFB, 1);
+        at = filled(list, at, 0xE5, 512);
+        at = filled(list, at, 0xF7, 1);
+        at = filled(list, at, 0x4E, 40);
+    }
+    return filled(list, at, 0x4E, 664);
+}
+
+/* Write Track: the standard track, each byte that is a command, and the refusals. */
+static void test_write_track(const uint8_t *cells)
+{
+    static uint8_t list[THIKBROMU_MOST_BYTES_TO_CODE + 1];
+    static uint8_t kept[THIKBROMU_MOST_CELL_BYTES];
+    size_t length = standard_list(list, 0, 0);
+    EXPECT(length == 6232);
+    memset(room, 77, sizeof room);
+    GIVES(thikbromu_write_track(list, length, room, sizeof room, &value), TRACK_CELLS);
+    EXPECT(memcmp(room, cells, TRACK_BYTES) == 0 && room[TRACK_BYTES] == 77 && room[sizeof room - 1] == 77);
+    GIVES(thikbromu_write_track(list, length, room, TRACK_BYTES, &value), TRACK_CELLS);
+    REFUSES(thikbromu_write_track(list, length, room, TRACK_BYTES - 1, &value), NO_ROOM, TRACK_BYTES);
+
+    /* The check word of three syncs and FE is B230; then both its bytes count, and 0000 comes of that. */
+    const uint8_t commands[8] = {0xF6, 0xF5, 0xF5, 0xF5, 0xFE, 0xF7, 0xF7, 0x80};
+    const uint8_t bytes[6] = {0xFE, 0xB2, 0x30, 0x00, 0x00, 0x80};
+    uint8_t made[22];
+    memset(made, 77, sizeof made);
+    GIVES(thikbromu_write_track(commands, 8, made, sizeof made, &value), 160);
+    EXPECT(made[0] == 0x52 && made[1] == 0x24 && made[2] == 0x44 && made[3] == 0x89);
+    EXPECT(memcmp(made + 2, made + 4, 4) == 0 && made[20] == 77 && made[21] == 77);
+    uint8_t after[12];
+    GIVES(thikbromu_encode(bytes, 6, true, after, sizeof after, &value), 12);
+    EXPECT(memcmp(made + 8, after, sizeof after) == 0);
+    GIVES(thikbromu_write_track(nothing, 0, made, 0, &value), 0);
+
+    /* 8,192 bytes on the track are the most; F7 makes two. Too many are judged before the room, and nothing is written. */
+    memset(list, 0x4E, sizeof list);
+    memset(room, 77, sizeof room);
+    memset(kept, 77, sizeof kept);
+    REFUSES(thikbromu_write_track(list, 8193, room, 0, &value), TOO_LONG_A_TRACK, 0);
+    REFUSES(thikbromu_write_track(list, 8192, room, 16383, &value), NO_ROOM, 16384);
+    list[8191] = 0xF7;
+    REFUSES(thikbromu_write_track(list, 8192, room, sizeof room, &value), TOO_LONG_A_TRACK, 0);
+    EXPECT(memcmp(room, kept, sizeof room) == 0);
+    GIVES(thikbromu_write_track(list, 8191, room, sizeof room, &value), 131056);
+    EXPECT(room[16382] == 77 && room[16383] == 77);
+    list[8190] = 0xF7;
+    GIVES(thikbromu_write_track(list, 8191, room, sizeof room, &value), 131072);
 }
 
 /* A step of a row of rule 3.13 or 3.18, from a residual: its cells, its offset, and the next residual. */
@@ -942,6 +1014,7 @@ int main(int count, char **arguments)
     test_portions();
     test_standard_track(file + BEFORE_CELLS);
     test_sector_image(file + BEFORE_CELLS);
+    test_write_track(file + BEFORE_CELLS);
     test_two_reads();
     test_findings(file + BEFORE_CELLS);
     test_records(file + BEFORE_CELLS);

@@ -91,6 +91,7 @@ extern "C" {
         value: *mut usize,
     ) -> u32;
     fn thikbromu_decode(cells: *const u8, length: usize, bytes: *mut u8, room: usize, value: *mut usize) -> u32;
+    fn thikbromu_write_track(list: *const u8, length: usize, cells: *mut u8, room: usize, value: *mut usize) -> u32;
     fn thikbromu_step(residual: *mut i32, timing: u32, offset: *mut i32, value: *mut usize) -> u32;
     fn thikbromu_separate(
         timings: *const u32,
@@ -373,6 +374,18 @@ pub fn encode(bytes: &[u8], before: bool, cells: &mut [u8]) -> Result<usize, Ref
 pub fn decode(cells: &[u8], bytes: &mut [u8]) -> Result<usize, Refusal> {
     // SAFETY: each address and length are those of one slice; `bytes` and `value` are lent to this call alone.
     answer(|value| unsafe { thikbromu_decode(cells.as_ptr(), cells.len(), bytes.as_mut_ptr(), bytes.len(), value) })
+}
+
+/// The controller's command Write Track (rules 9.63 and 17.1 to 17.9): F5 gives the sync 4489 and F6 the sync 5224, F7 gives the two check bytes,
+/// and every other byte is coded. The check word counts all bytes from the first F5 of the last run of them on, or from the start of the list
+/// where there is none. Gives the number of cells, 16 for each byte on the track, which stand packed at the front of `cells`; the bytes behind
+/// keep their contents.
+///
+/// Refuses [`TooLongATrack`](Refusal::TooLongATrack), [`NoRoom`](Refusal::NoRoom).
+#[inline]
+pub fn write_track(list: &[u8], cells: &mut [u8]) -> Result<usize, Refusal> {
+    // SAFETY: each address and length are those of one slice; `cells` and `value` are lent to this call alone.
+    answer(|value| unsafe { thikbromu_write_track(list.as_ptr(), list.len(), cells.as_mut_ptr(), cells.len(), value) })
 }
 
 /// A step of the separator (rules 9.5 and 9.37) on a residual that is lent: it becomes the next one. Gives the number of cells, of which

@@ -38,9 +38,10 @@ mod track;
 mod track_block;
 mod track_file;
 mod two_reads;
+mod writing;
 
 #[doc(inline)]
-pub use boundary::{check_word, check_word_from, clear, decode, encode, put_one, SECTOR_IMAGE_BYTES};
+pub use boundary::{check_word, check_word_from, clear, decode, encode, put_one, write_track, SECTOR_IMAGE_BYTES};
 pub use coding::{decode_to_vec, encode_to_vec, MOST_BYTES_TO_CODE, MOST_BYTES_TO_DECODE};
 pub use density::Density;
 pub use disk::{disk_page, MOST_TRACKS};
@@ -57,3 +58,4 @@ pub use track::{
 pub use track_block::{RevolutionReader, TakenPortion, TrackBlock};
 pub use track_file::{TrackCells, TrackFile, LONGEST_FILE, LONGEST_LISTING};
 pub use two_reads::{compare_reads, good_read, CHECK_BYTES, LONGEST_READ};
+pub use writing::{write_track_to_vec, WrittenTrack};

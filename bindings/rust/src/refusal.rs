@@ -44,6 +44,8 @@ pub enum Refusal {
     LengthsDiffer,
     /// 19: the reads have not 130, 258, 514 or 1,026 bytes (rule 14.2).
     NotASectorLength,
+    /// 20: the cells of the list come to more than 131,072 (rule 17.8).
+    TooLongATrack,
     /// 21: a disk has the same track and side twice (rule 16.5).
     TrackGivenTwice,
     /// 22: a disk of more than 168 tracks (rule 16.3).
@@ -56,7 +58,7 @@ pub enum Refusal {
 }
 
 impl Refusal {
-    /// Its number: 1 to 19, 21, 22, 24 or 25.
+    /// Its number: 1 to 22, 24 or 25.
     pub const fn number(self) -> u32 {
         match self {
             Refusal::TrackOrSide => 1,
@@ -78,6 +80,7 @@ impl Refusal {
             Refusal::NoSuchRevolution => 17,
             Refusal::LengthsDiffer => 18,
             Refusal::NotASectorLength => 19,
+            Refusal::TooLongATrack => 20,
             Refusal::TrackGivenTwice => 21,
             Refusal::TooManyTracks => 22,
             Refusal::NoPlainImage(_) => 24,
@@ -108,6 +111,7 @@ impl Refusal {
             | Refusal::NoSuchRevolution
             | Refusal::LengthsDiffer
             | Refusal::NotASectorLength
+            | Refusal::TooLongATrack
             | Refusal::TrackGivenTwice
             | Refusal::TooManyTracks
             | Refusal::NotTheirFindings => 0,
@@ -149,6 +153,7 @@ impl TryFrom<(u32, usize)> for Refusal {
             (17, 0) => Refusal::NoSuchRevolution,
             (18, 0) => Refusal::LengthsDiffer,
             (19, 0) => Refusal::NotASectorLength,
+            (20, 0) => Refusal::TooLongATrack,
             (21, 0) => Refusal::TrackGivenTwice,
             (22, 0) => Refusal::TooManyTracks,
             (24, _) => Refusal::NoPlainImage(value),
@@ -181,6 +186,7 @@ impl fmt::Display for Refusal {
             Refusal::NoSuchRevolution => write!(out, "the track block lacks that revolution"),
             Refusal::LengthsDiffer => write!(out, "the two reads differ in length"),
             Refusal::NotASectorLength => write!(out, "the reads have not 130, 258, 514 or 1,026 bytes"),
+            Refusal::TooLongATrack => write!(out, "the list makes more than 131,072 cells"),
             Refusal::TrackGivenTwice => write!(out, "a track and side stands twice"),
             Refusal::TooManyTracks => write!(out, "more than 168 tracks"),
             Refusal::NoPlainImage(0) => write!(out, "no plain image: there is a sector besides 1 to 9"),
@@ -209,8 +215,8 @@ mod tests {
     #[test]
     fn numbers_and_values_are_those_of_the_table() {
         // The refusals beside which 0 is given.
-        let without_value = [1, 6, 12, 15, 16, 17, 18, 19, 21, 22, 25];
-        for number in (1..=19).chain([21, 22, 24, 25]) {
+        let without_value = [1, 6, 12, 15, 16, 17, 18, 19, 20, 21, 22, 25];
+        for number in (1..=22).chain([24, 25]) {
             for value in [0, 7] {
                 let refusal = Refusal::try_from((number, value));
                 if value != 0 && without_value.contains(&number) {
@@ -224,7 +230,7 @@ mod tests {
 
     #[test]
     fn other_numbers_are_no_refusals() {
-        for number in [0, 20, 23, 26, u32::MAX] {
+        for number in [0, 23, 26, u32::MAX] {
             assert_eq!(Refusal::try_from((number, 0)), Err(NotARefusal { number, value: 0 }));
         }
     }

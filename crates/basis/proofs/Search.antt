@@ -3,12 +3,14 @@ use Prim.Native.Nat.{ℕ, zero, suc, _+_, _-_, _*_, _/_, _%_, _≤_, _<_}
 use mathlib.Core.Path.{_≡_, refl, sym, ap, _∙_}
 use mathlib.Core.Bool.{Bool, true, false, cond, _||_}
 use mathlib.Core.Logic.{⊎-elim}
-use native.Mathlib.Nat.{eq-or-lt-of-le, zero-add, add-zero, add-mul, mod-lt, div-add-mod', le-trans, le-max-left, le-max-right}
+use native.Mathlib.Decide.{decLe, ℕ-discrete}
+use native.Mathlib.Nat.{eq-or-lt-of-le, lt-of-not-le, zero-add, add-zero, add-mul, mod-lt, div-add-mod', le-trans, max-le, le-max-left, le-max-right}
 use native.Mathlib.Numerals.{add-one}
 use native.Mathlib.Omega.{arith}
 use borrow.Author.Tests.{lt-ltb, le-ltb}
 use lib.Dec.{ltb}
 use Rattle.basis.specs.Search.{least, count, most}
+use Rattle.basis.proofs.Bools.{never-both}
 
 -- nothing before the least passes the test
 pub least-before : (test : ℕ → Bool) (k p q : ℕ) → p ≤ q → q < least test k p → test q ≡ false
@@ -155,6 +157,23 @@ least-round test n again (suc k) p =
     go true = refl
     go false = refl
 
+-- a place that passes bounds the least from above, and one that does not, where the search begins, from below
+pub least-le : (test : ℕ → Bool) (k p q : ℕ) → p ≤ q → test q ≡ true → least test k p ≤ q
+least-le test k p q h e = go (decLe (least test k p) q)
+  where
+    go : Dec (least test k p ≤ q) → least test k p ≤ q
+    go (yes l) = l
+    go (no l) = absurd (never-both (test q) e (least-before test k p q h (lt-of-not-le l)))
+
+pub least-past : (test : ℕ → Bool) (k p : ℕ) → 0 < k → test p ≡ false → p + 1 ≤ least test k p
+least-past test k p h e = go (ℕ-discrete (least test k p) p) (least-low test k p)
+  where
+    go : Dec (least test k p ≡ p) → p ≤ least test k p → p + 1 ≤ least test k p
+    go (yes s) l =
+        let t : test (least test k p) ≡ true = least-found test k p (omega arith) in
+        absurd (never-both (test p) (ap test (sym s) ∙ t) e)
+    go (no s) l = omega arith
+
 -- no more places pass than there are
 pub count-few : (test : ℕ → Bool) (k p : ℕ) → count test k p ≤ k
 unfolding count
@@ -164,6 +183,12 @@ count-few test (suc k) p = go (test p) (count-few test k (p + 1))
     go : (b : Bool) → count test k (p + 1) ≤ k → cond b 1 0 + count test k (p + 1) ≤ suc k
     go true more = omega arith
     go false more = omega arith
+
+-- a count of places of which none passes
+pub count-none : (test : ℕ → Bool) (k p : ℕ) → ((q : ℕ) → p ≤ q → q < p + k → test q ≡ false) → count test k p ≡ 0
+unfolding count
+count-none test zero p h = refl
+count-none test (suc k) p h = rw (h p (omega arith) (omega arith), zero-add) (count-none test k (p + 1) (λ q a b. h q (omega arith) (omega arith)))
 
 -- a loop from p up to q that counts from one place that passes to the next: a turn, and the end
 module _ (test : ℕ → Bool) (q : ℕ) where
@@ -197,3 +222,9 @@ most-above g (suc k) p q h l =
     (λ e. rw (← e) (le-max-left (g p) (most g k (p + 1))))
     (λ e. le-trans (most-above g k (p + 1) q (omega arith) (omega arith)) (le-max-right (g p) (most g k (p + 1))))
     (eq-or-lt-of-le h)
+
+-- a bound of all numbers bounds the largest
+pub most-le : (g : ℕ → ℕ) (k p m : ℕ) → ((q : ℕ) → g q ≤ m) → most g k p ≤ m
+unfolding most
+most-le g zero p m h = omega arith
+most-le g (suc k) p m h = max-le (h p) (most-le g k (p + 1) m h)

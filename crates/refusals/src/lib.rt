@@ -42,6 +42,8 @@ pub enum Refusal {
     LengthsDiffer,
     // 19: the length of the reads is that of no sector.
     NotASectorLength,
+    // 20: the cells of the list come to more than 131,072.
+    TooLongATrack,
     // 21: a track and side is given twice.
     TrackGivenTwice,
     // 22: more than 168 tracks.
@@ -83,6 +85,7 @@ impl Refusal {
             Refusal::NoSuchRevolution => 17,
             Refusal::LengthsDiffer => 18,
             Refusal::NotASectorLength => 19,
+            Refusal::TooLongATrack => 20,
             Refusal::TrackGivenTwice => 21,
             Refusal::TooManyTracks => 22,
             Refusal::NoPlainImage(_) => 24,
@@ -114,6 +117,7 @@ impl Refusal {
             Refusal::NoSuchRevolution => 0,
             Refusal::LengthsDiffer => 0,
             Refusal::NotASectorLength => 0,
+            Refusal::TooLongATrack => 0,
             Refusal::TrackGivenTwice => 0,
             Refusal::TooManyTracks => 0,
             Refusal::NoPlainImage(number) => number,

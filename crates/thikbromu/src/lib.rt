@@ -12,6 +12,7 @@ mod files;
 mod images;
 mod reads;
 mod single_density;
+mod writing;
 
 pub use blocks::thikbromu_revolution_cells;
 pub use blocks::thikbromu_revolution_portion;
@@ -35,6 +36,7 @@ use telling::sector_numbers;
 use telling::told;
 use telling::told_read;
 use telling::told_step;
+pub use writing::thikbromu_write_track;
 ghost use mathlib.Core.Path.{_≡_};
 ghost use mathlib.Core.Bool.{cond};
 ghost use Prim.Native.Nat.{_/_};

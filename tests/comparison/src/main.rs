@@ -25,6 +25,8 @@ mod single_density;
 mod terms;
 mod track_cells;
 mod two_reads;
+mod writing;
+mod writing_program;
 
 use report::Report;
 use std::collections::BTreeMap;
@@ -35,7 +37,7 @@ use std::thread;
 type Part = fn(&mut Report);
 
 /// The parts, by their modules. The long ones come first, so that no worker is left alone with one at the end.
-const PARTS: [(&str, Part); 64] = [
+const PARTS: [(&str, Part); 70] = [
     ("files", files::in_memory),
     ("findings", findings::any_tracks),
     ("sectors", sectors::standard),
@@ -63,6 +65,9 @@ const PARTS: [(&str, Part); 64] = [
     ("sector_image", sector_image::planned),
     ("disk_page", disk_page::disks),
     ("disk_page", disk_page::of_tracks),
+    ("writing", writing::lists),
+    ("writing", writing::read_back),
+    ("writing_program", writing_program::whole_lists),
     ("blocks", blocks::timings),
     ("blocks", blocks::short_rooms),
     ("two_reads", two_reads::pairs),
@@ -100,6 +105,9 @@ const PARTS: [(&str, Part); 64] = [
     ("block_program", block_program::standard_track_from_index),
     ("block_program", block_program::failing_inputs),
     ("block_program", block_program::system),
+    ("writing_program", writing_program::portions),
+    ("writing_program", writing_program::failing_inputs),
+    ("writing_program", writing_program::arguments),
 ];
 
 fn main() {

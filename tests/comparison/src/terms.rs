@@ -31,6 +31,7 @@ fn refusal(ours: thikbromu::Refusal) -> Refusal {
         Ours::NoSuchRevolution => Refusal::no_such_revolution(),
         Ours::LengthsDiffer => Refusal::reads_differ_in_length(),
         Ours::NotASectorLength => Refusal::no_length_of_a_read(),
+        Ours::TooLongATrack => Refusal::too_many_cells_to_write(),
         Ours::TrackGivenTwice => Refusal::place_given_twice(),
         Ours::TooManyTracks => Refusal::too_many_tracks(),
         // The second program has a byte there: another number shows as a difference.
@@ -97,6 +98,7 @@ pub fn tables(report: &mut Report) {
         Refusal::no_such_revolution(),
         Refusal::reads_differ_in_length(),
         Refusal::no_length_of_a_read(),
+        Refusal::too_many_cells_to_write(),
         Refusal::place_given_twice(),
         Refusal::too_many_tracks(),
         Refusal::no_plain_image(7),

@@ -6,9 +6,12 @@
 //! number 66 besides the sectors, where these are nine or ten, and no data behind them. Such a track is refused with 24 and 0, and has its
 //! image as soon as these IDs are gone.
 //!
+//! The other way round, tracks that Write Track makes of such sectors are held to those that floptool makes (module `written`).
+//!
 //! The argument is a folder for the files. The last line is 'N passed, M failed'; the exit status is 1 where something failed.
 
 mod mfm_file;
+mod written;
 
 use mfm_file::MfmFile;
 use std::fs;
@@ -45,6 +48,9 @@ const DISKS: [Disk; 13] = [
     disk("st", 80, 1, 11),
     disk("st", 82, 2, 11),
 ];
+
+/// The disks whose sectors Write Track writes too: it gives the standard track, of nine sectors.
+const WRITTEN: [Disk; 4] = [disk("pc", 80, 2, 9), disk("ql", 80, 2, 9), disk("adam", 80, 2, 9), disk("smx", 80, 2, 9)];
 
 /// The number of the IDs that floptool writes besides.
 const BESIDES: u8 = 66;
@@ -107,6 +113,21 @@ fn main() {
         };
         let (good, bad) = (counts.passed, counts.failed);
         println!("{}: {} bytes, {images} images, {good} passed, {bad} failed.", disk.name(), bytes.len());
+        passed += good;
+        failed += bad;
+    }
+    for disk in WRITTEN {
+        let bytes = written::plain_bytes(&mut random, disk.bytes());
+        let mut counts = Counts::default();
+        let same = match cells_by_floptool(Path::new(&folder), &disk, &bytes) {
+            Ok(file) => written::compare(&mut counts, &disk, &bytes, &file),
+            Err(reason) => {
+                counts.expect(false, || format!("{}: {reason}", disk.name()));
+                0
+            }
+        };
+        let (good, bad) = (counts.passed, counts.failed);
+        println!("{}: {same} tracks with the fields that Write Track writes, {good} passed, {bad} failed.", disk.name());
         passed += good;
         failed += bad;
     }

@@ -1,11 +1,12 @@
-//! Writes the track files and the track block of samples/ into the folder that its argument names, the listing of the track of single density,
-//! which no program of the library lists, and the page of the disk. samples/README.md says what each shows.
+//! Writes the track files and the track block of samples/ into the folder that its argument names, the list of the standard track, the listing of
+//! the track of single density, which no program of the library lists, and the page of the disk. samples/README.md says what each shows.
 
 use second_program::cells;
 use second_program::check_word::check_word;
 use second_program::disk_page::disk_page;
 use second_program::findings::{self, Finding};
 use second_program::single_density::{self, DELETED_DATA_MARK, ID_MARK};
+use second_program::write_track::standard_list;
 use std::path::Path;
 use test_inputs::block_inputs::standard_track_block;
 use test_inputs::file_inputs::{file_of_cells, file_of_timings};
@@ -295,6 +296,8 @@ fn main() {
     }
     write("disk.page", page_of(&disk));
     write("single-density.fm-listing", single_density_listing(&single_density).into_bytes());
+    // What Write Track makes the standard track of.
+    write("standard.list", standard_list(0, 0, &[[0xE5; 512]; 9]));
     // Two revolutions of the standard track, each with shifts of its own.
     write("standard-two-revolutions.block", standard_track_block(1, 0, 0, 0xE5, 2).bytes());
 }

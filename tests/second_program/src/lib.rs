@@ -22,3 +22,4 @@ pub mod single_density;
 pub mod track_block;
 pub mod track_file;
 pub mod two_reads;
+pub mod write_track;

@@ -138,6 +138,11 @@ impl Refusal {
         Refusal::new(19, 0)
     }
 
+    /// 20: the list to write gives too many cells. Beside it: 0.
+    pub fn too_many_cells_to_write() -> Refusal {
+        Refusal::new(20, 0)
+    }
+
     /// 21: a track and side are given twice. Beside it: 0.
     pub fn place_given_twice() -> Refusal {
         Refusal::new(21, 0)
@@ -187,6 +192,7 @@ mod tests {
             (Refusal::no_such_revolution(), 17, 0),
             (Refusal::reads_differ_in_length(), 18, 0),
             (Refusal::no_length_of_a_read(), 19, 0),
+            (Refusal::too_many_cells_to_write(), 20, 0),
             (Refusal::place_given_twice(), 21, 0),
             (Refusal::too_many_tracks(), 22, 0),
             (Refusal::no_plain_image(0), 24, 0),

@@ -15,11 +15,13 @@ pub struct Function {
 }
 
 /// Programs have no public function. These make their promises.
-const OF_PROGRAMS: [(&str, &str); 6] = [
+const OF_PROGRAMS: [(&str, &str); 8] = [
     ("track_listing", "list_input"),
     ("st_track", "image_input"),
     ("disk_listing", "take_file"),
     ("disk_listing", "gather"),
+    ("write_track", "read_place"),
+    ("write_track", "write_input"),
     ("scp_track", "read_choice"),
     ("scp_track", "list_input"),
 ];

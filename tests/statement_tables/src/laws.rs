@@ -108,6 +108,19 @@ pub const LAWS: &[Law] = &[
     ("16.20", "disk_laws/proofs/Library", &["never-amiss"]),
     ("16.21", "disk_laws/proofs/Order", &["ordered"]),
     ("16.22", "disk_laws/proofs/LastLine", &["last-line"]),
+    ("17.4", "track_writer/proofs/PlainLists", &["as-encoded"]),
+    (
+        "17.11",
+        "standard_track/proofs/Theorems",
+        &["no-findings", "only-ext"],
+    ),
+    ("17.12", "standard_track/proofs/Theorems", &["any-data"]),
+    (
+        "17.13",
+        "standard_track/proofs/Theorems",
+        &["chosen-check", "sbd-exactly"],
+    ),
+    ("17.14", "standard_track/proofs/Theorems", &["reads-back"]),
     ("16.25", "disk_page/proofs/Parts", &["parts-are-page"]),
 ];
 
@@ -141,6 +154,11 @@ pub const EXCEPTIONS: &[(&str, &str)] = &[
     ("16.20", "a theorem of the definitions, for no code"),
     ("16.21", "a theorem of the definitions, for no code"),
     ("16.22", "a theorem of the definitions, for no code"),
+    ("17.10", "a theorem of the definitions, for no code"),
+    ("17.11", "a theorem of the definitions, for no code"),
+    ("17.12", "a theorem of the definitions, for no code"),
+    ("17.13", "a theorem of the definitions, for no code"),
+    ("17.14", "a theorem of the definitions, for no code"),
 ];
 
 pub fn parsed(rule: &str) -> Number {

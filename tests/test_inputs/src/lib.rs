@@ -18,3 +18,4 @@ pub mod single_density_flux;
 pub mod single_density_tracks;
 pub mod size_code_tracks;
 pub mod track_builder;
+pub mod write_lists;

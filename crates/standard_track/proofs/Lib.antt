@@ -1,0 +1,10 @@
+pub mod Lawful
+pub mod Gaps
+pub mod PieceCells
+pub mod Round
+pub mod Pieces
+pub mod ListPieces
+pub mod Marks
+pub mod Sectors
+pub mod Findings
+pub mod Theorems

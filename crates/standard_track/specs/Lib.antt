@@ -1,0 +1,2 @@
+pub mod StandardTrack
+pub mod Claims
