@@ -1,5 +1,5 @@
 -- `write_track::main` meets its contract: it is safe, and it ends. Assumes nothing but the contracts of the system's calls.
-use mathlib.Core.Path.{sym}
+use mathlib.Core.Path.{refl, sym}
 use lib.Seq.{length-take-le}
 use borrow.Author.Needs.{needs}
 use Rattle.write_track.proofs.main.Statement.{statement}
@@ -42,7 +42,7 @@ slice-aggregate-write-input-3 : tie.Need-slice-aggregate-write-input-3
 slice-aggregate-write-input-3 c = search needs
 
 write-input-requires : tie.Need-write-input-requires
-write-input-requires c κs = search needs
+write-input-requires c κs = (refl, refl, sym (c .before .before .before .large-buffer .ensures))
 
 array-share-prefix-out : tie.Need-array-share-prefix-out
 array-share-prefix-out c = search needs
