@@ -173,6 +173,11 @@ module _ (block : List ℕ) (revolutions k : ℕ) where
     unfolding borderPulsesAfter blockJudged timingsJudged
     pulses-counted {count} e pulses a is =
         let judged = chain-judged bad (ltb k revolutions) (eqb (length ts) 0) (ltb 65536 (length ts)) (ltb (firstOut ts) (length ts)) (length ts) (firstOut ts)
-        (roomJudged (length ts) (length list)) count (sym e) (gives (borderPulsesOf ts)) in
-        (e, (f, is (borderPulsesOf ts) (a ∙ ap borderPulsesCounted (front-is list e f) ∙ judged)
-        ∙ ap (λ (x : Answer ℕ). borderPulsesAfter x (borderPulsesOf ts) pulses) e))
+        (roomJudged (length ts) (length list)) count (sym e) (gives (borderPulsesOf ts)) in (
+          e,
+          (
+            f,
+            is (borderPulsesOf ts) (a ∙ ap borderPulsesCounted (front-is list e f) ∙ judged)
+                ∙ ap (λ (x : Answer ℕ). borderPulsesAfter x (borderPulsesOf ts) pulses) e,
+          ),
+        )

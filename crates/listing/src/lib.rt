@@ -20,9 +20,7 @@ pub fn list_track(bytes: &[u8], n: usize, track: u32, side: u32, out: &mut [u8])
     let found = findings::findings_as_numbers(bytes, n, track, side, &mut numbers);
     let answer = found.answer;
     match answer {
-        Counted::Refused(refusal) => {
-            lines::refused_line(out, refusal.number())
-        }
+        Counted::Refused(refusal) => { lines::refused_line(out, refusal.number()) }
         Counted::Count(count) => {
             let sectors = found.sectors as u32;
             let at = lines::header(out, track, side, n as u32, sectors, count as u32);
