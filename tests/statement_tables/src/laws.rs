@@ -60,7 +60,6 @@ pub const LAWS: &[Law] = &[
         "finding_list/proofs/SingleDensity",
         &["no-nsi", "no-nsd"],
     ),
-    ("10.8", "whole_file/proofs/Laws", &["as-separated"]),
     ("11.7", "listing/proofs/Laws", &["never-five"]),
     (
         "11.9",
