@@ -1,5 +1,5 @@
 -- Section 18 of the specification: the old flux file as its bytes come: what one byte does to the reader and to the cell buffer. The main
--- property: the reader keeps the section it is in and the counts, and no timings and no file (rule 18.8). Assumes nothing.
+-- property: the reader keeps the section it is in and the counts, and no timings and no file (rule 18.9). Assumes nothing.
 use Prim.Native.Nat.{ℕ, _-_}
 use mathlib.Core.Bool.{cond}
 use mathlib.Core.List.{List}
@@ -62,12 +62,12 @@ readerAfterByte (AllTimings place taken) byte = NotATrackFile
 readerAfterByte NotATrackFile byte = NotATrackFile
 readerAfterByte (Stopped refusal) byte = Stopped refusal
 
--- 18.8: the buffer after a byte of a timing: its cells are put with its last byte
+-- 18.9: the buffer after a byte of a timing: its cells are put with its last byte
 unfoldable pub inTimingCells : TakenTimings → Extended → List ℕ → List ℕ
 inTimingCells taken (Part number) buffer = buffer
 inTimingCells taken (Whole t) buffer = takenCells taken t buffer
 
--- 18.8: the buffer after a byte: cells of a timing are put by the separator's step, and no other byte changes it
+-- 18.9: the buffer after a byte: cells of a timing are put by the separator's step, and no other byte changes it
 unfoldable pub cellsAfterByte : FluxReader → ℕ → List ℕ → List ℕ
 cellsAfterByte (PlaceCount number) byte buffer = buffer
 cellsAfterByte Track byte buffer = buffer
