@@ -16,12 +16,12 @@ use Rattle.flux_file.specs.FluxFile.{timings, fluxAnswer}
 use Rattle.flux_conversion.specs.Conversion.{newFile}
 use Rattle.conversion_laws.specs.OldListing.{oldAnswer, oldCells, borderPulsesLine, oldListing}
 
--- 18.6: an answer of the old reader where no cells are refused with 2
+-- 18.16: what the old reader gave, but that no cells are refused with 2
 unfoldable pub withoutNoCells : Answer Content → Answer Content
 withoutNoCells (gives content) = cond (eqb (content .cells) 0) (refused 2 0) (gives content)
 withoutNoCells (refused number value) = refused number value
 
--- 8.1: a place that no track has
+-- 18.16: a place that no track has: T above 83 or H above 1
 abbrev pub outside : (T H : ℕ) → Bool
 outside T H = ltb 83 T || ltb 1 H
 
