@@ -7,24 +7,28 @@ use mathlib.Core.List.{List, _++_}
 use native.Mathlib.Decide.{decLe, ℕ-discrete}
 use native.Mathlib.Nat.{lt-of-not-le}
 use native.Mathlib.Omega.{arith}
-use borrow.Author.Tests.{le-ltb, lt-leb, le-leb, eq-eqb, ne-eqb, eqb-true, eqb-false}
+use borrow.Author.Tests.{le-ltb, ltb-false, lt-leb, le-leb, eq-eqb, ne-eqb, eqb-true, eqb-false}
 use lib.Dec.{eqb, leb, ltb}
-use lib.ListN.{length, drop, replicate, length-drop}
+use lib.ListN.{length, drop, replicate, length-append, length-drop}
 use Rattle.basis.specs.Bytes.{number}
 use Rattle.basis.specs.Lists.{writtenOver}
-use Rattle.basis.proofs.Bools.{and-false}
+use Rattle.basis.proofs.Bools.{and-false, never-both}
 use Rattle.cells.specs.CellsAndBytes.{bytesFor, packed}
 use Rattle.cells.proofs.Packing.{length-packed}
 use Rattle.file_listing.specs.ListingOfFile.{printedFile, fileListing}
 use Rattle.finding_list.specs.Findings.{findingsOf}
+use Rattle.finding_list.proofs.Outcome.{findings-few}
 use Rattle.findings.specs.Calls.{findingsAnswer}
 use Rattle.flux_timings.specs.Timings.{firstOut, timingsJudged}
 use Rattle.layouts.specs.Layouts.{doubleDensity}
+use Rattle.layouts.specs.declared.Density.the-variants.{Double}
+use Rattle.layouts.proofs.Soundness.{sound}
 use Rattle.lines.specs.Lines.{headerOf, refusedLine}
 use Rattle.listing.specs.Listing.{linesOf, printed, listingOf}
 use Rattle.refusals.specs.RefusedCalls.{Answer}
 use Rattle.refusals.specs.RefusedCalls.Answer.{gives, refused}
-use Rattle.sectors.specs.Calls.{trackJudged}
+use Rattle.sector_records.specs.Sectors.{sectorsOf}
+use Rattle.sectors.specs.Calls.{trackJudged, countJudged}
 use Rattle.separation.specs.Separation.{cellsOf, borderPulsesOf, cellsJudged, separation}
 use Rattle.taken_timings.proofs.TimingCells.{never}
 use Rattle.track_file.specs.TrackFile.{Content, trackOf, sideOf, cellSection, cellCount, packedBytes, hasCount, placeCountRefused, cellCountRefused, fileAnswer, fileAnswerIn, fileBuffer}
@@ -33,19 +37,47 @@ use Rattle.flux_file.specs.FluxFile.{numbers, fluxSection, fluxCount, timings, 
 use Rattle.flux_conversion.specs.Conversion.{newFile}
 use Rattle.flux_conversion.proofs.Accepted.{Accepts, accepts}
 use Rattle.conversion_laws.specs.OldListing.{oldTimings, oldFluxCountRefused, oldNotATrackFile, oldAnswer, oldCells, oldBuffer, borderPulsesLine, fluxListingOf, oldPrinted, oldListing}
-use Rattle.conversion_laws.specs.Claims.{withoutNoCells, outside, oldNumber, Alike, Converts, AsBefore}
+use Rattle.conversion_laws.specs.Claims.{withoutNoCells, outside, oldNumber, OfTrack, Alike, Converts, AsBefore}
+use Rattle.conversion_laws.specs.Claims.OfTrack.{one, two, four}
 use Rattle.conversion_laws.specs.Claims.Alike.{listed, refusedBoth}
 use Rattle.conversion_laws.proofs.SameAnswer.{none-counted, same-flux, same-answer}
 use Rattle.conversion_laws.proofs.NewAnswer.{reads, is-accepted}
 
--- the listing of a track with the line of its border pulses, and without it
-alike : (bytes : List ℕ) (N T H pulses : ℕ) → Alike pulses (fluxListingOf bytes N T H pulses) (listingOf bytes N T H)
-unfolding fluxListingOf listingOf printed
-alike bytes N T H pulses = go (findingsAnswer doubleDensity bytes N T H 901) (headerOf T H N _ _ ++ linesOf (findingsOf doubleDensity bytes N T))
+-- a track with all its bytes is refused with 1, 2 or 4 alone
+of-track : (bytes : List ℕ) (N T H : ℕ) → bytesFor N ≤ length bytes → (number value : ℕ) → findingsAnswer doubleDensity bytes N T H 901 ≡ refused number value
+    → OfTrack number
+unfolding findingsAnswer trackJudged countJudged
+of-track bytes N T H room number value =
+    let sectors = length (sectorsOf doubleDensity bytes N) in
+    let findings = length (findingsOf doubleDensity bytes N T) in
+    go sectors findings (outside T H) (ltb N 20000 || ltb 131072 N) (ltb (length bytes) (bytesFor N)) (ltb 64 sectors) (ltb 901 findings)
+    (le-ltb (length bytes) (bytesFor N) room)
+    (λ few. le-ltb 901 findings (findings-few doubleDensity (sound Double) bytes N T (ltb-false 64 sectors few)))
   where
-    go : (answer : Answer ℕ) (listing : List ℕ) → Alike pulses (printed answer (printed answer listing ++ borderPulsesLine pulses)) (printed answer listing)
-    go (gives count) listing = listed
-    go (refused number value) listing = refusedBoth number
+    same : {a x y z : ℕ} → OfTrack a → _≡_ {A = Answer ℕ} (refused a x) (refused y z) → OfTrack y
+    same {a} {x} {y} is e = let n : a ≡ y = cc in subst OfTrack n is
+
+    go : (sectors findings : ℕ) (a b c d e : Bool) → c ≡ false → (d ≡ false → e ≡ false)
+        → cond a (refused 1 0)
+        (cond b (refused 2 N) (cond c (refused 3 (bytesFor N)) (cond d (refused 4 sectors) (cond e (refused 5 findings) (gives findings)))))
+        ≡ refused number value → OfTrack number
+    go sectors findings true b c d e whole few is = same one is
+    go sectors findings false true c d e whole few is = same two is
+    go sectors findings false false true d e whole few is = absurd (never-both true refl whole)
+    go sectors findings false false false true e whole few is = same four is
+    go sectors findings false false false false true whole few is = absurd (never-both true refl (few refl))
+    go sectors findings false false false false false whole few is = never (sym is)
+
+-- the listing of a track with the line of its border pulses, and without it
+alike : (bytes : List ℕ) (N T H pulses : ℕ) → bytesFor N ≤ length bytes → Alike pulses (fluxListingOf bytes N T H pulses) (listingOf bytes N T H)
+unfolding fluxListingOf listingOf printed
+alike bytes N T H pulses room =
+    go (findingsAnswer doubleDensity bytes N T H 901) (headerOf T H N _ _ ++ linesOf (findingsOf doubleDensity bytes N T)) (of-track bytes N T H room)
+  where
+    go : (answer : Answer ℕ) (listing : List ℕ) → ((number value : ℕ) → answer ≡ refused number value → OfTrack number)
+        → Alike pulses (printed answer (printed answer listing ++ borderPulsesLine pulses)) (printed answer listing)
+    go (gives count) listing judged = listed
+    go (refused number value) listing judged = refusedBoth (judged number value refl)
 
 -- a file that is accepted
 old-given : (answer : Answer Content) (content : Content) → withoutNoCells answer ≡ gives content → answer ≡ gives content
@@ -124,7 +156,12 @@ module _ (file : List ℕ) (none : cellsRefused file ≡ false) (content : Conte
 
   pub accepted-listed : Alike (borderPulsesOf (timings file)) (oldListing file) (fileListing 16384 (newFile file))
   accepted-listed =
-      rw (old-listing, new-listing) (alike buffer (content .cells) (content .track) (content .side) (borderPulsesOf (timings file)))
+      let cells : content .cells ≡ n = ap (λ (c : Content). c .cells) (ok .is) in
+      let rest : List ℕ = drop (length (fluxCells file)) (replicate 16384 0) in
+      let room : bytesFor (content .cells) ≤ length buffer =
+      subst (λ (k : ℕ). bytesFor k ≤ length buffer) (sym cells)
+      (omega (arith, length-append (fluxCells file) rest, length-packed (cellsOf (timings file)))) in
+      rw (old-listing, new-listing) (alike buffer (content .cells) (content .track) (content .side) (borderPulsesOf (timings file)) room)
 
 -- the refusals of the old reader, where the file has no cells: none of them is 2
 not-two : {A : Type 0} → Answer A → Type 0

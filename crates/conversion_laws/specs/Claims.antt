@@ -30,11 +30,17 @@ outside T H = ltb 83 T || ltb 1 H
 unfoldable pub oldNumber : (T H number : ℕ) → ℕ
 oldNumber T H number = cond (eqb number 2 && outside T H) 1 number
 
+-- 18.16: the refusals of a track that an accepted file can have: its place, its number of cells, its number of sectors
+pub data OfTrack : ℕ → Type 0 where
+  one : OfTrack 1
+  two : OfTrack 2
+  four : OfTrack 4
+
 -- 18.16: an old listing and a new one are alike: the old one has the line of its border pulses after the same listing, or both are the line of the
 -- same refusal
 pub data Alike (pulses : ℕ) : (old new : List ℕ) → Type 0 where
   listed : {listing : List ℕ} → Alike pulses (listing ++ borderPulsesLine pulses) listing
-  refusedBoth : (number : ℕ) → Alike pulses (refusedLine number) (refusedLine number)
+  refusedBoth : {number : ℕ} → OfTrack number → Alike pulses (refusedLine number) (refusedLine number)
 
 -- 18.16: of a file that has no cells: the converter answers what the old reader gave, but for 2 where there are no cells. Where it is accepted, the
 -- reader takes the new file, with the same T, H and number of cells and the same cells, and the listings are alike. Where it is refused, the old
