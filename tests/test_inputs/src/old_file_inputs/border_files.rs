@@ -1,8 +1,7 @@
-//! Files of timings around the limits of border pulses (rules 3.16 and 10.17), listed and
-//! refused.
+//! Old files of timings around the limits of border pulses (rule 3.16), listed and refused.
 
-use super::refused_files::{LONGEST, TOO_LONG};
-use super::{cut, file_of_timings, Files, NamedFile};
+use crate::file_inputs::refused_files::{LONGEST, TOO_LONG};
+use crate::file_inputs::{cut, file_of_timings, Files, NamedFile};
 use crate::flux_inputs::{border_lists, timings_at_the_limits, NamedTimings};
 use crate::random::Random;
 use crate::track_builder::{odd_track, standard_track};
