@@ -726,7 +726,7 @@ fn a_block_with_border_pulses() {
         assert_prints(&plan, [2, revolution as u8, 80, 0], listing);
     }
     assert_prints(&plan, [2, 1, 84, 0], "refused 1\n");
-    // Too few cells, or none.
+    // Too few cells, or none (rule 11.11).
     for values in [vec![197], vec![37]] {
         let plan = block_of_values(&[values]);
         assert_prints(&plan, [1, 0, 80, 0], "refused 2\n");
@@ -734,7 +734,8 @@ fn a_block_with_border_pulses() {
     }
 }
 
-/// A block's revolution lists as the old file of its timings does that is converted.
+/// A block's revolution lists as the old file of its timings does that is converted (rule
+/// 13.13).
 #[test]
 fn a_revolution_lists_as_its_timings_converted() {
     let longest = [0, 0, 0, 0, 0, 0, 6_784];
