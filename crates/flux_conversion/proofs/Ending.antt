@@ -55,7 +55,7 @@ module _ (read : Read) (cells before : List ℕ) where
 -- no file gives more than 131,072 cells
 few-taken : (taken : TakenTimings) (n : ℕ) → timingsAnswer taken ≡ gives n → n ≤ 131072
 unfolding timingsAnswer
-few-taken (InRange timings cells pulses separator) n e = go (ltb 131072 cells) refl e
+few-taken (InRange timings cells separator) n e = go (ltb 131072 cells) refl e
   where
     go : (x : Bool) → ltb 131072 cells ≡ x → cond x (refused 9 cells) (gives cells) ≡ gives n → n ≤ 131072
     go true a e = never e

@@ -61,37 +61,37 @@ placed-gives track side (gives cells) {content} e = go (eqb cells 0) e
 placed-gives track side (refused number value) e = never e
 
 module _ (place : Place) (room : ℕ) (big : 16384 ≤ room) (content : Content) where
-  timings-buffer : (k : ℕ) (ys : List ℕ) → suc k ≤ 65536 → ends (Timings place (suc k) Empty (tookWith 0 0 0 (pos 0))) ys ≡ gives content
-      → cellsAfter (Timings place (suc k) Empty (tookWith 0 0 0 (pos 0))) ys (zeros room) ≡ writtenOver (packed (cellsOf (numbers (suc k) ys))) (zeros room)
+  timings-buffer : (k : ℕ) (ys : List ℕ) → suc k ≤ 65536 → ends (Timings place (suc k) Empty (tookWith 0 0 (pos 0))) ys ≡ gives content
+      → cellsAfter (Timings place (suc k) Empty (tookWith 0 0 (pos 0))) ys (zeros room) ≡ writtenOver (packed (cellsOf (numbers (suc k) ys))) (zeros room)
   unfolding finishAnswer
   timings-buffer k ys h e = go (ℕ-discrete (length ys) (4 * suc k))
     where
       go : Dec (length ys ≡ 4 * suc k)
-          → cellsAfter (Timings place (suc k) Empty (tookWith 0 0 0 (pos 0))) ys (zeros room) ≡ writtenOver (packed (cellsOf (numbers (suc k) ys))) (zeros room)
+          → cellsAfter (Timings place (suc k) Empty (tookWith 0 0 (pos 0))) ys (zeros room) ≡ writtenOver (packed (cellsOf (numbers (suc k) ys))) (zeros room)
       go (yes w) =
           let ts = numbers (suc k) ys in
           let l : length ts ≡ suc k = length-numbers (suc k) ys in
           let some : length ts ≡ 0 → ⊥ = λ z. omega arith in
           let few : length ts ≤ 65536 = omega arith in
-          let given = ap finishAnswer (timings-whole place k (tookWith 0 0 0 (pos 0)) ys w)
+          let given = ap finishAnswer (timings-whole place k (tookWith 0 0 (pos 0)) ys w)
           ∙ ap (λ (x : Answer ℕ). placed (place .track) (place .side) (someCells x)) (taken-answer ts some few) in
           let ok = accepted ts some few (placed-gives (place .track) (place .side) (separation ts 16384) (sym given ∙ e)) in
-          timings-cells place k (tookWith 0 0 0 (pos 0)) ys (zeros room) w ∙ timings-filled room big ts few ok
-      go (no f) = never (sym (timings-not-whole place k (tookWith 0 0 0 (pos 0)) ys f) ∙ e)
+          timings-cells place k (tookWith 0 0 (pos 0)) ys (zeros room) w ∙ timings-filled room big ts few ok
+      go (no f) = never (sym (timings-not-whole place k (tookWith 0 0 (pos 0)) ys f) ∙ e)
 
   after-flux-count : (v : ℕ) (ys : List ℕ) → ends (afterFluxCount place v) ys ≡ gives content
       → cellsAfter (afterFluxCount place v) ys (zeros room) ≡ writtenOver (packed (cellsOf (numbers v ys))) (zeros room)
   unfolding afterFluxCount
   after-flux-count v ys e = go (ltb 65536 v) (eqb v 0) refl refl e
     where
-      some : (v : ℕ) → v ≤ 65536 → (v ≡ 0 → ⊥) → ends (Timings place v Empty (tookWith 0 0 0 (pos 0))) ys ≡ gives content
-          → cellsAfter (Timings place v Empty (tookWith 0 0 0 (pos 0))) ys (zeros room) ≡ writtenOver (packed (cellsOf (numbers v ys))) (zeros room)
+      some : (v : ℕ) → v ≤ 65536 → (v ≡ 0 → ⊥) → ends (Timings place v Empty (tookWith 0 0 (pos 0))) ys ≡ gives content
+          → cellsAfter (Timings place v Empty (tookWith 0 0 (pos 0))) ys (zeros room) ≡ writtenOver (packed (cellsOf (numbers v ys))) (zeros room)
       some zero h f e = absurd (f refl)
       some (suc k) h f e = timings-buffer k ys h e
 
       go : (x w : Bool) → ltb 65536 v ≡ x → eqb v 0 ≡ w
-          → ends (cond x (Stopped (TooManyTimings v)) (cond w NotATrackFile (Timings place v Empty (tookWith 0 0 0 (pos 0))))) ys ≡ gives content
-          → cellsAfter (cond x (Stopped (TooManyTimings v)) (cond w NotATrackFile (Timings place v Empty (tookWith 0 0 0 (pos 0))))) ys (zeros room)
+          → ends (cond x (Stopped (TooManyTimings v)) (cond w NotATrackFile (Timings place v Empty (tookWith 0 0 (pos 0))))) ys ≡ gives content
+          → cellsAfter (cond x (Stopped (TooManyTimings v)) (cond w NotATrackFile (Timings place v Empty (tookWith 0 0 (pos 0))))) ys (zeros room)
           ≡ writtenOver (packed (cellsOf (numbers v ys))) (zeros room)
       go true w a b e = never (sym (ends-stopped (TooManyTimings v) ys) ∙ e)
       go false true a b e = never (sym (ends-no-file ys) ∙ e)

@@ -105,17 +105,17 @@ module _ (place : Place) where
       ∙ timings-not-whole k (takenAfter taken (fourBytes a b c d)) ys (λ e. f (omega arith))
 
   timings-end : (k len : ℕ) (ys : List ℕ) → suc k ≤ 65536 → len ≡ 4 + length ys
-      → ends (Timings place (suc k) Empty (tookWith 0 0 0 (pos 0))) ys ≡ cond (eqb len (4 + 4 * suc k)) (at-place (separation (numbers (suc k) ys) 16384)) short
+      → ends (Timings place (suc k) Empty (tookWith 0 0 (pos 0))) ys ≡ cond (eqb len (4 + 4 * suc k)) (at-place (separation (numbers (suc k) ys) 16384)) short
   unfolding finishAnswer
   timings-end k len ys h e = go (ℕ-discrete (length ys) (4 * suc k))
     where
       go : Dec (length ys ≡ 4 * suc k)
-          → ends (Timings place (suc k) Empty (tookWith 0 0 0 (pos 0))) ys ≡ cond (eqb len (4 + 4 * suc k)) (at-place (separation (numbers (suc k) ys) 16384)) short
+          → ends (Timings place (suc k) Empty (tookWith 0 0 (pos 0))) ys ≡ cond (eqb len (4 + 4 * suc k)) (at-place (separation (numbers (suc k) ys) 16384)) short
       go (yes q) =
           let l = length-numbers (suc k) ys in
           rw (eq-eqb len (4 + 4 * suc k) (omega arith))
-          (ap finishAnswer (timings-whole k (tookWith 0 0 0 (pos 0)) ys q) ∙ ap at-place (taken-answer (numbers (suc k) ys) (λ z. omega arith) (omega arith)))
-      go (no f) = rw (ne-eqb len (4 + 4 * suc k) (λ w. f (omega arith))) (timings-not-whole k (tookWith 0 0 0 (pos 0)) ys f)
+          (ap finishAnswer (timings-whole k (tookWith 0 0 (pos 0)) ys q) ∙ ap at-place (taken-answer (numbers (suc k) ys) (λ z. omega arith) (omega arith)))
+      go (no f) = rw (ne-eqb len (4 + 4 * suc k) (λ w. f (omega arith))) (timings-not-whole k (tookWith 0 0 (pos 0)) ys f)
 
   after-flux-count : (v len : ℕ) (ys : List ℕ) → len ≡ 4 + length ys
       → ends (afterFluxCount place v) ys
@@ -124,12 +124,12 @@ module _ (place : Place) where
   after-flux-count v len ys e = go (ltb 65536 v) (eqb v 0) refl refl
     where
       some : (v : ℕ) → v ≤ 65536 → (v ≡ 0 → ⊥)
-          → ends (Timings place v Empty (tookWith 0 0 0 (pos 0))) ys ≡ cond (eqb len (4 + 4 * v)) (at-place (separation (numbers v ys) 16384)) short
+          → ends (Timings place v Empty (tookWith 0 0 (pos 0))) ys ≡ cond (eqb len (4 + 4 * v)) (at-place (separation (numbers v ys) 16384)) short
       some zero h f = absurd (f refl)
       some (suc k) h f = timings-end k len ys h e
 
       go : (x z : Bool) → ltb 65536 v ≡ x → eqb v 0 ≡ z
-          → ends (cond x (Stopped (TooManyTimings v)) (cond z NotATrackFile (Timings place v Empty (tookWith 0 0 0 (pos 0))))) ys
+          → ends (cond x (Stopped (TooManyTimings v)) (cond z NotATrackFile (Timings place v Empty (tookWith 0 0 (pos 0))))) ys
           ≡ cond x (refused 7 v) (cond z short (cond (eqb len (4 + 4 * v)) (at-place (separation (numbers v ys) 16384)) short))
       go true z a b = ends-stopped (TooManyTimings v) ys
       go false true a b = ends-no-file ys

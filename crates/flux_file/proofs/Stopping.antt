@@ -78,10 +78,10 @@ module _ (place : Place) where
   unfolding afterFluxCount
   after-flux-count v bytes = go (ltb 65536 v) (eqb v 0)
     where
-      go : (x z : Bool) → stops (cond x (Stopped (TooManyTimings v)) (cond z NotATrackFile (Timings place v Empty (tookWith 0 0 0 (pos 0))))) bytes ≡ x
+      go : (x z : Bool) → stops (cond x (Stopped (TooManyTimings v)) (cond z NotATrackFile (Timings place v Empty (tookWith 0 0 (pos 0))))) bytes ≡ x
       go true z = stops-stopped (TooManyTimings v) bytes
       go false true = stops-no-file bytes
-      go false false = stops-timings v Empty (tookWith 0 0 0 (pos 0)) bytes
+      go false false = stops-timings v Empty (tookWith 0 0 (pos 0)) bytes
 
   in-flux-count : (fs : List ℕ) → stops (FluxCount place Empty) fs ≡ fluxRefused fs
   unfolding isStopped readerAfter readerAfterByte numberAfter inFluxCount
