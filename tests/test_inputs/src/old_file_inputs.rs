@@ -9,7 +9,7 @@ mod refused_old_files;
 
 use crate::file_inputs::{refused_files, FileGroup, NamedFile};
 
-pub use flux_files::{drifting_timings, track_of_drifting_timings};
+pub use flux_files::drifting_timings;
 pub use random_old_files::{odd_old_file, old_file_of_any_bytes};
 pub use refused_old_files::small_old_files;
 

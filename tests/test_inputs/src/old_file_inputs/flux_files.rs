@@ -103,7 +103,7 @@ const TOLERANCES: [(&str, Tolerance); 5] = [
 ];
 
 /// A track and its place, as one of these comes from a drive.
-pub fn track_of_drifting_timings(seed: u64) -> (u8, u8, Vec<u8>) {
+fn track_of_drifting_timings(seed: u64) -> (u8, u8, Vec<u8>) {
     let mut random = Random::new(seed);
     let drive_track = random.below(84) as u8;
     let drive_side = random.below(2) as u8;
