@@ -54,7 +54,8 @@ extern "C" {
 #define THIKBROMU_DISK_TRACK_NUMBERS 3 /* the track, the side and how many findings */
 #define THIKBROMU_MOST_TRACKS 168 /* tracks 0 to 83 of two sides */
 #define THIKBROMU_LONGEST_LISTING 65536
-#define THIKBROMU_LONGEST_FILE 278542 /* both sections at their longest; a longer file is answered as its first 278,543 bytes are */
+#define THIKBROMU_LONGEST_FILE 16398 /* the most cells; a longer file is answered as its first 16,399 bytes are */
+#define THIKBROMU_LONGEST_OLD_FILE 262158 /* the most timings; a longer one is converted as its first 262,159 bytes are */
 
 /* The refusals by their numbers: rule 8.K is refusal K. After the semicolon, what is given beside it. */
 enum thikbromu_refusal {
@@ -67,7 +68,7 @@ enum thikbromu_refusal {
     THIKBROMU_REFUSED_TOO_MANY_TIMINGS = 7,     /* more than 65,536 timings; how many */
     THIKBROMU_REFUSED_TIMING_OUT_OF_RANGE = 8,  /* some timing is not 1 to 10,000,000; the least index of such a one */
     THIKBROMU_REFUSED_TOO_MANY_CELLS = 9,       /* more than 131,072 cells come of the timings; how many */
-    THIKBROMU_REFUSED_NO_ROOM = 10,             /* no room for the cells or the timings; how many bytes, or timings */
+    THIKBROMU_REFUSED_NO_ROOM = 10,             /* no room for the cells, the timings or the new file; how many bytes, or timings */
     THIKBROMU_REFUSED_NO_SUCH_SECTOR = 11,      /* the index is not below the number of sectors; that number */
     THIKBROMU_REFUSED_NO_DATA = 12,             /* this sector has no data (rule 6.12); 0 */
     THIKBROMU_REFUSED_NO_ROOM_FOR_BYTES = 13,   /* no room for the bytes; how many */
@@ -80,6 +81,7 @@ enum thikbromu_refusal {
     THIKBROMU_REFUSED_TOO_LONG_A_TRACK = 20,    /* the cells of the list come to more than 131,072; 0 */
     THIKBROMU_REFUSED_TRACK_GIVEN_TWICE = 21,   /* a disk has the same track and side twice; 0 */
     THIKBROMU_REFUSED_TOO_MANY_TRACKS = 22,     /* a disk of more than 168 tracks; 0 */
+    THIKBROMU_REFUSED_FLUX_SECTION = 23,        /* the track file has a flux section, so it is an old one to convert; 0 */
     THIKBROMU_REFUSED_NO_PLAIN_IMAGE = 24,      /* the track has no plain image; the first number from 1 to 9 in the way, or 0 (rule 15.4) */
     THIKBROMU_REFUSED_NOT_THEIR_FINDINGS = 25   /* the numbers are no findings of the tracks (rules 16.6 to 16.8); 0 */
 };
@@ -212,10 +214,11 @@ uint32_t thikbromu_histogram(const uint32_t *timings, size_t length, uint32_t *c
  * one or another, has an offset within the table, values that do not all lie in the block, or a 0 as its last value.
  */
 
-/* The timings of the chosen revolution (rule 9.14), in nanoseconds, at the front of `timings`; those behind keep their contents. Gives the
- * number of timings. Refuses 16, 17, 6, 7, 8, 10, the last with how many timings there are. */
+/* The timings of the chosen revolution (rules 9.14 and 9.38), in nanoseconds, at the front of `timings`; those behind keep their contents. Gives
+ * the number of timings, and in `border_pulses` the number of border pulses among them, as thikbromu_separate counts them, however many cells they
+ * give; beside a refusal it stays as it is. Refuses 16, 17, 6, 7, 8, 10, the last with how many timings there are. */
 uint32_t thikbromu_revolution_timings(const uint8_t *block, size_t length, uint32_t revolutions, uint32_t revolution, uint32_t *timings,
-                                      size_t room, size_t *value);
+                                      size_t room, size_t *border_pulses, size_t *value);
 
 /* The same by portions (rules 12.15 to 12.24): the caller hands over the bytes of one revolution's values in their order, a part at a time,
  * cut anywhere. A call gives the timings whose last byte is in its part. As long as no call is refused, they are together those of the
@@ -277,7 +280,8 @@ uint32_t thikbromu_finding_records(const uint8_t *bytes, size_t length, size_t n
  *   a data mark is looked for from there to p + 576. A check begins with the mark's own byte;
  * - LGT has more than 51,500 cells and SHT less than 48,500, NOS other than 18 sectors, SSZ a size code other than 0, which is that of 128
  *   bytes. SID counts the word F57E, and MTV a next one that is 3 cells on or more. No track has NSI or NSD.
- * Listings are those of double density alone, and so are the cells that thikbromu_file_cells and thikbromu_revolution_cells make of timings.
+ * Listings are those of double density alone, and so is what thikbromu_convert_file, thikbromu_revolution_cells and
+ * thikbromu_revolution_timings make of timings: their cells and their border pulses.
  */
 
 /* As thikbromu_step. */
@@ -321,21 +325,28 @@ uint32_t thikbromu_good_read(const uint8_t *first, size_t first_length, const ui
                              size_t *which, size_t *value);
 
 /*
- * A track file, whole in memory (rules 10.1 to 10.3): the number 2, the track and the side; how many cells there are, and these, packed; how
- * many timings there are, and these. The track and the side have a byte, the other numbers four bytes, the lowest first. A file has cells
- * or timings, and 0 as the number of the others.
+ * A track file, whole in memory (rules 10.1 to 10.3): the number 2, the track and the side; how many cells there are, and these, packed; then
+ * the number 0. The track and the side have a byte, the other numbers four bytes, the lowest first. In old files the last number is that of the
+ * flux timings that follow it, and there are no cells: such a file has to be converted first.
  *
- * Refusals of a file (rules 10.4 to 10.8): at once, whatever follows, 15 where the first number is not 2, 2 where there are more than
- * 131,072 cells, 7 where there are more than 65,536 timings. Then 15 where bytes are missing or left over, or where the file has cells and
- * timings, or none of them. Then 8 and 9 for its timings. Both routines read the cells into 16,384 bytes of the stack first.
+ * Refusals of a file (rules 10.4 to 10.7): at once, whatever follows, 15 where the first number is not 2, 2 where there are more than
+ * 131,072 cells, 23 where the last number is not 0. Then 15 where bytes are missing or left over, or where there are no cells. Both routines
+ * read the cells into 16,384 bytes of the stack first.
  */
 
 /* The cells of a file (rules 9.11, 9.33 and 10.16), packed at the front of `cells`; bytes behind them keep their contents. Spare bits of the
- * last byte are the file's, and 0 where the cells come from timings. Gives the number of cells, and stores the track and the side at the
- * front of `place`, or as many of the two as there is room for. Refuses a file as above, and then 10, with the bytes that its cells need.
- * The track, the side and a number of cells below 20,000 are not judged here: the routines on a track do that. */
+ * last byte are the file's. Gives the number of cells, and stores the track and the side at the front of `place`, or as many of the two as there
+ * is room for. Refuses a file as above, and then 10, with the bytes that its cells need. The track, the side and a number of cells below 20,000
+ * are not judged here: the routines on a track do that. */
 uint32_t thikbromu_file_cells(const uint8_t *file, size_t length, uint8_t *cells, size_t room, uint32_t *place, size_t places,
                               size_t *value);
+
+/* Makes a track file of an old one with flux timings, whole in memory: the same track and side, which are not judged, the cells that
+ * thikbromu_separate makes of the timings, and 0 as the last number. It stands at the front of `out`; bytes behind it keep their contents. Gives
+ * its length, which is at most THIKBROMU_LONGEST_FILE. It is listed as the old file was. Refuses at once, whatever follows, 15 where the first
+ * number is not 2 or the number of cells is not 0, and 7 where there are more than 65,536 timings. Then 15 where bytes are missing or left over,
+ * or where there are no timings; 8 and 9 for the timings; 2, with 0, where they give no cells; and last 10, with the length of the new file. */
+uint32_t thikbromu_convert_file(const uint8_t *file, size_t length, uint8_t *out, size_t out_room, size_t *value);
 
 /* The listing of a file (rules 9.13, 11.8 and 11.9) at the front of `out`, or as much of it as there is room for. The answer is the length
  * of the whole, which is at most 65,536. Of a refused file it is one line, the word `refused` and the number: the file is refused as above,

@@ -29,8 +29,8 @@ use std::process::{Command, Stdio};
 use std::time::Instant;
 use test_inputs::block_inputs::standard_track_block;
 use test_inputs::disk_inputs::{full_disks, DiskInput, TRACK_NOT_FOUND};
-use test_inputs::file_inputs::{file_of_cells, file_of_timings};
-use test_inputs::flux_inputs::{flux_track, timings_of_cells, Choice};
+use test_inputs::file_inputs::file_of_cells;
+use test_inputs::flux_inputs::{flux_track, Choice};
 use test_inputs::random::Random;
 use test_inputs::single_density_flux::fm_timings_of_cells;
 use test_inputs::single_density_tracks::standard_fm_track;
@@ -155,7 +155,7 @@ const PORTION: usize = 4_096;
 fn track_blocks() {
     let block = standard_track_block(1, 0, 0, 0xE5, 2).bytes();
     let values = track_block::revolution_bytes(&block, 2, 1).expect("the second revolution");
-    let timings = TrackBlock::new(&block, 2).timings(1).expect("its timings");
+    let timings = TrackBlock::new(&block, 2).timings(1).expect("its timings").list;
     let count = timings.len();
     let mut list = vec![0; MOST_TIMINGS];
     let mut plain_list = vec![0; MOST_TIMINGS];
@@ -163,7 +163,8 @@ fn track_blocks() {
     assert_eq!(revolution::one_pass(&block, 2, 1).as_ref(), Ok(&timings));
     assert_eq!(revolution::two_passes(&block, 2, 1, &mut plain_list), Ok(count));
     assert_eq!(plain_list[..count], timings);
-    let mut ours = || boundary::revolution_timings(black_box(&block), 2, 1, &mut list);
+    let mut border_pulses = 0;
+    let mut ours = || boundary::revolution_timings(black_box(&block), 2, 1, &mut list, &mut border_pulses);
     let what = format!("timings of a revolution, {count} in one call");
     let rate = Some((count, "timings"));
     row(&what, (21, 20), rate, &mut ours, || track_block::revolution_timings(black_box(&block), 2, 1, MOST_TIMINGS));
@@ -391,12 +392,11 @@ fn whole_block() {
     std::fs::remove_file(&path).expect("the block to list");
 }
 
-/// Whole files: of timings, and of more and fewer cells.
+/// Whole files of more and fewer cells.
 fn whole_files() {
     let program = built("track_listing");
     let own = std::env::current_exe().expect("a path");
-    let standard = standard_track(0, 0, 0xE5);
-    let mut files = vec![("standard track as timings".to_string(), file_of_timings(0, 0, &timings_of_cells(&standard)))];
+    let mut files = vec![("standard track".to_string(), file_of_cells(0, 0, &standard_track(0, 0, 0xE5)))];
     for n in [20_000, 50_000, 100_000, 131_072] {
         let track_cells = cells::unpack(&track_with(n / 11_000, n), n);
         files.push((format!("{} sectors, {n} cells", n / 11_000), file_of_cells(0, 0, &track_cells)));

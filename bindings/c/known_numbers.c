@@ -1,7 +1,7 @@
 /*
  * The numbers that docs/SPECIFICATION.md gives to know (rules 1.17, 2.4, 3.13, 3.14, 6.19, 11.10, 14.10 and 17.10), a small track block, the plain
- * image of a track, the page of a disk, and a track of single density, through include/thikbromu.h: every routine is called, and every refusal
- * is given.
+ * image of a track, an old track file, the page of a disk, and a track of single density, through include/thikbromu.h: every routine is called,
+ * and every refusal is given.
  * The argument is samples/standard.track. It compiles as C99 and as C++.
  */
 #include "thikbromu.h"
@@ -266,12 +266,22 @@ static void test_track_blocks(void)
     uint8_t cells[3] = {7, 7, 7};
 
     /* 160, 240 and 320 units of 25 ns; 65,536 + 1 units. */
-    GIVES(thikbromu_revolution_timings(two_revolutions, BLOCK_BYTES, 2, 0, list, 4, &value), 3);
-    EXPECT(list[0] == 4000 && list[1] == 6000 && list[2] == 8000 && list[3] == 7);
-    GIVES(thikbromu_revolution_timings(two_revolutions, BLOCK_BYTES, 2, 1, list, 1, &value), 1);
-    EXPECT(list[0] == 1638425 && list[1] == 6000);
-    /* 2, 3 and 4 cells: 01, 001, 0001. */
     size_t border_pulses = 7;
+    GIVES(thikbromu_revolution_timings(two_revolutions, BLOCK_BYTES, 2, 0, list, 4, &border_pulses, &value), 3);
+    EXPECT(list[0] == 4000 && list[1] == 6000 && list[2] == 8000 && list[3] == 7);
+    EXPECT(border_pulses == 0);
+    border_pulses = 7;
+    GIVES(thikbromu_revolution_timings(two_revolutions, BLOCK_BYTES, 2, 1, list, 1, &border_pulses, &value), 1);
+    EXPECT(list[0] == 1638425 && list[1] == 6000 && border_pulses == 0);
+    /* 197 units end 925 ns after 2 cells, and 98 then 912 ns after one: both are border pulses. */
+    memcpy(block, two_revolutions, BLOCK_BYTES);
+    block[BLOCK_BYTES - 3] = 197;
+    block[BLOCK_BYTES - 1] = 98;
+    GIVES(thikbromu_revolution_timings(block, BLOCK_BYTES, 2, 1, list, 2, &border_pulses, &value), 2);
+    EXPECT(list[0] == 4925 && list[1] == 2450 && border_pulses == 2);
+    list[1] = 6000;
+    /* 2, 3 and 4 cells: 01, 001, 0001. */
+    border_pulses = 7;
     GIVES(thikbromu_revolution_cells(two_revolutions, BLOCK_BYTES, 2, 0, cells, 3, &border_pulses, &value), 9);
     EXPECT(border_pulses == 0);
     border_pulses = 7;
@@ -280,23 +290,23 @@ static void test_track_blocks(void)
     /* What is refused leaves the memory as it was. */
     list[0] = 7;
     cells[0] = 7;
-    REFUSES(thikbromu_revolution_timings(two_revolutions, BLOCK_BYTES - 1, 2, 0, list, 4, &value), NOT_A_TRACK_BLOCK, 0);
-    REFUSES(thikbromu_revolution_timings(two_revolutions, BLOCK_BYTES, 3, 0, list, 4, &value), NOT_A_TRACK_BLOCK, 0);
-    REFUSES(thikbromu_revolution_timings(two_revolutions, BLOCK_BYTES, 2, 2, list, 0, &value), NO_SUCH_REVOLUTION, 0);
-    REFUSES(thikbromu_revolution_timings(two_revolutions, BLOCK_BYTES, 2, 0, list, 2, &value), NO_ROOM, 3);
+    REFUSES(thikbromu_revolution_timings(two_revolutions, BLOCK_BYTES - 1, 2, 0, list, 4, &border_pulses, &value), NOT_A_TRACK_BLOCK, 0);
+    REFUSES(thikbromu_revolution_timings(two_revolutions, BLOCK_BYTES, 3, 0, list, 4, &border_pulses, &value), NOT_A_TRACK_BLOCK, 0);
+    REFUSES(thikbromu_revolution_timings(two_revolutions, BLOCK_BYTES, 2, 2, list, 0, &border_pulses, &value), NO_SUCH_REVOLUTION, 0);
+    REFUSES(thikbromu_revolution_timings(two_revolutions, BLOCK_BYTES, 2, 0, list, 2, &border_pulses, &value), NO_ROOM, 3);
     REFUSES(thikbromu_revolution_cells(two_revolutions, BLOCK_BYTES, 3, 0, cells, 3, &border_pulses, &value), NOT_A_TRACK_BLOCK, 0);
     REFUSES(thikbromu_revolution_cells(two_revolutions, BLOCK_BYTES, 2, 2, cells, 3, &border_pulses, &value), NO_SUCH_REVOLUTION, 0);
     REFUSES(thikbromu_revolution_cells(two_revolutions, BLOCK_BYTES, 2, 0, cells, 1, &border_pulses, &value), NO_ROOM, 2);
     /* The second revolution without values, and with one, which is a 0. */
     memcpy(block, two_revolutions, BLOCK_BYTES);
     block[SECOND_COUNT] = 0;
-    REFUSES(thikbromu_revolution_timings(block, BLOCK_BYTES, 2, 1, list, 4, &value), NO_TIMINGS, 0);
+    REFUSES(thikbromu_revolution_timings(block, BLOCK_BYTES, 2, 1, list, 4, &border_pulses, &value), NO_TIMINGS, 0);
     REFUSES(thikbromu_revolution_cells(block, BLOCK_BYTES, 2, 1, cells, 3, &border_pulses, &value), NO_TIMINGS, 0);
     block[SECOND_COUNT] = 1;
-    REFUSES(thikbromu_revolution_timings(block, BLOCK_BYTES, 2, 0, list, 4, &value), NOT_A_TRACK_BLOCK, 0);
+    REFUSES(thikbromu_revolution_timings(block, BLOCK_BYTES, 2, 0, list, 4, &border_pulses, &value), NOT_A_TRACK_BLOCK, 0);
     /* Its values from the last byte of the table on. */
     block[SECOND_OFFSET] = 27;
-    REFUSES(thikbromu_revolution_timings(block, BLOCK_BYTES, 2, 0, list, 4, &value), NOT_A_TRACK_BLOCK, 0);
+    REFUSES(thikbromu_revolution_timings(block, BLOCK_BYTES, 2, 0, list, 4, &border_pulses, &value), NOT_A_TRACK_BLOCK, 0);
     EXPECT(list[0] == 7 && list[1] == 6000 && list[2] == 8000 && list[3] == 7);
     EXPECT(cells[0] == 7 && cells[1] == 0x80 && cells[2] == 7);
 
@@ -307,12 +317,13 @@ static void test_track_blocks(void)
     for (size_t i = 17; i < sizeof many; i += 2) {
         many[i] = 1;
     }
-    REFUSES(thikbromu_revolution_timings(many, sizeof many, 1, 0, timings, THIKBROMU_MOST_TIMINGS + 1, &value),
+    REFUSES(thikbromu_revolution_timings(many, sizeof many, 1, 0, timings, THIKBROMU_MOST_TIMINGS + 1, &border_pulses, &value),
             TOO_MANY_TIMINGS, 65537);
     /* With its sixth to twelfth value 0, the thirteenth is more than seven times 65,536 units. */
     memset(many + 16 + 2 * 5, 0, 2 * 7);
-    REFUSES(thikbromu_revolution_timings(many, sizeof many, 1, 0, timings, THIKBROMU_MOST_TIMINGS + 1, &value),
+    REFUSES(thikbromu_revolution_timings(many, sizeof many, 1, 0, timings, THIKBROMU_MOST_TIMINGS + 1, &border_pulses, &value),
             TIMING_OUT_OF_RANGE, 5);
+    EXPECT(border_pulses == 7);
 }
 
 /* A number of a state: so many timings and zeros, and 1 more than the byte that is held, or 0. */
@@ -800,24 +811,19 @@ static void test_file_cells(const uint8_t *file, size_t length)
     /* Refusals that a count gives, whatever follows it. */
     const uint8_t other_place_count[5] = {3, 0, 0, 0, 7};
     const uint8_t many_cells[11] = {2, 0, 0, 0, 0, 0, 1, 0, 2, 0, 7};
-    const uint8_t many_timings[15] = {2, 0, 0, 0, 0, 0, 0, 0, 0, 0, 1, 0, 1, 0, 7};
+    const uint8_t some_timings[15] = {2, 0, 0, 0, 0, 0, 0, 0, 0, 0, 1, 0, 1, 0, 7};
+    const uint8_t behind_cells[15] = {2, 0, 0, 0, 0, 0, 8, 0, 0, 0, 0xAA, 0, 0, 0, 1};
     REFUSES(CELLS_OF(other_place_count, 5), NOT_A_TRACK_FILE, 0);
     REFUSES(CELLS_OF(many_cells, 11), CELL_COUNT, 131073);
-    REFUSES(CELLS_OF(many_timings, 15), TOO_MANY_TIMINGS, 65537);
-    /* Those of a whole file: cut short, neither cells nor timings, a timing of 0 behind one of 256, 30 timings of 5,000 cells. */
+    REFUSES(CELLS_OF(some_timings, 15), FLUX_SECTION, 0);
+    REFUSES(CELLS_OF(some_timings, 14), FLUX_SECTION, 0);
+    REFUSES(CELLS_OF(behind_cells, 15), FLUX_SECTION, 0);
+    /* Those of a whole file: cut short, neither cells nor timings. */
     const uint8_t neither[14] = {2, 0, 0, 0, 0, 0, 0, 0, 0, 0, 0, 0, 0, 0};
-    const uint8_t timing_of_0[22] = {2, 0, 0, 0, 0, 0, 0, 0, 0, 0, 2, 0, 0, 0, 0, 1, 0, 0, 0, 0, 0, 0};
-    uint8_t long_timings[14 + 30 * 4] = {2, 0, 0, 0, 0, 0, 0, 0, 0, 0, 30, 0, 0, 0};
-    for (size_t i = 14; i < sizeof long_timings; i += 4) {
-        long_timings[i] = 0x80; /* 10,000,000 is 989680 in hexadecimal */
-        long_timings[i + 1] = 0x96;
-        long_timings[i + 2] = 0x98;
-    }
     REFUSES(CELLS_OF(nothing, 0), NOT_A_TRACK_FILE, 0);
     REFUSES(CELLS_OF(file, length - 1), NOT_A_TRACK_FILE, 0);
     REFUSES(CELLS_OF(neither, 14), NOT_A_TRACK_FILE, 0);
-    REFUSES(CELLS_OF(timing_of_0, 22), TIMING_OUT_OF_RANGE, 1);
-    REFUSES(CELLS_OF(long_timings, sizeof long_timings), TOO_MANY_CELLS, 150000);
+    REFUSES(CELLS_OF(some_timings, 13), NOT_A_TRACK_FILE, 0);
     /* Too little room is judged last. */
     REFUSES(thikbromu_file_cells(file, length, room, TRACK_BYTES - 1, place, THIKBROMU_PLACE_NUMBERS, &value), NO_ROOM, 12500);
     REFUSES(thikbromu_file_cells(file, length - 1, room, 0, place, THIKBROMU_PLACE_NUMBERS, &value), NOT_A_TRACK_FILE, 0);
@@ -828,13 +834,66 @@ static void test_file_cells(const uint8_t *file, size_t length)
     EXPECT(memcmp(room, file + BEFORE_CELLS, TRACK_BYTES) == 0);
     EXPECT(room[TRACK_BYTES] == 7 && room[sizeof room - 1] == 7);
 
-    /* Two timings, at track 83 and side 1; room for their 5 cells, and for the track alone. */
-    const uint8_t two_timings[22] = {2, 0, 0, 0, 83, 1, 0, 0, 0, 0, 2, 0, 0, 0, 0x88, 0x13, 0, 0, 0x88, 0x13, 0, 0};
+    /* Five cells, at track 83 and side 1; room for these, and for the track alone. Spare bits are the file's. */
+    const uint8_t five_cells[15] = {2, 0, 0, 0, 83, 1, 5, 0, 0, 0, 0x2F, 0, 0, 0, 0};
     uint32_t places[3] = {77, 77, 77};
-    GIVES(thikbromu_file_cells(two_timings, 22, room, 1, places, 1, &value), 5);
-    EXPECT(room[0] == 0x28 && places[0] == 83 && places[1] == 77);
-    GIVES(thikbromu_file_cells(two_timings, 22, room, 1, places, 3, &value), 5);
+    GIVES(thikbromu_file_cells(five_cells, 15, room, 1, places, 1, &value), 5);
+    EXPECT(room[0] == 0x2F && places[0] == 83 && places[1] == 77);
+    GIVES(thikbromu_file_cells(five_cells, 15, room, 1, places, 3, &value), 5);
     EXPECT(places[0] == 83 && places[1] == 1 && places[2] == 77);
+}
+
+/* An old file, to so much room. */
+#define CONVERTED(file, length, out_room) thikbromu_convert_file(file, length, out, out_room, &value)
+
+static void test_convert_file(const uint8_t *file, size_t length)
+{
+    static uint8_t out[THIKBROMU_LONGEST_FILE + 1];
+    memset(out, 7, sizeof out);
+
+    /* At once: another place count, a number of cells, and too many timings. */
+    const uint8_t other_place_count[5] = {3, 0, 0, 0, 7};
+    const uint8_t one_cell[11] = {2, 0, 0, 0, 0, 0, 1, 0, 0, 0, 7};
+    const uint8_t many_timings[15] = {2, 0, 0, 0, 0, 0, 0, 0, 0, 0, 1, 0, 1, 0, 7};
+    REFUSES(CONVERTED(other_place_count, 5, sizeof out), NOT_A_TRACK_FILE, 0);
+    REFUSES(CONVERTED(one_cell, 11, sizeof out), NOT_A_TRACK_FILE, 0);
+    REFUSES(CONVERTED(file, length, sizeof out), NOT_A_TRACK_FILE, 0);
+    REFUSES(CONVERTED(many_timings, 15, sizeof out), TOO_MANY_TIMINGS, 65537);
+    /* Of a whole file: no timings, a timing of 0 behind one of 256, 30 timings of 5,000 cells, and one of 500 ns, which makes no cell. */
+    const uint8_t none[14] = {2, 0, 0, 0, 0, 0, 0, 0, 0, 0, 0, 0, 0, 0};
+    const uint8_t timing_of_0[22] = {2, 0, 0, 0, 0, 0, 0, 0, 0, 0, 2, 0, 0, 0, 0, 1, 0, 0, 0, 0, 0, 0};
+    const uint8_t no_cells[18] = {2, 0, 0, 0, 84, 2, 0, 0, 0, 0, 1, 0, 0, 0, 0xF4, 1, 0, 0};
+    uint8_t long_timings[14 + 30 * 4] = {2, 0, 0, 0, 0, 0, 0, 0, 0, 0, 30, 0, 0, 0};
+    for (size_t i = 14; i < sizeof long_timings; i += 4) {
+        long_timings[i] = 0x80; /* 10,000,000 is 989680 in hexadecimal */
+        long_timings[i + 1] = 0x96;
+        long_timings[i + 2] = 0x98;
+    }
+    REFUSES(CONVERTED(nothing, 0, sizeof out), NOT_A_TRACK_FILE, 0);
+    REFUSES(CONVERTED(none, 14, sizeof out), NOT_A_TRACK_FILE, 0);
+    REFUSES(CONVERTED(timing_of_0, 21, sizeof out), NOT_A_TRACK_FILE, 0);
+    REFUSES(CONVERTED(timing_of_0, 22, 0), TIMING_OUT_OF_RANGE, 1);
+    REFUSES(CONVERTED(long_timings, sizeof long_timings, 0), TOO_MANY_CELLS, 150000);
+    REFUSES(CONVERTED(no_cells, 18, 0), CELL_COUNT, 0);
+
+    /* 5,000 and 5,000 ns are the cells 00101. Too little room is judged last. */
+    const uint8_t two_timings[22] = {2, 0, 0, 0, 83, 1, 0, 0, 0, 0, 2, 0, 0, 0, 0x88, 0x13, 0, 0, 0x88, 0x13, 0, 0};
+    const uint8_t five_cells[15] = {2, 0, 0, 0, 83, 1, 5, 0, 0, 0, 0x28, 0, 0, 0, 0};
+    REFUSES(CONVERTED(two_timings, 22, 14), NO_ROOM, 15);
+    EXPECT(out[0] == 7 && out[14] == 7 && out[sizeof out - 1] == 7);
+    GIVES(CONVERTED(two_timings, 22, 15), 15);
+    EXPECT(memcmp(out, five_cells, 15) == 0 && out[15] == 7);
+
+    /* The most timings, and one byte more. */
+    static uint8_t most[THIKBROMU_LONGEST_OLD_FILE + 1] = {2, 0, 0, 0, 0, 0, 0, 0, 0, 0, 0, 0, 1, 0};
+    for (size_t i = 14; i < THIKBROMU_LONGEST_OLD_FILE; i += 4) {
+        most[i] = 0xA0; /* 4,000 is FA0 in hexadecimal */
+        most[i + 1] = 0x0F;
+    }
+    REFUSES(CONVERTED(most, sizeof most, sizeof out), NOT_A_TRACK_FILE, 0);
+    GIVES(CONVERTED(most, THIKBROMU_LONGEST_OLD_FILE, sizeof out), THIKBROMU_LONGEST_FILE);
+    EXPECT(out[8] == 2 && out[10] == 0x55 && out[THIKBROMU_LONGEST_FILE - 5] == 0x55 && out[THIKBROMU_LONGEST_FILE - 4] == 0);
+    EXPECT(out[THIKBROMU_LONGEST_FILE] == 7);
 }
 
 static void test_listings(const uint8_t *file, size_t length)
@@ -1023,6 +1082,7 @@ int main(int count, char **arguments)
     test_single_track();
     test_single_findings();
     test_file_cells(file, sizeof file);
+    test_convert_file(file, sizeof file);
     test_listings(file, sizeof file);
     test_disk_page();
     printf("%d passed, %d failed\n", passed, failed);

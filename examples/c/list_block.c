@@ -32,7 +32,7 @@ int main(int count, char **arguments)
         return 1;
     }
 
-    size_t border_pulses;
+    size_t border_pulses; /* which the listing does not tell */
     size_t value; /* the number of cells, or what is given beside the refusal */
     uint32_t refusal =
         thikbromu_revolution_cells(block, length, numbers[0], numbers[1], cells, sizeof cells, &border_pulses, &value);
@@ -41,12 +41,7 @@ int main(int count, char **arguments)
         return 0;
     }
     length = thikbromu_listing(cells, sizeof cells, value, numbers[2], numbers[3], listing, sizeof listing);
-    int written = fwrite(listing, 1, length, stdout) == length;
-    /* A track that is refused has no line of border pulses. */
-    if (written && listing[0] == 'T') {
-        written = printf("FAA %zu\n", border_pulses) > 0;
-    }
-    if (!written || fflush(stdout) != 0) {
+    if (fwrite(listing, 1, length, stdout) != length || fflush(stdout) != 0) {
         perror("list_block");
         return 1;
     }

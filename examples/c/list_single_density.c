@@ -9,9 +9,6 @@
 #include <inttypes.h>
 #include <stdio.h>
 
-/* Where the file has its number of cells, which is 0 where it has timings instead. */
-#define CELL_COUNT_AT 6
-
 static const char *const names[] = {"LGT", "SHT", "NOS", "TNF", "EXT", "DSN", "ISN", "ITN", "IIF", "SSZ", "NSI",
                                     "NSD", "SBI", "SND", "SBD", "DOI", "DBI", "SWS", "SID", "MTV", "NFA"};
 
@@ -39,12 +36,6 @@ int main(void)
     if (refusal != 0) {
         return refused(refusal);
     }
-    /* Timings have become cells of double density here. thikbromu_fm_separate would make those of single density. */
-    if ((file[CELL_COUNT_AT] | file[CELL_COUNT_AT + 1] | file[CELL_COUNT_AT + 2] | file[CELL_COUNT_AT + 3]) == 0) {
-        fprintf(stderr, "list_single_density: a file of timings, not of cells\n");
-        return 1;
-    }
-
     refusal = thikbromu_fm_finding_records(cells, sizeof cells, n, place[0], place[1], list, THIKBROMU_MOST_FINDINGS, &findings);
     if (refusal != 0) {
         return refused(refusal);

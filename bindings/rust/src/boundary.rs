@@ -110,6 +110,7 @@ extern "C" {
         revolution: u32,
         timings: *mut u32,
         room: usize,
+        border_pulses: *mut usize,
         value: *mut usize,
     ) -> u32;
     fn thikbromu_revolution_portion(
@@ -263,6 +264,7 @@ extern "C" {
         places: usize,
         value: *mut usize,
     ) -> u32;
+    fn thikbromu_convert_file(file: *const u8, length: usize, out: *mut u8, out_room: usize, value: *mut usize) -> u32;
     fn thikbromu_file_listing(file: *const u8, length: usize, out: *mut u8, out_room: usize) -> usize;
     fn thikbromu_listing(
         bytes: *const u8,
@@ -432,21 +434,24 @@ pub fn histogram(timings: &[u32], counts: &mut [u32]) -> Result<usize, Refusal> 
     })
 }
 
-/// The timings of a revolution of a SuperCard Pro track block (rule 9.14), in nanoseconds, at the front of `timings`; those behind keep
-/// their contents. `revolutions` is how many the header of the image says there are, and `revolution` the chosen one, counted from 0. Gives
-/// the number of timings. [`TrackBlock`](crate::TrackBlock) says what a block is.
+/// The timings of a revolution of a SuperCard Pro track block (rules 9.14 and 9.38), in nanoseconds, at the front of `timings`; those behind
+/// keep their contents. `revolutions` is how many the header of the image says there are, and `revolution` the chosen one, counted from 0.
+/// Gives the number of timings. The number of border pulses among them, as [`separate`] counts them, goes to `border_pulses`, however many
+/// cells they give. [`TrackBlock`](crate::TrackBlock) says what a block is.
 ///
 /// Refuses [`NotATrackBlock`](Refusal::NotATrackBlock), [`NoSuchRevolution`](Refusal::NoSuchRevolution),
 /// [`NoTimings`](Refusal::NoTimings), [`TooManyTimings`](Refusal::TooManyTimings),
-/// [`TimingOutOfRange`](Refusal::TimingOutOfRange), [`NoRoom`](Refusal::NoRoom) with how many timings there are.
+/// [`TimingOutOfRange`](Refusal::TimingOutOfRange), [`NoRoom`](Refusal::NoRoom) with how many timings there are; `timings` and
+/// `border_pulses` then stay as they are.
 #[inline]
 pub fn revolution_timings(
     block: &[u8],
     revolutions: u32,
     revolution: u32,
     timings: &mut [u32],
+    border_pulses: &mut usize,
 ) -> Result<usize, Refusal> {
-    // SAFETY: each address and length are those of one slice; `timings` and `value` are lent to this call alone.
+    // SAFETY: each address and length are those of one slice; `timings`, `border_pulses` and `value` are lent to this call alone.
     answer(|value| unsafe {
         thikbromu_revolution_timings(
             block.as_ptr(),
@@ -455,6 +460,7 @@ pub fn revolution_timings(
             revolution,
             timings.as_mut_ptr(),
             timings.len(),
+            border_pulses,
             value,
         )
     })
@@ -779,14 +785,14 @@ pub fn fm_finding_records(
 }
 
 /// The cells of a track file (rules 9.11, 9.33 and 10.16), packed at the front of `cells`; bytes behind them keep their contents. Spare bits
-/// of the last byte are the file's, and 0 where the cells come from timings. Gives the number of cells, and stores the track and the side at
-/// the front of `place`, or as many of the two as there is room for. [`TrackFile`](crate::TrackFile) says what a track file is. The cells
-/// are first read into 16,384 bytes of the stack.
+/// of the last byte are the file's. Gives the number of cells, and stores the track and the side at the front of `place`, or as many of the
+/// two as there is room for. [`TrackFile`](crate::TrackFile) says what a track file is. The cells are first read into 16,384 bytes of the
+/// stack.
 ///
 /// Refuses at once, whatever follows (rule 10.4), [`NotATrackFile`](Refusal::NotATrackFile) where the place's count is not 2,
-/// [`CellCount`](Refusal::CellCount) where there are more than 131,072 cells, [`TooManyTimings`](Refusal::TooManyTimings) where there are
-/// more than 65,536 timings; after these [`NotATrackFile`](Refusal::NotATrackFile), [`TimingOutOfRange`](Refusal::TimingOutOfRange),
-/// [`TooManyCells`](Refusal::TooManyCells), and last [`NoRoom`](Refusal::NoRoom) with the bytes that the cells need.
+/// [`CellCount`](Refusal::CellCount) where there are more than 131,072 cells, [`FluxSection`](Refusal::FluxSection) where the count of
+/// timings is not 0; after these [`NotATrackFile`](Refusal::NotATrackFile), and last [`NoRoom`](Refusal::NoRoom) with the bytes that the
+/// cells need.
 #[inline]
 pub fn file_cells(file: &[u8], cells: &mut [u8], place: &mut [u32]) -> Result<usize, Refusal> {
     // SAFETY: each address and length are those of one slice; `cells`, `place` and `value` are lent to this call alone.
@@ -801,6 +807,20 @@ pub fn file_cells(file: &[u8], cells: &mut [u8], place: &mut [u32]) -> Result<us
             value,
         )
     })
+}
+
+/// Makes a track file of an old one with flux timings, at the front of `out`; bytes behind it keep their contents. Gives its length, which is
+/// at most [`LONGEST_FILE`](crate::LONGEST_FILE). It has the track and the side of the old file, which are not judged, the cells that
+/// [`separate`] makes of the timings, and 0 as the count of timings; it is listed as the old file was.
+///
+/// Refuses at once, whatever follows, [`NotATrackFile`](Refusal::NotATrackFile) where the place's count is not 2 or that of the cells is not
+/// 0, [`TooManyTimings`](Refusal::TooManyTimings); after these [`NotATrackFile`](Refusal::NotATrackFile),
+/// [`TimingOutOfRange`](Refusal::TimingOutOfRange), [`TooManyCells`](Refusal::TooManyCells), [`CellCount`](Refusal::CellCount) with 0 where
+/// no cells come of the timings, and last [`NoRoom`](Refusal::NoRoom) with the length of the new file.
+#[inline]
+pub fn convert_file(file: &[u8], out: &mut [u8]) -> Result<usize, Refusal> {
+    // SAFETY: each address and length are those of one slice; `out` and `value` are lent to this call alone.
+    answer(|value| unsafe { thikbromu_convert_file(file.as_ptr(), file.len(), out.as_mut_ptr(), out.len(), value) })
 }
 
 /// The listing of a track file (rules 9.13, 11.8 and 11.9) at the front of `out`, or as much of it as there is room for. Gives the length of

@@ -41,7 +41,9 @@ mod two_reads;
 mod writing;
 
 #[doc(inline)]
-pub use boundary::{check_word, check_word_from, clear, decode, encode, put_one, write_track, SECTOR_IMAGE_BYTES};
+pub use boundary::{
+    check_word, check_word_from, clear, convert_file, decode, encode, put_one, write_track, SECTOR_IMAGE_BYTES,
+};
 pub use coding::{decode_to_vec, encode_to_vec, MOST_BYTES_TO_CODE, MOST_BYTES_TO_DECODE};
 pub use density::Density;
 pub use disk::{disk_page, MOST_TRACKS};
@@ -55,7 +57,7 @@ pub use sector::{ReadOut, Sector, SectorData, Sectors, LONGEST_SECTOR};
 pub use track::{
     Track, TrackInDensity, FEWEST_CELLS, HIGHEST_SIDE, HIGHEST_TRACK, MOST_CELLS, MOST_CELL_BYTES, MOST_SECTORS,
 };
-pub use track_block::{RevolutionReader, TakenPortion, TrackBlock};
-pub use track_file::{TrackCells, TrackFile, LONGEST_FILE, LONGEST_LISTING};
+pub use track_block::{RevolutionReader, TakenPortion, Timings, TrackBlock};
+pub use track_file::{convert_file_to_vec, TrackCells, TrackFile, LONGEST_FILE, LONGEST_LISTING, LONGEST_OLD_FILE};
 pub use two_reads::{compare_reads, good_read, CHECK_BYTES, LONGEST_READ};
 pub use writing::{write_track_to_vec, WrittenTrack};

@@ -24,7 +24,7 @@ pub enum Refusal {
     TimingOutOfRange(usize),
     /// 9: how many cells come of the timings, more than 131,072.
     TooManyCells(usize),
-    /// 10: how many bytes the cells need, or how many timings there are, for which there is no room.
+    /// 10: how many bytes the cells or the new file need, or how many timings there are, for which there is no room.
     NoRoom(usize),
     /// 11: how many sectors there are, none of which has the index asked for.
     NoSuchSector(usize),
@@ -50,6 +50,8 @@ pub enum Refusal {
     TrackGivenTwice,
     /// 22: a disk of more than 168 tracks (rule 16.3).
     TooManyTracks,
+    /// 23: the track file has a flux section (rule 10.4), so it is an old one to [convert](crate::convert_file_to_vec).
+    FluxSection,
     /// 24: the track has no plain image (rule 15.2). The first number from 1 to 9 that stands in the way, or 0 where only a number besides
     /// these does (rule 15.4).
     NoPlainImage(usize),
@@ -58,7 +60,7 @@ pub enum Refusal {
 }
 
 impl Refusal {
-    /// Its number: 1 to 22, 24 or 25.
+    /// Its number: 1 to 25.
     pub const fn number(self) -> u32 {
         match self {
             Refusal::TrackOrSide => 1,
@@ -83,6 +85,7 @@ impl Refusal {
             Refusal::TooLongATrack => 20,
             Refusal::TrackGivenTwice => 21,
             Refusal::TooManyTracks => 22,
+            Refusal::FluxSection => 23,
             Refusal::NoPlainImage(_) => 24,
             Refusal::NotTheirFindings => 25,
         }
@@ -114,6 +117,7 @@ impl Refusal {
             | Refusal::TooLongATrack
             | Refusal::TrackGivenTwice
             | Refusal::TooManyTracks
+            | Refusal::FluxSection
             | Refusal::NotTheirFindings => 0,
         }
     }
@@ -156,6 +160,7 @@ impl TryFrom<(u32, usize)> for Refusal {
             (20, 0) => Refusal::TooLongATrack,
             (21, 0) => Refusal::TrackGivenTwice,
             (22, 0) => Refusal::TooManyTracks,
+            (23, 0) => Refusal::FluxSection,
             (24, _) => Refusal::NoPlainImage(value),
             (25, 0) => Refusal::NotTheirFindings,
             _ => return Err(NotARefusal { number, value }),
@@ -176,7 +181,7 @@ impl fmt::Display for Refusal {
             Refusal::TooManyTimings(timings) => write!(out, "{timings} timings, more than 65,536"),
             Refusal::TimingOutOfRange(index) => write!(out, "the timing of index {index} is not 1 to 10,000,000"),
             Refusal::TooManyCells(cells) => write!(out, "{cells} cells in all, more than 131,072"),
-            Refusal::NoRoom(needed) => write!(out, "room is needed for {needed} bytes of cells, or {needed} timings"),
+            Refusal::NoRoom(needed) => write!(out, "room is needed for {needed} bytes, or {needed} timings"),
             Refusal::NoSuchSector(sectors) => write!(out, "no sector of that index among {sectors}"),
             Refusal::NoData => write!(out, "the sector has no data"),
             Refusal::NoRoomForBytes(needed) => write!(out, "room is needed for {needed} bytes"),
@@ -189,6 +194,7 @@ impl fmt::Display for Refusal {
             Refusal::TooLongATrack => write!(out, "the list makes more than 131,072 cells"),
             Refusal::TrackGivenTwice => write!(out, "a track and side stands twice"),
             Refusal::TooManyTracks => write!(out, "more than 168 tracks"),
+            Refusal::FluxSection => write!(out, "the track file has a flux section: it is to be converted"),
             Refusal::NoPlainImage(0) => write!(out, "no plain image: there is a sector besides 1 to 9"),
             Refusal::NoPlainImage(number) => {
                 write!(out, "no plain image: sector {number} is missing, double, of another size or with a bad check")
@@ -215,8 +221,8 @@ mod tests {
     #[test]
     fn numbers_and_values_are_those_of_the_table() {
         // The refusals beside which 0 is given.
-        let without_value = [1, 6, 12, 15, 16, 17, 18, 19, 20, 21, 22, 25];
-        for number in (1..=22).chain([24, 25]) {
+        let without_value = [1, 6, 12, 15, 16, 17, 18, 19, 20, 21, 22, 23, 25];
+        for number in 1..=25 {
             for value in [0, 7] {
                 let refusal = Refusal::try_from((number, value));
                 if value != 0 && without_value.contains(&number) {
@@ -230,7 +236,7 @@ mod tests {
 
     #[test]
     fn other_numbers_are_no_refusals() {
-        for number in [0, 23, 26, u32::MAX] {
+        for number in [0, 26, u32::MAX] {
             assert_eq!(Refusal::try_from((number, 0)), Err(NotARefusal { number, value: 0 }));
         }
     }

@@ -27,7 +27,9 @@ use crate::track::MOST_CELL_BYTES;
 /// let bytes = [&b"TRK\x05"[..], &table, &[0, 160, 0, 0, 0, 1]].concat();
 /// let block = TrackBlock::new(&bytes, 1);
 /// // 160 times 25 ns, and 65,537 times 25 ns.
-/// assert_eq!(block.timings(0)?, [4_000, 1_638_425]);
+/// assert_eq!(block.timings(0)?.list, [4_000, 1_638_425]);
+/// // The second ends 425 ns after the centre of its window, which is far from the border.
+/// assert_eq!(block.timings(0)?.border_pulses, 0);
 /// assert_eq!(block.timings(1), Err(Refusal::NoSuchRevolution));
 /// // 2 cells of 2,000 ns, and 819.
 /// assert_eq!(block.cells(0)?.count, 821);
@@ -39,6 +41,15 @@ use crate::track::MOST_CELL_BYTES;
 pub struct TrackBlock<'a> {
     bytes: &'a [u8],
     revolutions: u32,
+}
+
+/// The timings of a revolution.
+#[derive(Clone, Debug, PartialEq, Eq)]
+pub struct Timings {
+    /// The timings, in nanoseconds.
+    pub list: Vec<u32>,
+    /// The number of border pulses among them (rule 3.17), in double density, from a residual of 0.
+    pub border_pulses: usize,
 }
 
 impl<'a> TrackBlock<'a> {
@@ -57,13 +68,15 @@ impl<'a> TrackBlock<'a> {
         self.revolutions
     }
 
-    /// The timings of a revolution, in nanoseconds. The list has room for the most timings, so that [`NoRoom`](Refusal::NoRoom) is never
-    /// given.
-    pub fn timings(&self, revolution: u32) -> Result<Vec<u32>, Refusal> {
-        let mut timings = vec![0; MOST_TIMINGS];
-        let count = boundary::revolution_timings(self.bytes, self.revolutions, revolution, &mut timings)?;
-        timings.truncate(count);
-        Ok(timings)
+    /// The timings of a revolution, with the number of their border pulses, however many cells they give. The list has room for the most
+    /// timings, so that [`NoRoom`](Refusal::NoRoom) is never given.
+    pub fn timings(&self, revolution: u32) -> Result<Timings, Refusal> {
+        let mut list = vec![0; MOST_TIMINGS];
+        let mut border_pulses = 0;
+        let count =
+            boundary::revolution_timings(self.bytes, self.revolutions, revolution, &mut list, &mut border_pulses)?;
+        list.truncate(count);
+        Ok(Timings { list, border_pulses })
     }
 
     /// The cells that the separator makes of a revolution's timings, in double density; [`Cells::track`] makes a track of them. There is

@@ -10,21 +10,25 @@ use std::io::{self, Read};
 /// The longest listing, in bytes.
 pub const LONGEST_LISTING: usize = 65_536;
 
-/// The bytes of a file with both sections at their longest: six of the place, four of each count, the packed cells, and four of each
-/// timing. A longer file is answered as its first `LONGEST_FILE + 1` bytes are: all its counts stand before, so that what a count is
-/// refused for is the same, and bytes are left over in both.
-pub const LONGEST_FILE: usize = 6 + 4 + MOST_CELL_BYTES + 4 + 4 * MOST_TIMINGS;
+/// The bytes of the longest file: six of the place, four of each count, and the packed cells. A longer file is answered as its first
+/// `LONGEST_FILE + 1` bytes are: all its counts stand before, so that what a count is refused for is the same, and bytes are left over in
+/// both.
+pub const LONGEST_FILE: usize = 6 + 4 + MOST_CELL_BYTES + 4;
+
+/// The bytes of the longest old file: six of the place, four of each count, and four of each timing. A longer one is converted as its first
+/// `LONGEST_OLD_FILE + 1` bytes are.
+pub const LONGEST_OLD_FILE: usize = 6 + 4 + 4 + 4 * MOST_TIMINGS;
 
 /// A track file, whole in memory (rules 10.1 to 10.3): the number 2, the track and the side; how many cells there are, and these, packed;
-/// how many timings there are, and these. The track and the side have a byte, the other numbers four bytes, the lowest first. A file has
-/// cells or timings, and 0 as the number of the others.
+/// then the number 0. The track and the side have a byte, the other numbers four bytes, the lowest first. In old files the last number is
+/// that of the flux timings that follow it, and there are no cells: [`convert_file_to_vec`] makes a file of today of such a one.
 ///
 /// Nothing is judged when it is made.
 ///
 /// ```
 /// use thikbromu::{Refusal, TrackFile};
 ///
-/// // Track 5, side 0, and 100,000 cells; no timings.
+/// // Track 5, side 0, and 100,000 cells.
 /// let place_and_count = [2, 0, 0, 0, 5, 0, 0xA0, 0x86, 1, 0];
 /// let bytes = [&place_and_count[..], &[0xAA; 12_500], &[0; 4]].concat();
 /// let file = TrackFile::new(&bytes);
@@ -71,14 +75,12 @@ impl<'a> TrackFile<'a> {
         &self.bytes
     }
 
-    /// The cells, with their track and side; those of timings are made in double density. There is room for the most cells, so that
-    /// [`NoRoom`](Refusal::NoRoom) is never given.
+    /// The cells, with their track and side. There is room for the most cells, so that [`NoRoom`](Refusal::NoRoom) is never given.
     ///
     /// Refuses at once, whatever follows (rule 10.4), [`NotATrackFile`](Refusal::NotATrackFile) where the place's count is not 2,
-    /// [`CellCount`](Refusal::CellCount) where there are more than 131,072 cells, [`TooManyTimings`](Refusal::TooManyTimings) where there
-    /// are more than 65,536 timings; after these [`NotATrackFile`](Refusal::NotATrackFile),
-    /// [`TimingOutOfRange`](Refusal::TimingOutOfRange), [`TooManyCells`](Refusal::TooManyCells). What else a track can be refused for is
-    /// judged by the calls on it.
+    /// [`CellCount`](Refusal::CellCount) where there are more than 131,072 cells, [`FluxSection`](Refusal::FluxSection) where the count of
+    /// timings is not 0; after these [`NotATrackFile`](Refusal::NotATrackFile). What else a track can be refused for is judged by the calls
+    /// on it.
     pub fn cells(&self) -> Result<TrackCells, Refusal> {
         let mut packed = vec![0; MOST_CELL_BYTES];
         let mut place = [0; PLACE_NUMBERS];
@@ -92,6 +94,26 @@ impl<'a> TrackFile<'a> {
     pub fn listing(&self) -> String {
         listing_of(|out| boundary::file_listing(&self.bytes, out))
     }
+}
+
+/// As [`convert_file`](boundary::convert_file), into a vector that has room for the longest file, so that room is never too little.
+///
+/// ```
+/// use thikbromu::{convert_file_to_vec, Refusal, TrackFile};
+///
+/// // Track 5, side 0, no cells, and one timing of 4,000 ns, which makes two cells: 01.
+/// let old = [2, 0, 0, 0, 5, 0, 0, 0, 0, 0, 1, 0, 0, 0, 0xA0, 0x0F, 0, 0];
+/// assert_eq!(TrackFile::new(&old).cells().err(), Some(Refusal::FluxSection));
+/// let new = convert_file_to_vec(&old)?;
+/// assert_eq!(new, [2, 0, 0, 0, 5, 0, 2, 0, 0, 0, 0b0100_0000, 0, 0, 0, 0]);
+/// assert_eq!(TrackFile::new(&new).cells()?.track().cells(), 2);
+/// # Ok::<(), Refusal>(())
+/// ```
+pub fn convert_file_to_vec(file: &[u8]) -> Result<Vec<u8>, Refusal> {
+    let mut out = vec![0; LONGEST_FILE];
+    let length = boundary::convert_file(file, &mut out)?;
+    out.truncate(length);
+    Ok(out)
 }
 
 /// The cells that a track file gave, with their track and side.

@@ -1,7 +1,7 @@
 //! SuperCard Pro track blocks: the timings and the cells of a revolution, and its values in portions.
 
 use thikbromu::boundary::{revolution_cells, revolution_portion, revolution_timings};
-use thikbromu::{Cells, Refusal, RevolutionReader, TakenPortion, TrackBlock, MOST_TIMINGS};
+use thikbromu::{Cells, Refusal, RevolutionReader, TakenPortion, Timings, TrackBlock, MOST_TIMINGS};
 
 /// Three revolutions on track 7. The table ends at 40. The first has three values there, the second none at 46, the third two at 46. The
 /// block has 50 bytes.
@@ -30,17 +30,22 @@ fn one(values: &[u16]) -> Vec<u8> {
     block
 }
 
+/// The timings of a revolution without the number of their border pulses.
+fn list_of(block: TrackBlock, revolution: u32) -> Result<Vec<u32>, Refusal> {
+    block.timings(revolution).map(|timings| timings.list)
+}
+
 fn timings_of(values: &[u16]) -> Result<Vec<u32>, Refusal> {
-    TrackBlock::new(&one(values), 1).timings(0)
+    list_of(TrackBlock::new(&one(values), 1), 0)
 }
 
 #[test]
 fn timings_of_each_revolution() {
     let block = TrackBlock::new(THREE, 3);
     // 160, 240 and 320 units of 25 ns; 65,536 + 1 units.
-    assert_eq!(block.timings(0), Ok(vec![4_000, 6_000, 8_000]));
+    assert_eq!(block.timings(0), Ok(Timings { list: vec![4_000, 6_000, 8_000], border_pulses: 0 }));
     assert_eq!(block.timings(1), Err(Refusal::NoTimings));
-    assert_eq!(block.timings(2), Ok(vec![1_638_425]));
+    assert_eq!(block.timings(2), Ok(Timings { list: vec![1_638_425], border_pulses: 0 }));
     assert_eq!(block.timings(3), Err(Refusal::NoSuchRevolution));
     assert_eq!(block.timings(u32::MAX), Err(Refusal::NoSuchRevolution));
     assert_eq!((block.bytes().len(), block.revolutions()), (50, 3));
@@ -48,7 +53,7 @@ fn timings_of_each_revolution() {
 
 #[test]
 fn fewer_and_more_revolutions_than_the_table_has() {
-    assert_eq!(TrackBlock::new(THREE, 1).timings(0), Ok(vec![4_000, 6_000, 8_000]));
+    assert_eq!(list_of(TrackBlock::new(THREE, 1), 0), Ok(vec![4_000, 6_000, 8_000]));
     assert_eq!(TrackBlock::new(THREE, 1).timings(1), Err(Refusal::NoSuchRevolution));
     assert_eq!(TrackBlock::new(THREE, 0).timings(0), Err(Refusal::NoSuchRevolution));
     // Four need 52 bytes; 12 times 357,913,942 is 2 to the power of 32 and 8.
@@ -64,12 +69,13 @@ fn fewer_and_more_revolutions_than_the_table_has() {
 fn a_list_of_any_room() {
     for room in 0..=5 {
         let mut list = vec![7; room];
-        let answer = revolution_timings(THREE, 3, 0, &mut list);
+        let mut border_pulses = 7;
+        let answer = revolution_timings(THREE, 3, 0, &mut list, &mut border_pulses);
         if room < 3 {
             assert_eq!(answer, Err(Refusal::NoRoom(3)));
-            assert_eq!(list, vec![7; room]);
+            assert_eq!((list, border_pulses), (vec![7; room], 7));
         } else {
-            assert_eq!(answer, Ok(3));
+            assert_eq!((answer, border_pulses), (Ok(3), 0));
             assert_eq!(list[..3], [4_000, 6_000, 8_000]);
             assert!(list[3..].iter().all(|&timing| timing == 7));
         }
@@ -89,14 +95,36 @@ fn values_and_zeros() {
     assert_eq!(timings_of(&[1, 2, 0, 0, 0, 0, 0, 0, 0, 1, 3]), Err(Refusal::TimingOutOfRange(2)));
     // At an odd byte: A000 and F001.
     let block = with_entry(0, 2, 41);
-    assert_eq!(TrackBlock::new(&block, 3).timings(0), Ok(vec![1_024_000, 1_536_025]));
+    assert_eq!(list_of(TrackBlock::new(&block, 3), 0), Ok(vec![1_024_000, 1_536_025]));
 }
 
 #[test]
 fn the_most_timings() {
     assert_eq!(timings_of(&[160; MOST_TIMINGS]), Ok(vec![4_000; MOST_TIMINGS]));
     assert_eq!(timings_of(&[160; MOST_TIMINGS + 1]), Err(Refusal::TooManyTimings(65_537)));
-    assert_eq!(revolution_timings(&one(&[160; MOST_TIMINGS]), 1, 0, &mut []), Err(Refusal::NoRoom(65_536)));
+    let mut border_pulses = 7;
+    let answer = revolution_timings(&one(&[160; MOST_TIMINGS]), 1, 0, &mut [], &mut border_pulses);
+    assert_eq!((answer, border_pulses), (Err(Refusal::NoRoom(65_536)), 7));
+}
+
+#[test]
+fn border_pulses_of_timings() {
+    // 900 and 925 ns, alone and after 2 cells; 925 ns leave 462, so that 2,450 ns then end 912 ns off.
+    for (values, number) in
+        [(vec![36], 0), (vec![37], 1), (vec![196], 0), (vec![197], 1), (vec![197, 98], 2), (vec![160, 98, 160], 0)]
+    {
+        assert_eq!(TrackBlock::new(&one(&values), 1).timings(0).unwrap().border_pulses, number, "{values:?}");
+    }
+    // Timings of more cells than a track has are given: 2 and 27 times 5,000.
+    let block = one(&[&[197][..], &[0, 0, 0, 0, 0, 0, 6_784].repeat(27)].concat());
+    let timings = TrackBlock::new(&block, 1).timings(0).unwrap();
+    assert_eq!((timings.list.len(), timings.border_pulses), (28, 1));
+    assert_eq!(TrackBlock::new(&block, 1).cells(0), Err(Refusal::TooManyCells(135_002)));
+    // What is refused leaves the number as it was.
+    let mut border_pulses = 7;
+    assert!(revolution_timings(&one(&[37, 0]), 1, 0, &mut [0; 9], &mut border_pulses).is_err());
+    assert!(revolution_timings(&one(&[37]), 1, 1, &mut [0; 9], &mut border_pulses).is_err());
+    assert_eq!(border_pulses, 7);
 }
 
 #[test]
@@ -194,7 +222,8 @@ fn the_sample() {
     let block = TrackBlock::new(bytes, 2);
     for revolution in 0..2 {
         let cells = block.cells(revolution).unwrap();
-        assert_eq!(format!("{}FAA {}\n", cells.track(0, 0).listing(), cells.border_pulses), listing);
+        assert_eq!((&cells.track(0, 0).listing()[..], cells.border_pulses), (listing, 0));
+        assert_eq!(block.timings(revolution).unwrap().border_pulses, 0);
     }
     assert_eq!(block.timings(2), Err(Refusal::NoSuchRevolution));
     // Its values, from the offset that the table gives, in portions.
@@ -209,7 +238,7 @@ fn the_sample() {
             timings.extend(&list[..taken.timings.unwrap()]);
             reader = taken.next;
         }
-        assert_eq!(Ok(timings), block.timings(1));
+        assert_eq!(Ok(timings), list_of(block, 1));
     }
 }
 

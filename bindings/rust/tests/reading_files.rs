@@ -4,9 +4,14 @@ mod common;
 
 use common::samples;
 use std::io::{self, Read};
-use thikbromu::{Refusal, Sector, TrackFile, LONGEST_FILE};
+use thikbromu::{
+    convert_file, convert_file_to_vec, Refusal, Sector, TrackFile, LONGEST_FILE, LONGEST_OLD_FILE, MOST_TIMINGS,
+};
 
 const STANDARD: &[u8] = include_bytes!("../../../samples/standard.track");
+/// An old file, with a flux section, and what comes of it.
+const OLD: &[u8] = include_bytes!("../../../samples/old-flux.track");
+const CONVERTED: &[u8] = include_bytes!("../../../samples/old-flux-converted.track");
 
 /// A reader that gives at most so many bytes at a time, and in between says that it was interrupted.
 struct Portions<'a> {
@@ -49,7 +54,9 @@ fn every_sample_however_it_is_read() {
         assert_eq!(whole.listing(), sample.listing, "{}", sample.name);
         for size in [1, 7, 4096, file.len()] {
             let read = TrackFile::read_from(Portions::new(file, size)).unwrap();
-            assert_eq!(read.bytes(), whole.bytes(), "{} in portions of {size}", sample.name);
+            // The old file is longer than any of today.
+            let front = &file[..file.len().min(LONGEST_FILE + 1)];
+            assert!(read.bytes() == front, "{} in portions of {size}", sample.name);
             assert_eq!(read.cells(), whole.cells(), "{} in portions of {size}", sample.name);
             assert_eq!(read.listing(), sample.listing, "{} in portions of {size}", sample.name);
         }
@@ -91,7 +98,10 @@ fn refusals_that_a_count_gives() {
         let refused = |file: &[u8], refusal| refused(&[file, &vec![0; after]].concat(), refusal);
         refused(&[3, 0, 0, 0], Refusal::NotATrackFile);
         refused(&[2, 0, 0, 0, 0, 0, 1, 0, 2, 0], Refusal::CellCount(131_073));
-        refused(&[2, 0, 0, 0, 0, 0, 0, 0, 0, 0, 1, 0, 1, 0], Refusal::TooManyTimings(65_537));
+        // One timing, or many; behind no cells, and behind eight.
+        refused(&[2, 0, 0, 0, 0, 0, 0, 0, 0, 0, 1, 0, 0, 0], Refusal::FluxSection);
+        refused(&[2, 0, 0, 0, 84, 2, 0, 0, 0, 0, 1, 0, 1, 0], Refusal::FluxSection);
+        refused(&[2, 0, 0, 0, 0, 0, 8, 0, 0, 0, 0xAA, 0, 0, 0, 1], Refusal::FluxSection);
     }
 }
 
@@ -102,8 +112,77 @@ fn refusals_of_a_whole_file() {
     refused(&[STANDARD, &[0]].concat(), Refusal::NotATrackFile);
     // Neither cells nor timings.
     refused(&[2, 0, 0, 0, 0, 0, 0, 0, 0, 0, 0, 0, 0, 0], Refusal::NotATrackFile);
-    // A timing of 0 after one of 256.
-    refused(&[2, 0, 0, 0, 0, 0, 0, 0, 0, 0, 2, 0, 0, 0, 0, 1, 0, 0, 0, 0, 0, 0], Refusal::TimingOutOfRange(1));
+    // Cut within the count of timings.
+    refused(&[2, 0, 0, 0, 0, 0, 0, 0, 0, 0, 1, 0, 0], Refusal::NotATrackFile);
+}
+
+/// An old file at this place, its timings these.
+fn old_file(track: u8, side: u8, timings: &[u32]) -> Vec<u8> {
+    let mut file = vec![2, 0, 0, 0, track, side, 0, 0, 0, 0];
+    file.extend((timings.len() as u32).to_le_bytes());
+    file.extend(timings.iter().flat_map(|timing| timing.to_le_bytes()));
+    file
+}
+
+#[test]
+fn an_old_file_becomes_one_of_cells() {
+    assert_eq!(TrackFile::new(OLD).cells(), Err(Refusal::FluxSection));
+    assert_eq!(convert_file_to_vec(OLD).as_deref(), Ok(CONVERTED));
+    // 5,000 and 5,000 ns are 00101. The place is kept as it is.
+    let converted = convert_file_to_vec(&old_file(84, 2, &[5_000; 2]));
+    assert_eq!(converted, Ok(vec![2, 0, 0, 0, 84, 2, 5, 0, 0, 0, 0b0010_1000, 0, 0, 0, 0]));
+    // The longest of both.
+    let most = old_file(0, 0, &[4_000; MOST_TIMINGS]);
+    assert_eq!(most.len(), LONGEST_OLD_FILE);
+    assert_eq!(convert_file_to_vec(&most).map(|file| file.len()), Ok(LONGEST_FILE));
+}
+
+#[test]
+fn a_new_file_in_any_room() {
+    let old = old_file(7, 1, &[18_000]);
+    let new = [2, 0, 0, 0, 7, 1, 9, 0, 0, 0, 0, 0x80, 0, 0, 0, 0];
+    for room in 0..=18 {
+        let mut out = vec![7; room];
+        let answer = convert_file(&old, &mut out);
+        if room < new.len() {
+            assert_eq!(answer, Err(Refusal::NoRoom(16)));
+            assert_eq!(out, vec![7; room]);
+        } else {
+            assert_eq!(answer, Ok(16));
+            assert_eq!(out[..16], new);
+            assert!(out[16..].iter().all(|&byte| byte == 7));
+        }
+    }
+}
+
+#[test]
+fn old_files_that_are_refused() {
+    let refused = |file: &[u8], refusal| {
+        for room in [0, 9, LONGEST_FILE] {
+            let mut out = vec![7; room];
+            assert_eq!(convert_file(file, &mut out), Err(refusal));
+            assert_eq!(out, vec![7; room]);
+        }
+    };
+    // What comes after a count is not looked at.
+    for after in [0, 9, 300_000] {
+        let at_once = |file: &[u8], refusal| refused(&[file, &vec![0; after]].concat(), refusal);
+        at_once(&[3, 0, 0, 0], Refusal::NotATrackFile);
+        at_once(&[2, 0, 0, 0, 5, 0, 1, 0, 0, 0], Refusal::NotATrackFile);
+        at_once(&[2, 0, 0, 0, 5, 0, 1, 0, 2, 0], Refusal::NotATrackFile);
+        at_once(&[2, 0, 0, 0, 5, 0, 0, 0, 0, 0, 1, 0, 1, 0], Refusal::TooManyTimings(65_537));
+    }
+    refused(STANDARD, Refusal::NotATrackFile);
+    refused(&[], Refusal::NotATrackFile);
+    refused(&old_file(5, 0, &[]), Refusal::NotATrackFile);
+    let file = old_file(84, 0, &[4_000, 0]);
+    refused(&file, Refusal::TimingOutOfRange(1));
+    refused(&file[..file.len() - 1], Refusal::NotATrackFile);
+    refused(&[&file[..], &[0]].concat(), Refusal::NotATrackFile);
+    refused(&old_file(84, 0, &[10_000_000; 27]), Refusal::TooManyCells(135_000));
+    // No cells come of it, wherever it is from.
+    refused(&old_file(5, 0, &[500]), Refusal::CellCount(0));
+    refused(&old_file(84, 0, &[500]), Refusal::CellCount(0));
 }
 
 #[test]
@@ -114,31 +193,25 @@ fn a_reader_that_fails_gives_its_error() {
     }
 }
 
-/// A file of timings alone, its flux section at its longest, and then so many bytes.
-fn most_timings(after: usize) -> Vec<u8> {
-    let timings = 2_000u32.to_le_bytes().repeat(65_536);
-    [&[2, 0, 0, 0, 0, 0, 0, 0, 0, 0, 0, 0, 1, 0][..], &timings, &vec![0; after]].concat()
-}
-
-/// A file with both sections at their longest, and this as the number of timings; then so many bytes.
-fn both_sections(timings: u32, after: usize) -> Vec<u8> {
+/// A file of the most cells, with this as the number of timings; then so many bytes.
+fn most_cells(timings: u32, after: usize) -> Vec<u8> {
     let front = [2, 0, 0, 0, 0, 0, 0, 0, 2, 0];
-    [&front[..], &[0xAA; 16_384], &timings.to_le_bytes(), &vec![0; 262_144 + after]].concat()
+    [&front[..], &[0xAA; 16_384], &timings.to_le_bytes(), &vec![0; after]].concat()
 }
 
 #[test]
 fn no_more_is_read_than_is_needed() {
-    assert_eq!(both_sections(0, 0).len(), LONGEST_FILE);
+    assert_eq!(most_cells(0, 0).len(), LONGEST_FILE);
     let files = [
-        // Accepted, and the longest that is.
-        most_timings(0),
-        most_timings(1),
-        // As long as any file that its counts allow, one byte longer, and longer.
-        both_sections(65_536, 0),
-        both_sections(65_536, 1),
-        both_sections(65_536, 5_000),
-        both_sections(65_537, 5_000),
-        both_sections(0, 5_000),
+        // Accepted, and the longest that is; one byte longer, and longer.
+        most_cells(0, 0),
+        most_cells(0, 1),
+        most_cells(0, 5_000),
+        // Refused by the last number.
+        most_cells(1, 0),
+        most_cells(1, 5_000),
+        most_cells(1 << 24, 1),
+        old_file(5, 0, &[4_000; 5_000]),
         vec![2; LONGEST_FILE + 2],
     ];
     for bytes in files {

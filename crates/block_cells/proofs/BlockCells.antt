@@ -6,21 +6,18 @@ use mathlib.Core.List.{List}
 use native.Mathlib.Omega.{arith}
 use borrow.Author.Tests.{le-ltb, ltb-false}
 use lib.Dec.{eqb, ltb}
-use lib.IntN.{pos}
 use lib.ListN.{length, take, drop}
 use lib.Seq.{take-at}
 use Rattle.basis.specs.Lists.{writtenOver}
 use Rattle.cells.specs.CellsAndBytes.{packed}
-use Rattle.separation.specs.Separation.{cellsOf, borderPulsesOf, cellsJudged, separation, separatedCells, borderPulsesAfter}
+use Rattle.separation.specs.Separation.{cellsOf, borderPulsesOf, borderPulsesCounted, cellsJudged, separation, separatedCells, borderPulsesAfter}
 use Rattle.flux_timings.specs.Timings.{firstOut, timingsJudged}
-use Rattle.separator.specs.Rule.{doubleHalfWindow}
-use Rattle.separation.proofs.BorderPulses.{border-pulses-few}
 use Rattle.separation.proofs.Promise.{promised}
 use Rattle.refusals.specs.RefusedCalls.{Answer, bufferAfter}
 use Rattle.refusals.specs.RefusedCalls.Answer.{gives, refused}
 use Rattle.supercard_pro.specs.TrackBlock.{revolutionTimings, notATrackBlock, blockJudged, blockAnswer, blockTimings}
 use Rattle.revolution_portions.specs.Portions.{roomJudged}
-use Rattle.block_cells.specs.BlockToCells.{blockSeparation, blockCells, blockBorderPulses, BlockDemand3}
+use Rattle.block_cells.specs.BlockToCells.{blockSeparation, blockCells, blockBorderPulses, timingsBorderPulses, BlockDemand3}
 
 -- the refusals 16, 17, 6, 7 and 8 in their order: `next` is given where none holds
 abbrev chain : (bad has none many out : Bool) (timings index : ℕ) → Answer ℕ → Answer ℕ
@@ -47,6 +44,23 @@ chain-passes bad has none many out timings index first count = go bad has none m
     go false true false true out e = never e
     go false true false false true e = never e
     go false true false false false e = record { good = refl; there = refl; few = refl; given = e }
+
+-- where it is given, no refusal of the timings holds
+chain-judged : (bad has none many out : Bool) (timings index : ℕ) (first : Answer ℕ) (count : ℕ) → chain bad has none many out timings index first ≡ gives count
+    → (next : Answer ℕ) → cond none (refused 6 0) (cond many (refused 7 timings) (cond out (refused 8 index) next)) ≡ next
+chain-judged bad has none many out timings index first count e next = go bad has none many out e
+  where
+    never : {number value : ℕ} → refused number value ≡ gives count → {A : Type 0} → A
+    never e = let z : _≡_ {A = ℕ} 0 1 = cc in absurd (omega arith)
+
+    go : (bad has none many out : Bool) → chain bad has none many out timings index first ≡ gives count
+        → cond none (refused 6 0) (cond many (refused 7 timings) (cond out (refused 8 index) next)) ≡ next
+    go true has none many out e = never e
+    go false false none many out e = never e
+    go false true true many out e = never e
+    go false true false true out e = never e
+    go false true false false true e = never e
+    go false true false false false e = refl
 
 chain-refuses : (bad has none many out : Bool) (timings index : ℕ) (first second : Answer ℕ) (count number value : ℕ) → (many ≡ false → first ≡ gives count)
     → chain bad has none many out timings index first ≡ refused number value → chain bad has none many out timings index second ≡ refused number value
@@ -141,10 +155,29 @@ module _ (block : List ℕ) (revolutions k : ℕ) where
         (p ∙ ap (λ (x : List ℕ). borderPulsesAfter (separation x (length before)) (borderPulsesOf x) pulses) front-is
         ∙ ap (λ (x : Answer ℕ). borderPulsesAfter x (borderPulsesOf ts) pulses) (sym is))
 
-  -- where the call is accepted, the border pulses are no more than timings may be
-  pub pulses-few : (room before : ℕ) {count : ℕ} → blockSeparation block revolutions k room ≡ gives count → blockBorderPulses block revolutions k room before ≤ 65536
-  unfolding blockJudged timingsJudged borderPulsesAfter
-  pulses-few room before {count} e =
-      let p = chain-passes bad (ltb k revolutions) (eqb (length ts) 0) (ltb 65536 (length ts)) (ltb (firstOut ts) (length ts)) (length ts) (firstOut ts)
-      (cellsJudged (length (cellsOf ts)) room) count e in
-      rw e (omega (arith, border-pulses-few doubleHalfWindow ts (pos 0), ltb-false 65536 (length ts) (p .few)))
+  -- what the call that gives the timings promises, with the number of border pulses
+  abbrev TimingsPromised : List ℕ → Answer ℕ → List ℕ → (pulses pulses′ : ℕ) → Type 0
+  TimingsPromised before answer after pulses pulses′ =
+      (answer ≡ blockAnswer block revolutions k (length before))
+      × ((after ≡ blockTimings block revolutions k before) × (pulses′ ≡ timingsBorderPulses block revolutions k (length before) pulses))
+
+  module _ (list : List ℕ) {filled : List ℕ} (f : filled ≡ blockTimings block revolutions k list) where
+    pub pulses-kept : {number value : ℕ} → refused number value ≡ blockAnswer block revolutions k (length list) → (pulses : ℕ)
+        → TimingsPromised list (refused number value) filled pulses pulses
+    unfolding borderPulsesAfter
+    pulses-kept e pulses = (e, (f, ap (λ (x : Answer ℕ). borderPulsesAfter x (borderPulsesOf ts) pulses) e))
+
+    pub pulses-counted : {count : ℕ} → gives count ≡ blockAnswer block revolutions k (length list) → (pulses : ℕ) {answer : Answer ℕ}
+        → answer ≡ borderPulsesCounted (take count filled) → {number : ℕ} → ((n : ℕ) → answer ≡ gives n → number ≡ n)
+        → TimingsPromised list (gives count) filled pulses number
+    unfolding borderPulsesAfter blockJudged timingsJudged
+    pulses-counted {count} e pulses a is =
+        let judged = chain-judged bad (ltb k revolutions) (eqb (length ts) 0) (ltb 65536 (length ts)) (ltb (firstOut ts) (length ts)) (length ts) (firstOut ts)
+        (roomJudged (length ts) (length list)) count (sym e) (gives (borderPulsesOf ts)) in (
+          e,
+          (
+            f,
+            is (borderPulsesOf ts) (a ∙ ap borderPulsesCounted (front-is list e f) ∙ judged)
+                ∙ ap (λ (x : Answer ℕ). borderPulsesAfter x (borderPulsesOf ts) pulses) e,
+          ),
+        )

@@ -10,7 +10,7 @@ use Rattle.cells.specs.CellsAndBytes.{packed}
 use Rattle.separation.specs.Separation.{cellsOf, borderPulsesOf, separation, borderPulsesAfter}
 use Rattle.separation.specs.Demand3.{Demand3}
 use Rattle.refusals.specs.RefusedCalls.{Answer, bufferAfter}
-use Rattle.supercard_pro.specs.TrackBlock.{revolutionTimings, notATrackBlock, blockJudged}
+use Rattle.supercard_pro.specs.TrackBlock.{revolutionTimings, notATrackBlock, blockJudged, blockAnswer}
 
 -- 9.16, 12.20: refusals 16 and 17, and then the separator's own on the timings, 6 to 10; else the number of cells
 abbrev pub blockSeparation : List ℕ → ℕ → ℕ → ℕ → Answer ℕ
@@ -26,6 +26,12 @@ blockCells block revolutions k buffer =
 abbrev pub blockBorderPulses : (block : List ℕ) (revolutions k room before : ℕ) → ℕ
 blockBorderPulses block revolutions k room before =
     borderPulsesAfter (blockSeparation block revolutions k room) (borderPulsesOf (revolutionTimings block k)) before
+
+-- 3.17, 9.14, 9.38, 12.13: the lent number of border pulses after the call that gives the timings: that of these timings, stepped from the
+-- residual 0, or, beside a refusal, the one that was there. The list has room for `room` timings
+abbrev pub timingsBorderPulses : (block : List ℕ) (revolutions k room before : ℕ) → ℕ
+timingsBorderPulses block revolutions k room before =
+    borderPulsesAfter (blockAnswer block revolutions k room) (borderPulsesOf (revolutionTimings block k)) before
 
 -- 12.21: demand 3 of a revolution of a track block: the call recovers the cells written, for all flux transitions and pulses within the
 -- tolerance of which the revolution's timings are the distances. Where the first value runs from the index and not from a pulse it is no

@@ -6,15 +6,13 @@ use native.Mathlib.Omega.{arith}
 use lib.ListN.{length}
 use Rattle.refusals.specs.declared.Counted.{Counted}
 use Rattle.refusals.specs.declared.Counted.the-variants.{Count, Refused}
-use Rattle.listing.specs.Listing.{fluxListingOf}
+use Rattle.listing.specs.Listing.{listingOf}
 use Rattle.lines.specs.Lines.{refusedLine, outAfter}
 use Rattle.lines.proofs.Lengths.{refused-few}
 use Rattle.refusals.specs.RefusedCalls.{Answer, refusedWith, countedAnswer, numberOf}
 use Rattle.refusals.specs.RefusedCalls.Answer.{gives}
 use Rattle.refusals.specs.declared.Refusal.{Refusal}
-use Rattle.block_cells.specs.BlockToCells.{blockSeparation, blockCells, blockBorderPulses}
-use Rattle.separation.specs.Separation.{borderPulsesOf, borderPulsesAfter}
-use Rattle.supercard_pro.specs.TrackBlock.{revolutionTimings}
+use Rattle.block_cells.specs.BlockToCells.{blockSeparation, blockCells}
 use Rattle.block_listing.specs.BlockListing.{roomForCells, printedCells, blockListing}
 
 module _ (block : List ℕ) (revolutions k T H : ℕ) where
@@ -23,34 +21,22 @@ module _ (block : List ℕ) (revolutions k T H : ℕ) where
   Written before r after =
       (r ≡ length (blockListing block revolutions k T H)) × ((r ≤ 65536) × (after ≡ outAfter (blockListing block revolutions k T H) before))
 
-  abbrev pulsesOf : ℕ
-  pulsesOf = borderPulsesOf (revolutionTimings block k)
-
   module _ {room : List ℕ} (room-is : room ≡ roomForCells) where
     listing-is : (answer : Answer ℕ) (cells : List ℕ) → answer ≡ blockSeparation block revolutions k (length room) → cells ≡ blockCells block revolutions k room
-        → blockListing block revolutions k T H ≡ printedCells answer pulsesOf cells T H
+        → blockListing block revolutions k T H ≡ printedCells answer cells T H
     unfolding blockListing
     listing-is answer cells is left =
-        sym (ap (λ (x : Answer ℕ). printedCells x pulsesOf cells T H) (is ∙ ap (λ (b : List ℕ). blockSeparation block revolutions k (length b)) room-is)
-        ∙ ap (λ (b : List ℕ). printedCells (blockSeparation block revolutions k (length roomForCells)) pulsesOf b T H) (left ∙ ap (blockCells block revolutions k) room-is))
+        sym (ap (λ (x : Answer ℕ). printedCells x cells T H) (is ∙ ap (λ (b : List ℕ). blockSeparation block revolutions k (length b)) room-is)
+        ∙ ap (λ (b : List ℕ). printedCells (blockSeparation block revolutions k (length roomForCells)) b T H) (left ∙ ap (blockCells block revolutions k) room-is))
 
     -- the cells are counted
-    module _ {separated : Counted} {count : ℕ} (e : separated ≡ Count count) (is : countedAnswer separated ≡ blockSeparation block revolutions k (length room)) where
-      given : gives count ≡ blockSeparation block revolutions k (length room)
-      given = ap countedAnswer (sym e) ∙ is
-
-      module _ (before : ℕ) {pulses : ℕ} (are : pulses ≡ blockBorderPulses block revolutions k (length room) before) where
-        pulses-are : pulses ≡ pulsesOf
-        unfolding borderPulsesAfter
-        pulses-are = are ∙ ap (λ (x : Answer ℕ). borderPulsesAfter x pulsesOf before) (sym given)
-
-        pub cells-written : {cells : List ℕ} → cells ≡ blockCells block revolutions k room → (out : List ℕ) {after : List ℕ} {r : ℕ}
-            → (r ≡ length (fluxListingOf cells count T H pulses)) × ((r ≤ 65536) × (after ≡ outAfter (fluxListingOf cells count T H pulses) out)) → Written out r after
-        unfolding printedCells
-        cells-written {cells} left out w =
-            let l : blockListing block revolutions k T H ≡ fluxListingOf cells count T H pulses
-            = listing-is (gives count) cells given left ∙ ap (fluxListingOf cells count T H) (sym pulses-are) in
-            rw l w
+    pub cells-written : {separated : Counted} {count : ℕ} → separated ≡ Count count → countedAnswer separated ≡ blockSeparation block revolutions k (length room)
+        → {cells : List ℕ} → cells ≡ blockCells block revolutions k room → (out : List ℕ) {after : List ℕ} {r : ℕ}
+        → (r ≡ length (listingOf cells count T H)) × ((r ≤ 65536) × (after ≡ outAfter (listingOf cells count T H) out)) → Written out r after
+    unfolding printedCells
+    cells-written {count = count} e is {cells} left out w =
+        let l : blockListing block revolutions k T H ≡ listingOf cells count T H = listing-is (gives count) cells (ap countedAnswer (sym e) ∙ is) left in
+        rw l w
 
     pub refusal-written : {separated : Counted} {refusal : Refusal} → separated ≡ Refused refusal
         → countedAnswer separated ≡ blockSeparation block revolutions k (length room) → {cells : List ℕ} → cells ≡ blockCells block revolutions k room

@@ -1,4 +1,4 @@
-// The listing of one revolution of a track block: that of the track with the cells which the separator makes of it, and its border pulses.
+// The listing of one revolution of a track block: that of the track with the cells which the separator makes of it.
 use refusals::Counted;
 ghost use mathlib.Core.Path.{_≡_};
 ghost use Prim.Native.Nat.{_≤_};
@@ -29,9 +29,7 @@ pub fn list_block(
         &mut pulses,
     );
     match separated {
-        Counted::Count(count) => {
-            listing::list_flux_track(&cells, count, track, side, pulses as u32, out)
-        }
+        Counted::Count(count) => listing::list_track(&cells, count, track, side, out),
         Counted::Refused(refusal) => lines::refused_line(out, refusal.number()),
     }
 }

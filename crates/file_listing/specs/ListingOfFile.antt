@@ -1,34 +1,26 @@
--- Section 11 of the specification, rules 11.8 and 11.13: the listing of a whole track file. The main property is `WholeListing`: the listing
+-- Section 11 of the specification, rule 11.8: the listing of a whole track file. The main property is `WholeListing`: the listing
 -- does not depend on how the file was cut into portions. Assumes nothing.
 use Prim.Native.Nat.{ℕ}
 use mathlib.Core.Path.{_≡_}
 use mathlib.Core.List.{List}
 use lib.ListN.{length}
-use Rattle.listing.specs.Listing.{listingOf, fluxListingOf}
+use Rattle.listing.specs.Listing.{listingOf}
 use Rattle.lines.specs.Lines.{refusedLine, outAfter}
 use Rattle.refusals.specs.RefusedCalls.{Answer}
 use Rattle.refusals.specs.RefusedCalls.Answer.{gives, refused}
 use Rattle.track_file.specs.Portions.{readerThrough, cellsThrough, wholeOf}
-use Rattle.track_file.specs.TrackFile.{Content, fileAnswerIn, fileBuffer, fileBorderPulses}
-use Rattle.track_file.specs.declared.BorderPulses.{BorderPulses}
-use Rattle.track_file.specs.declared.BorderPulses.the-variants.{Pulses, NoFluxSection}
+use Rattle.track_file.specs.TrackFile.{Content, fileAnswerIn, fileBuffer}
 use Rattle.file_reader.specs.declared.Reader.{Reader}
 
--- 11.13: the listing of the track with the cells of an accepted file: that of a flux section has the line of its border pulses, and that of
--- a cell section has no such line
-unfoldable pub trackListing : BorderPulses → (cells : List ℕ) (N T H : ℕ) → List ℕ
-trackListing (Pulses pulses) cells N T H = fluxListingOf cells N T H pulses
-trackListing NoFluxSection cells N T H = listingOf cells N T H
+-- 11.4, 11.8: what is printed of a file that gives this, with these packed cells: the line with the refusal's number where the file is
+-- refused, and else the listing of the track with its cells, T and H, which judges 1 to 4 last
+unfoldable pub printedFile : Answer Content → List ℕ → List ℕ
+printedFile (gives content) cells = listingOf cells (content .cells) (content .track) (content .side)
+printedFile (refused number value) cells = refusedLine number
 
--- 11.4, 11.8, 11.13: what is printed of a file that gives this, with these border pulses and packed cells: the line with the refusal's
--- number where the file is refused, and else the listing of the track with its cells, T and H, which judges 1 to 4 last
-unfoldable pub printedFile : Answer Content → BorderPulses → List ℕ → List ℕ
-printedFile (gives content) pulses cells = trackListing pulses cells (content .cells) (content .track) (content .side)
-printedFile (refused number value) pulses cells = refusedLine number
-
--- 9.13, 11.8, 11.13: the listing of a file that is read with a cell buffer of `room` bytes
+-- 9.13, 11.8: the listing of a file that is read with a cell buffer of `room` bytes
 unfoldable pub fileListing : ℕ → List ℕ → List ℕ
-fileListing room file = printedFile (fileAnswerIn room file) (fileBorderPulses file) (fileBuffer room file)
+fileListing room file = printedFile (fileAnswerIn room file) (fileBuffer room file)
 
 -- 10.15, 11.8: for every file and every way to cut it into portions: where `start` was called on a buffer and then `feed` on each portion
 -- in turn, the listing is that of the whole file

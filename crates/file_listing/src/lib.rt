@@ -1,24 +1,22 @@
 // The listing of a whole track file: at the end of its portions, or of a file in memory.
 use file_reader::Reader;
-use track_file::BorderPulses;
 use track_file::Read;
 ghost use mathlib.Core.Path.{_≡_};
 ghost use Prim.Native.Nat.{_≤_};
 ghost use lib.ListN.{length};
 ghost use Rattle.lines.specs.Lines.{outAfter};
-ghost use Rattle.track_file.specs.Portions.{readAnswer, finishAnswer, borderPulsesRead};
-ghost use Rattle.file_listing.specs.ListingOfFile.{trackListing, printedFile, fileListing, WholeListing};
+ghost use Rattle.track_file.specs.Portions.{readAnswer, finishAnswer};
+ghost use Rattle.file_listing.specs.ListingOfFile.{printedFile, fileListing, WholeListing};
 
 // The end of a track file that came in portions: its listing, at the front of `out`. `cells` is the buffer that the file was read with.
 pub fn list_file(reader: Reader, cells: &[u8], out: &mut [u8]) -> usize
-    ensures answer { λ r. ⌜ r ≡ length (printedFile (finishAnswer reader) (borderPulsesRead reader) (now (cells .entry))) ⌝ }
+    ensures answer { λ r. ⌜ r ≡ length (printedFile (finishAnswer reader) (now (cells .entry))) ⌝ }
     ensures few { λ r. ⌜ r ≤ 65536 ⌝ }
-    ensures out { λ _. ⌜ now (out .exit) ≡ outAfter (printedFile (finishAnswer reader) (borderPulsesRead reader) (now (cells .entry))) (now (out .entry)) ⌝ }
+    ensures out { λ _. ⌜ now (out .exit) ≡ outAfter (printedFile (finishAnswer reader) (now (cells .entry))) (now (out .entry)) ⌝ }
     ensures file { λ r. ⌜ WholeListing reader (now (cells .entry)) r (now (out .entry)) (now (out .exit)) ⌝ }
 {
     let read = track_file::finish(reader);
-    let pulses = track_file::border_pulses(reader);
-    list_read(read, pulses, cells, out)
+    list_read(read, cells, out)
 }
 
 // The listing of a track file in memory, at the front of `out`. A buffer of 65,536 bytes holds any.
@@ -34,36 +32,15 @@ pub fn list_whole_file(file: &[u8], out: &mut [u8]) -> usize
 }
 
 // The listing of what a file gave.
-fn list_read(read: Read, pulses: BorderPulses, cells: &[u8], out: &mut [u8]) -> usize
-    ensures answer { λ r. ⌜ r ≡ length (printedFile (readAnswer read) pulses (now (cells .entry))) ⌝ }
+fn list_read(read: Read, cells: &[u8], out: &mut [u8]) -> usize
+    ensures answer { λ r. ⌜ r ≡ length (printedFile (readAnswer read) (now (cells .entry))) ⌝ }
     ensures few { λ r. ⌜ r ≤ 65536 ⌝ }
-    ensures out { λ _. ⌜ now (out .exit) ≡ outAfter (printedFile (readAnswer read) pulses (now (cells .entry))) (now (out .entry)) ⌝ }
+    ensures out { λ _. ⌜ now (out .exit) ≡ outAfter (printedFile (readAnswer read) (now (cells .entry))) (now (out .entry)) ⌝ }
 {
     match read {
         Read::Cells { track, side, count } => {
-            list_cells(pulses, cells, count, track as u32, side as u32, out)
+            listing::list_track(cells, count, track as u32, side as u32, out)
         }
         Read::Refused(refusal) => lines::refused_line(out, refusal.number()),
-    }
-}
-
-// The listing of the track of an accepted file.
-fn list_cells(
-    pulses: BorderPulses,
-    cells: &[u8],
-    count: usize,
-    track: u32,
-    side: u32,
-    out: &mut [u8],
-) -> usize
-    ensures answer { λ r. ⌜ r ≡ length (trackListing pulses (now (cells .entry)) count track side) ⌝ }
-    ensures few { λ r. ⌜ r ≤ 65536 ⌝ }
-    ensures out { λ _. ⌜ now (out .exit) ≡ outAfter (trackListing pulses (now (cells .entry)) count track side) (now (out .entry)) ⌝ }
-{
-    match pulses {
-        BorderPulses::Pulses(number) => {
-            listing::list_flux_track(cells, count, track, side, number, out)
-        }
-        BorderPulses::NoFluxSection => listing::list_track(cells, count, track, side, out),
     }
 }

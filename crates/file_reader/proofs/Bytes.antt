@@ -4,18 +4,16 @@ use mathlib.Core.Path.{_≡_}
 use mathlib.Core.List.{List}
 use lib.ListN.{set}
 use Rattle.refusals.specs.declared.Refusal.{Refusal}
-use Rattle.taken_timings.specs.Timings.{takenAfter, takenCells}
-use Rattle.file_reader.specs.Bytes.{numberAfter, afterPlaceCount, afterCellCount, afterPackedByte, afterFluxCount, afterTiming, inPlaceCount, inCellCount, inFluxCount, inTiming, inTimingCells, readerAfterByte, cellsAfterByte}
+use Rattle.file_reader.specs.Bytes.{numberAfter, afterPlaceCount, afterCellCount, afterPackedByte, afterFluxCount, inPlaceCount, inCellCount, inFluxCount, readerAfterByte, cellsAfterByte}
 use Rattle.file_reader.specs.declared.Place.{Place}
 use Rattle.file_reader.specs.declared.Number.{Number}
 use Rattle.file_reader.specs.declared.Number.the-variants.{Empty}
 use Rattle.file_reader.specs.declared.Extended.{Extended}
 use Rattle.file_reader.specs.declared.Extended.the-variants.{Part, Whole}
-use Rattle.taken_timings.specs.declared.TakenTimings.{TakenTimings}
 use Rattle.file_reader.specs.declared.Reader.{Reader}
-use Rattle.file_reader.specs.declared.Reader.the-variants.{PlaceCount, Track, Side, CellCount, PackedCells, FluxCount, Timings, AllCells, AllTimings, NotATrackFile, Stopped}
+use Rattle.file_reader.specs.declared.Reader.the-variants.{PlaceCount, Track, Side, CellCount, PackedCells, FluxCount, AllCells, NotATrackFile, Stopped}
 
--- a byte of a count, and of a timing
+-- a byte of a count
 module _ (extended : Extended) where
   module _ {part : Number} (is : extended ≡ Part part) where
     pub in-place-count-part : PlaceCount part ≡ inPlaceCount extended
@@ -30,11 +28,6 @@ module _ (extended : Extended) where
     unfolding inFluxCount
     in-flux-count-part place cells = rw is
 
-    pub in-timing-part : (place : Place) (left : ℕ) (taken : TakenTimings) (buffer : List ℕ)
-        → (Timings place left part taken ≡ inTiming place left taken extended) × (buffer ≡ inTimingCells taken extended buffer)
-    unfolding inTiming inTimingCells
-    in-timing-part place left taken buffer = (rw is, rw is)
-
   module _ {number : ℕ} (is : extended ≡ Whole number) {next : Reader} where
     pub in-place-count-whole : next ≡ afterPlaceCount number → next ≡ inPlaceCount extended
     unfolding inPlaceCount
@@ -47,12 +40,6 @@ module _ (extended : Extended) where
     pub in-flux-count-whole : (place : Place) (cells : ℕ) → next ≡ afterFluxCount place cells number → next ≡ inFluxCount place cells extended
     unfolding inFluxCount
     in-flux-count-whole place cells n = rw is n
-
-    pub in-timing-whole : (place : Place) (left : ℕ) (taken : TakenTimings) (buffer : List ℕ) {after : List ℕ} {then-taken : TakenTimings}
-        → (then-taken ≡ takenAfter taken number) × (after ≡ takenCells taken number buffer) → next ≡ afterTiming place left then-taken
-        → (next ≡ inTiming place left taken extended) × (after ≡ inTimingCells taken extended buffer)
-    unfolding inTiming inTimingCells
-    in-timing-whole place left taken buffer s n = (rw (is, ← (s .0)) n, rw is (s .1))
 
 module _ (reader : Reader) (byte : ℕ) (buffer : List ℕ) where
   -- the reader and the buffer are those after the byte
@@ -72,11 +59,6 @@ module _ (reader : Reader) (byte : ℕ) (buffer : List ℕ) where
     unfolding readerAfterByte cellsAfterByte
     flux-count-read p n = (rw (p, ← q) n, rw p)
 
-    pub timing-read : {place : Place} {left : ℕ} {taken : TakenTimings} {next : Reader} {after : List ℕ} → reader ≡ Timings place left number taken
-        → (next ≡ inTiming place left taken extended) × (after ≡ inTimingCells taken extended buffer) → After next after
-    unfolding readerAfterByte cellsAfterByte
-    timing-read p n = (rw (p, ← q) (n .0), rw (p, ← q) (n .1))
-
   pub track-read : reader ≡ Track → After (Side byte) buffer
   unfolding readerAfterByte cellsAfterByte
   track-read p = (rw p, rw p)
@@ -93,10 +75,6 @@ module _ (reader : Reader) (byte : ℕ) (buffer : List ℕ) where
   pub left-over-cells : {place : Place} {count : ℕ} → reader ≡ AllCells place count → After NotATrackFile buffer
   unfolding readerAfterByte cellsAfterByte
   left-over-cells p = (rw p, rw p)
-
-  pub left-over-timings : {place : Place} {taken : TakenTimings} → reader ≡ AllTimings place taken → After NotATrackFile buffer
-  unfolding readerAfterByte cellsAfterByte
-  left-over-timings p = (rw p, rw p)
 
   pub still-no-file : reader ≡ NotATrackFile → After NotATrackFile buffer
   unfolding readerAfterByte cellsAfterByte

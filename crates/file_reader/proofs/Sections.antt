@@ -1,15 +1,13 @@
--- Where the reader stands after each count, after a byte of packed cells and after a timing: each branch of the code. Assumes nothing.
-use Prim.Native.Nat.{ℕ, _+_, _-_, _≤_, _<_}
+-- Where the reader stands after each count and after a byte of packed cells: each branch of the code. Assumes nothing.
+use Prim.Native.Nat.{ℕ, _+_, _≤_, _<_}
 use mathlib.Core.Path.{_≡_}
 use borrow.Author.Tests.{lt-ltb, le-ltb, eq-eqb, ne-eqb}
 use Rattle.cells.specs.CellsAndBytes.{bytesFor}
-use Rattle.refusals.specs.declared.Refusal.the-variants.{CellCount as CellsRefused, TooManyTimings, NotATrackFile as NoTrackFile}
-use Rattle.taken_timings.specs.Timings.{noneTaken}
-use Rattle.file_reader.specs.Bytes.{afterPlaceCount, afterCellCount, afterPackedByte, afterFluxCount, afterTiming}
+use Rattle.refusals.specs.declared.Refusal.the-variants.{CellCount as CellsRefused, FluxSection, NotATrackFile as NoTrackFile}
+use Rattle.file_reader.specs.Bytes.{afterPlaceCount, afterCellCount, afterPackedByte, afterFluxCount}
 use Rattle.file_reader.specs.declared.Place.{Place}
 use Rattle.file_reader.specs.declared.Number.the-variants.{Empty}
-use Rattle.taken_timings.specs.declared.TakenTimings.{TakenTimings}
-use Rattle.file_reader.specs.declared.Reader.the-variants.{Track, PackedCells, FluxCount, Timings, AllCells, AllTimings, NotATrackFile, Stopped}
+use Rattle.file_reader.specs.declared.Reader.the-variants.{Track, PackedCells, FluxCount, AllCells, NotATrackFile, Stopped}
 
 pub place-count-two : (count : ℕ) → count ≡ 2 → Track ≡ afterPlaceCount count
 unfolding afterPlaceCount
@@ -42,33 +40,14 @@ module _ (place : Place) where
     last-byte at h = rw (le-ltb (at + 1) (bytesFor count) h)
 
   module _ (cells count : ℕ) where
-    pub too-many-timings : 65536 < count → Stopped (TooManyTimings count) ≡ afterFluxCount place cells count
+    pub some-timings : (count ≡ 0 → ⊥) → Stopped FluxSection ≡ afterFluxCount place cells count
     unfolding afterFluxCount
-    too-many-timings h = rw (lt-ltb 65536 count h)
+    some-timings f = rw (ne-eqb count 0 f)
 
-    module _ (few : count ≤ 65536) where
-      pub neither-section : cells ≡ 0 → count ≡ 0 → NotATrackFile ≡ afterFluxCount place cells count
-      unfolding afterFluxCount
-      neither-section e f = rw (le-ltb 65536 count few, eq-eqb cells 0 e, eq-eqb count 0 f)
+    pub neither-section : count ≡ 0 → cells ≡ 0 → NotATrackFile ≡ afterFluxCount place cells count
+    unfolding afterFluxCount
+    neither-section f e = rw (eq-eqb count 0 f, eq-eqb cells 0 e)
 
-      pub only-timings : cells ≡ 0 → (count ≡ 0 → ⊥) → {taken : TakenTimings} → taken ≡ noneTaken
-          → Timings place count Empty taken ≡ afterFluxCount place cells count
-      unfolding afterFluxCount
-      only-timings e f none = rw (le-ltb 65536 count few, eq-eqb cells 0 e, ne-eqb count 0 f, none)
-
-      pub only-cells : (cells ≡ 0 → ⊥) → count ≡ 0 → AllCells place cells ≡ afterFluxCount place cells count
-      unfolding afterFluxCount
-      only-cells e f = rw (le-ltb 65536 count few, ne-eqb cells 0 e, eq-eqb count 0 f)
-
-      pub both-sections : (cells ≡ 0 → ⊥) → (count ≡ 0 → ⊥) → NotATrackFile ≡ afterFluxCount place cells count
-      unfolding afterFluxCount
-      both-sections e f = rw (le-ltb 65536 count few, ne-eqb cells 0 e, ne-eqb count 0 f)
-
-  module _ (left : ℕ) (taken : TakenTimings) where
-    pub more-timings : 1 < left → Timings place (left - 1) Empty taken ≡ afterTiming place left taken
-    unfolding afterTiming
-    more-timings h = rw (lt-ltb 1 left h)
-
-    pub last-timing : left ≤ 1 → AllTimings place taken ≡ afterTiming place left taken
-    unfolding afterTiming
-    last-timing h = rw (le-ltb 1 left h)
+    pub only-cells : count ≡ 0 → (cells ≡ 0 → ⊥) → AllCells place cells ≡ afterFluxCount place cells count
+    unfolding afterFluxCount
+    only-cells f e = rw (eq-eqb count 0 f, ne-eqb cells 0 e)

@@ -1,22 +1,20 @@
 -- Section 10 of the specification: the track file as its bytes come: what one byte does to the reader and to the cell buffer. The main
--- property: the reader keeps the section it is in and the counts, and no timings and no file (rule 10.12). Assumes nothing.
-use Prim.Native.Nat.{ℕ, _+_, _-_}
+-- property: the reader keeps the section it is in and the counts, and no file (rule 10.12). Assumes nothing.
+use Prim.Native.Nat.{ℕ, _+_}
 use mathlib.Core.Bool.{cond}
 use mathlib.Core.List.{List}
 use lib.Dec.{eqb, ltb}
 use lib.ListN.{set}
 use Rattle.basis.specs.Bytes.{fourBytes}
 use Rattle.cells.specs.CellsAndBytes.{bytesFor}
-use Rattle.refusals.specs.declared.Refusal.the-variants.{CellCount as CellsRefused, TooManyTimings, NotATrackFile as NoTrackFile}
-use Rattle.taken_timings.specs.Timings.{noneTaken, takenAfter, takenCells}
-use Rattle.taken_timings.specs.declared.TakenTimings.{TakenTimings}
+use Rattle.refusals.specs.declared.Refusal.the-variants.{CellCount as CellsRefused, FluxSection, NotATrackFile as NoTrackFile}
 use Rattle.file_reader.specs.declared.Place.{Place}
 use Rattle.file_reader.specs.declared.Number.{Number}
 use Rattle.file_reader.specs.declared.Number.the-variants.{Empty, One, Two, Three}
 use Rattle.file_reader.specs.declared.Extended.{Extended}
 use Rattle.file_reader.specs.declared.Extended.the-variants.{Part, Whole}
 use Rattle.file_reader.specs.declared.Reader.{Reader}
-use Rattle.file_reader.specs.declared.Reader.the-variants.{PlaceCount, Track, Side, CellCount, PackedCells, FluxCount, Timings, AllCells, AllTimings, NotATrackFile, Stopped}
+use Rattle.file_reader.specs.declared.Reader.the-variants.{PlaceCount, Track, Side, CellCount, PackedCells, FluxCount, AllCells, NotATrackFile, Stopped}
 
 -- 10.2: a number with a byte more. It has four, the lowest first
 unfoldable pub numberAfter : Number → ℕ → Extended
@@ -38,20 +36,13 @@ afterCellCount place count =
 unfoldable pub afterPackedByte : Place → ℕ → ℕ → Reader
 afterPackedByte place count at = cond (ltb (at + 1) (bytesFor count)) (PackedCells place count (at + 1)) (FluxCount place count Empty)
 
--- 10.1, 10.4, 10.7: after the count of timings come the timings. Above 65,536 it is refused at once; where it and the count of cells are
--- both 0, or both not 0, the bytes are no track file
+-- 10.1, 10.4, 10.7: after the count of timings the file is whole. A count other than 0 is refused at once; where the count of cells is 0
+-- too, the bytes are no track file
 unfoldable pub afterFluxCount : Place → ℕ → ℕ → Reader
 afterFluxCount place cellCount count =
-    cond (ltb 65536 count) (Stopped (TooManyTimings count))
-    (cond (eqb cellCount 0)
-    (cond (eqb count 0) NotATrackFile (Timings place count Empty noneTaken))
-    (cond (eqb count 0) (AllCells place cellCount) NotATrackFile))
+    cond (eqb count 0) (cond (eqb cellCount 0) NotATrackFile (AllCells place cellCount)) (Stopped FluxSection)
 
--- 10.1: after a timing, the first of `left`, comes the next, or the file is whole
-unfoldable pub afterTiming : Place → ℕ → TakenTimings → Reader
-afterTiming place left taken = cond (ltb 1 left) (Timings place (left - 1) Empty taken) (AllTimings place taken)
-
--- 10.2, 10.4: the reader after a byte of a count or of a timing. Nothing is judged before all four are there
+-- 10.2, 10.4: the reader after a byte of a count. Nothing is judged before all four are there
 unfoldable pub inPlaceCount : Extended → Reader
 inPlaceCount (Part number) = PlaceCount number
 inPlaceCount (Whole count) = afterPlaceCount count
@@ -64,10 +55,6 @@ unfoldable pub inFluxCount : Place → ℕ → Extended → Reader
 inFluxCount place cellCount (Part number) = FluxCount place cellCount number
 inFluxCount place cellCount (Whole count) = afterFluxCount place cellCount count
 
-unfoldable pub inTiming : Place → ℕ → TakenTimings → Extended → Reader
-inTiming place left taken (Part number) = Timings place left number taken
-inTiming place left taken (Whole t) = afterTiming place left (takenAfter taken t)
-
 -- 10.1, 10.6, 10.7: the reader after a byte. One after a whole file is left over, so that the bytes are no track file; after a refusal at
 -- once nothing changes
 unfoldable pub readerAfterByte : Reader → ℕ → Reader
@@ -77,19 +64,11 @@ readerAfterByte (Side track) byte = CellCount (record { track = track; side = by
 readerAfterByte (CellCount place number) byte = inCellCount place (numberAfter number byte)
 readerAfterByte (PackedCells place count at) byte = afterPackedByte place count at
 readerAfterByte (FluxCount place cellCount number) byte = inFluxCount place cellCount (numberAfter number byte)
-readerAfterByte (Timings place left number taken) byte = inTiming place left taken (numberAfter number byte)
 readerAfterByte (AllCells place count) byte = NotATrackFile
-readerAfterByte (AllTimings place taken) byte = NotATrackFile
 readerAfterByte NotATrackFile byte = NotATrackFile
 readerAfterByte (Stopped refusal) byte = Stopped refusal
 
--- 10.12: the buffer after a byte of a timing: its cells are put with its last byte
-unfoldable pub inTimingCells : TakenTimings → Extended → List ℕ → List ℕ
-inTimingCells taken (Part number) buffer = buffer
-inTimingCells taken (Whole t) buffer = takenCells taken t buffer
-
--- 10.9, 10.12: the buffer after a byte: packed cells are put as they stand, those of a timing by the separator's step, and no other byte
--- changes it
+-- 10.9, 10.12: the buffer after a byte: packed cells are put as they stand, and no other byte changes it
 unfoldable pub cellsAfterByte : Reader → ℕ → List ℕ → List ℕ
 cellsAfterByte (PlaceCount number) byte buffer = buffer
 cellsAfterByte Track byte buffer = buffer
@@ -97,8 +76,6 @@ cellsAfterByte (Side track) byte buffer = buffer
 cellsAfterByte (CellCount place number) byte buffer = buffer
 cellsAfterByte (PackedCells place count at) byte buffer = set buffer at byte
 cellsAfterByte (FluxCount place cellCount number) byte buffer = buffer
-cellsAfterByte (Timings place left number taken) byte buffer = inTimingCells taken (numberAfter number byte) buffer
 cellsAfterByte (AllCells place count) byte buffer = buffer
-cellsAfterByte (AllTimings place taken) byte buffer = buffer
 cellsAfterByte NotATrackFile byte buffer = buffer
 cellsAfterByte (Stopped refusal) byte buffer = buffer

@@ -1,9 +1,8 @@
-// The reader of a track file, a byte at a time. Timings are stepped as they are read, so that none are kept.
+// The reader of a track file, a byte at a time.
 use refusals::Refusal;
-use taken_timings::TakenTimings;
 ghost use mathlib.Core.Path.{_≡_};
 ghost use lib.ListN.{set};
-ghost use Rattle.file_reader.specs.Bytes.{numberAfter, afterPlaceCount, afterCellCount, afterPackedByte, afterFluxCount, afterTiming, inPlaceCount, inCellCount, inFluxCount, inTiming, inTimingCells, readerAfterByte, cellsAfterByte};
+ghost use Rattle.file_reader.specs.Bytes.{numberAfter, afterPlaceCount, afterCellCount, afterPackedByte, afterFluxCount, inPlaceCount, inCellCount, inFluxCount, readerAfterByte, cellsAfterByte};
 
 // The place section: the drive's track and side.
 pub struct Place {
@@ -11,7 +10,7 @@ pub struct Place {
     pub side: u8,
 }
 
-// The bytes so far of a count or a timing.
+// The bytes so far of a number.
 pub enum Number {
     Empty,
     One(u8),
@@ -34,20 +33,15 @@ pub enum Reader {
     // The count of the cells, and how many of their bytes are read.
     PackedCells(Place, u32, u32),
     FluxCount(Place, u32, Number),
-    // How many timings are still to come.
-    Timings(Place, u32, Number, TakenTimings),
     AllCells(Place, u32),
-    AllTimings(Place, TakenTimings),
     // 15, where it is judged over the whole file: more bytes may come, and none changes it.
     NotATrackFile,
     // A refusal that is given at once, or too little room.
     Stopped(Refusal),
 }
 
-// The most cells and the most timings that a file's counts may say.
+// The most cells that a file's count may say.
 const MOST_CELLS: u32 = 131_072;
-
-const MOST_TIMINGS: u32 = 65_536;
 
 // A byte more of the file.
 pub fn feed_byte(reader: Reader, byte: u8, cells: &mut [u8]) -> Reader
@@ -72,17 +66,13 @@ pub fn feed_byte(reader: Reader, byte: u8, cells: &mut [u8]) -> Reader
         Reader::FluxCount(place, cell_count, number) => {
             in_flux_count(place, cell_count, extend(number, byte))
         }
-        Reader::Timings(place, left, number, taken) => {
-            in_timing(place, left, taken, extend(number, byte), cells)
-        }
         Reader::AllCells(_, _) => Reader::NotATrackFile,
-        Reader::AllTimings(_, _) => Reader::NotATrackFile,
         Reader::NotATrackFile => Reader::NotATrackFile,
         Reader::Stopped(refusal) => Reader::Stopped(refusal),
     }
 }
 
-// The reader after a byte of each count, and after a byte of a timing.
+// The reader after a byte of each count.
 fn in_place_count(extended: Extended) -> Reader
     ensures { λ r. ⌜ r ≡ inPlaceCount extended ⌝ }
 {
@@ -107,25 +97,6 @@ fn in_flux_count(place: Place, cells: u32, extended: Extended) -> Reader
     match extended {
         Extended::Part(part) => Reader::FluxCount(place, cells, part),
         Extended::Whole(count) => after_flux_count(place, cells, count),
-    }
-}
-
-fn in_timing(
-    place: Place,
-    left: u32,
-    taken: TakenTimings,
-    extended: Extended,
-    cells: &mut [u8],
-) -> Reader
-    ensures reader { λ r. ⌜ r ≡ inTiming place left taken extended ⌝ }
-    ensures buffer { λ _. ⌜ now (cells .exit) ≡ inTimingCells taken extended (now (cells .entry)) ⌝ }
-{
-    match extended {
-        Extended::Part(part) => Reader::Timings(place, left, part, taken),
-        Extended::Whole(timing) => {
-            let next = taken_timings::take_timing(taken, timing, cells);
-            after_timing(place, left, next)
-        }
     }
 }
 
@@ -164,35 +135,17 @@ fn after_packed_byte(place: Place, count: u32, at: u32) -> Reader
     }
 }
 
-// After the flux count: one of the two counts has to be zero, and not the other.
+// After the flux count, which has to be 0. A file without cells is none then.
 fn after_flux_count(place: Place, cells: u32, timings: u32) -> Reader
     ensures { λ r. ⌜ r ≡ afterFluxCount place cells timings ⌝ }
 {
-    if MOST_TIMINGS < timings {
-        return Reader::Stopped(Refusal::TooManyTimings(timings as usize));
+    if timings != 0 {
+        return Reader::Stopped(Refusal::FluxSection);
     }
     if cells == 0 {
-        if timings == 0 {
-            return Reader::NotATrackFile;
-        }
-        return Reader::Timings(place, timings, Number::Empty, taken_timings::none_taken());
+        return Reader::NotATrackFile;
     }
-    if timings == 0 {
-        Reader::AllCells(place, cells)
-    } else {
-        Reader::NotATrackFile
-    }
-}
-
-// After a timing, with the timings taken, where `left` were to come with it.
-fn after_timing(place: Place, left: u32, taken: TakenTimings) -> Reader
-    ensures { λ r. ⌜ r ≡ afterTiming place left taken ⌝ }
-{
-    if 1 < left {
-        Reader::Timings(place, left - 1, Number::Empty, taken)
-    } else {
-        Reader::AllTimings(place, taken)
-    }
+    Reader::AllCells(place, cells)
 }
 
 // Puts a byte at place `at`, where the buffer has it.
@@ -205,8 +158,8 @@ fn put_byte(cells: &mut [u8], at: u32, byte: u8)
     }
 }
 
-// A number and its next byte, low byte first.
-fn extend(number: Number, byte: u8) -> Extended
+// A number and its next byte, low byte first (rule 10.2).
+pub fn extend(number: Number, byte: u8) -> Extended
     ensures { λ r. ⌜ r ≡ numberAfter number byte ⌝ }
 {
     match number {

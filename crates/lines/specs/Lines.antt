@@ -1,8 +1,7 @@
--- Section 11 of the specification, rules 11.2 to 11.6, 11.9 and 11.12: lines of text, as bytes, made of numbers alone.
+-- Section 11 of the specification, rules 11.2 to 11.6 and 11.9: lines of text, as bytes, made of numbers alone.
 --
 --   T05 H0 cells 100000 sectors 0 findings 2          the header
 --   3 NOS level 3 place 0 detail 0                    a finding
---   FAA 0                                             the border pulses
 --   refused 15                                        a refusal
 --
 -- The main property: what is written is the line stated here, or as much of its front as there is room for. Assumes nothing.
@@ -89,10 +88,6 @@ findingLine kind level place detail =
     ++ (bytesOf " place " ++ decimalOf place)
     ++ (bytesOf " detail " ++ decimalOf detail)
     ++ bytesOf "\n"
-
--- 11.12: the line of the border pulses: the name FAA, a space and their number, as in `FAA 0`
-unfoldable pub borderPulsesLine : ℕ → List ℕ
-borderPulsesLine pulses = bytesOf "FAA " ++ decimalOf pulses ++ bytesOf "\n"
 
 -- 11.4: the line of a refusal, by its number alone, as in `refused 15`
 unfoldable pub refusedLine : ℕ → List ℕ

@@ -1,11 +1,10 @@
-// Lines of text as bytes, made of numbers alone: the header of a listing, the line of a finding, that of the border pulses, the line of a
-// refusal. What there is no room for is not written. The functions without a place write to the front of the lent buffer and answer the
-// number of bytes of the whole.
+// Lines of text as bytes, made of numbers alone: the header of a listing, the line of a finding, the line of a refusal. What there is no room
+// for is not written. The functions without a place write to the front of the lent buffer and answer the number of bytes of the whole.
 ghost use mathlib.Core.Path.{_≡_};
 ghost use mathlib.Core.List.{_∷_, [], _++_};
 ghost use Prim.Native.Nat.{_+_, _<_, _≤_};
 ghost use lib.ListN.{length};
-ghost use Rattle.lines.specs.Lines.{digit, decimalOf, twoDigits, nameOf, headerOf, findingLine, borderPulsesLine, refusedLine, outAfter};
+ghost use Rattle.lines.specs.Lines.{digit, decimalOf, twoDigits, nameOf, headerOf, findingLine, refusedLine, outAfter};
 ghost use Rattle.lines.specs.Writing.{Wrote};
 
 // The header line.
@@ -49,14 +48,6 @@ pub fn finding_line_at(
     ensures { λ r. ⌜ Wrote (now (out .entry)) at (findingLine kind level place detail) 67 (now (out .exit)) r ⌝ }
 {
     write_line(out, at as usize, kind, level, place, detail)
-}
-
-// The line of the border pulses, from place `at` on; the answer is the place after it.
-pub fn border_pulses_line_at(out: &mut [u8], at: u32, pulses: u32) -> usize
-    ensures { λ r. ⌜ Wrote (now (out .entry)) at (borderPulsesLine pulses) 15 (now (out .exit)) r ⌝ }
-{
-    let next = write_field(out, at as usize, b"FAA ", pulses);
-    write_byte(out, next, b'\n')
 }
 
 // The line of a refusal's number.

@@ -1,11 +1,11 @@
--- The listings of rules 11.1, 11.4, 11.10 and 11.12, by computation: lines, headers, and what is printed of a refused track. Assumes nothing.
+-- The listings of rules 11.1, 11.4 and 11.10, by computation: lines, headers, and what is printed of a refused track. Assumes nothing.
 use mathlib.Core.Path.{_≡_, refl}
 use mathlib.Core.List.{[], _∷_, _++_}
 use Rattle.findings.specs.Calls.{findingsAnswer}
 use Rattle.finding_list.specs.declared.Finding.{Finding}
 use Rattle.sectors.specs.Calls.{trackJudged}
-use Rattle.lines.specs.Lines.{bytesOf, digit, digitsWithin, decimalOf, twoDigits, names, nameOf, headerOf, findingLine, borderPulsesLine, refusedLine}
-use Rattle.listing.specs.Listing.{linesOf, printed, listingOf, fluxListingOf}
+use Rattle.lines.specs.Lines.{bytesOf, digit, digitsWithin, decimalOf, twoDigits, names, nameOf, headerOf, findingLine, refusedLine}
+use Rattle.listing.specs.Listing.{linesOf, printed, listingOf}
 
 -- the findings of these examples
 abbrev nos : Finding
@@ -55,12 +55,3 @@ refused-bytes = refl
 pub refused-file : refusedLine 15 ≡ bytesOf "refused 15\n"
 unfolding refusedLine decimalOf digitsWithin digit bytesOf
 refused-file = refl
-
--- the line of border pulses, which a refused track does not have
-pub no-border-pulses : borderPulsesLine 0 ≡ bytesOf "FAA 0\n"
-unfolding borderPulsesLine decimalOf digitsWithin digit bytesOf
-no-border-pulses = refl
-
-pub refused-flux-track : fluxListingOf [] 19999 0 0 12 ≡ bytesOf "refused 2\n"
-unfolding fluxListingOf printed findingsAnswer trackJudged refusedLine decimalOf digitsWithin digit bytesOf
-refused-flux-track = refl

@@ -5,8 +5,8 @@
 --   4 TNF level 2 place 0 detail 0
 --
 -- N is the number of cells, T and H are the drive's track and side; `bytes` are the packed cells. The main property: what `list_track`
--- writes is `listingOf`, and what `list_flux_track` writes `fluxListingOf`, for every track and every buffer; where the buffer is too short,
--- as much of it as fits, and the answer is its whole length. Assumes nothing.
+-- writes is `listingOf`, for every track and every buffer; where the buffer is too short, as much of it as fits, and the answer is its whole
+-- length. Assumes nothing.
 use Rattle.layouts.specs.Layouts.{doubleDensity}
 use Prim.Native.Nat.{ℕ}
 use mathlib.Core.List.{List, [], _∷_, _++_}
@@ -14,7 +14,7 @@ use lib.ListN.{length}
 use Rattle.findings.specs.Calls.{findingsAnswer}
 use Rattle.finding_list.specs.Findings.{findingsOf}
 use Rattle.finding_list.specs.declared.Finding.{Finding}
-use Rattle.lines.specs.Lines.{headerOf, findingLine, borderPulsesLine, refusedLine}
+use Rattle.lines.specs.Lines.{headerOf, findingLine, refusedLine}
 use Rattle.refusals.specs.RefusedCalls.{Answer}
 use Rattle.refusals.specs.RefusedCalls.Answer.{gives, refused}
 use Rattle.sector_records.specs.Sectors.{sectorsOf}
@@ -35,8 +35,3 @@ unfoldable pub listingOf : List ℕ → (N T H : ℕ) → List ℕ
 listingOf bytes N T H =
     printed (findingsAnswer doubleDensity bytes N T H 901)
     (headerOf T H N (length (sectorsOf doubleDensity bytes N)) (length (findingsOf doubleDensity bytes N T)) ++ linesOf (findingsOf doubleDensity bytes N T))
-
--- 11.12: the listing of a track whose cells are made of flux timings with so many border pulses: after the findings comes the line of their
--- number. The header does not count it, and a track that is refused has no such line
-unfoldable pub fluxListingOf : List ℕ → (N T H pulses : ℕ) → List ℕ
-fluxListingOf bytes N T H pulses = printed (findingsAnswer doubleDensity bytes N T H 901) (listingOf bytes N T H ++ borderPulsesLine pulses)

@@ -6,9 +6,9 @@ use Rattle.basis.specs.Lists.{writtenOver}
 use Rattle.refusals.specs.declared.Counted.{Counted}
 use Rattle.refusals.specs.declared.Counted.the-variants.{Count, Refused}
 use Rattle.refusals.specs.declared.Refusal.{Refusal}
-use Rattle.refusals.specs.declared.Refusal.the-variants.{TrackOrSide, CellCount, TooFewBytes, TooManySectors, ListTooShort, NoTimings, TooManyTimings, TimingOutOfRange, TooManyCells, NoRoom, NoSuchSector, NoData, NoRoomForBytes, TooManyBytes, NotATrackFile, NotATrackBlock, NoSuchRevolution, LengthsDiffer, NotASectorLength, TooLongATrack, TrackGivenTwice, TooManyTracks, NoPlainImage, NotTheirFindings}
+use Rattle.refusals.specs.declared.Refusal.the-variants.{TrackOrSide, CellCount, TooFewBytes, TooManySectors, ListTooShort, NoTimings, TooManyTimings, TimingOutOfRange, TooManyCells, NoRoom, NoSuchSector, NoData, NoRoomForBytes, TooManyBytes, NotATrackFile, NotATrackBlock, NoSuchRevolution, LengthsDiffer, NotASectorLength, TooLongATrack, TrackGivenTwice, TooManyTracks, FluxSection, NoPlainImage, NotTheirFindings}
 
--- 8.1, 8.2, 8.3, 8.4, 8.5, 8.6, 8.7, 8.8, 8.9, 8.10, 8.11, 8.12, 8.13, 8.14, 8.15, 8.16, 8.17, 8.18, 8.19, 8.20, 8.21, 8.22, 8.24, 8.25: `numberOf`
+-- 8.1, 8.2, 8.3, 8.4, 8.5, 8.6, 8.7, 8.8, 8.9, 8.10, 8.11, 8.12, 8.13, 8.14, 8.15, 8.16, 8.17, 8.18, 8.19, 8.20, 8.21, 8.22, 8.23, 8.24, 8.25: `numberOf`
 -- is the number of a refusal, the K of rule 8.K, and `valueOf` what is given beside it: the number that it carries, or 0 where it carries none
 abbrev pub numberOf : Refusal → ℕ
 numberOf TrackOrSide = 1
@@ -33,6 +33,7 @@ numberOf NotASectorLength = 19
 numberOf TooLongATrack = 20
 numberOf TrackGivenTwice = 21
 numberOf TooManyTracks = 22
+numberOf FluxSection = 23
 numberOf (NoPlainImage number) = 24
 numberOf NotTheirFindings = 25
 
@@ -59,6 +60,7 @@ valueOf NotASectorLength = 0
 valueOf TooLongATrack = 0
 valueOf TrackGivenTwice = 0
 valueOf TooManyTracks = 0
+valueOf FluxSection = 0
 valueOf (NoPlainImage number) = number
 valueOf NotTheirFindings = 0
 

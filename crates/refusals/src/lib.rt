@@ -48,6 +48,8 @@ pub enum Refusal {
     TrackGivenTwice,
     // 22: more than 168 tracks.
     TooManyTracks,
+    // 23: a track file has a flux section.
+    FluxSection,
     // 24: the track has no plain image: the first number from 1 to 9 that stands in the way, or 0.
     NoPlainImage(usize),
     // 25: what is given is no list of the tracks' findings.
@@ -88,6 +90,7 @@ impl Refusal {
             Refusal::TooLongATrack => 20,
             Refusal::TrackGivenTwice => 21,
             Refusal::TooManyTracks => 22,
+            Refusal::FluxSection => 23,
             Refusal::NoPlainImage(_) => 24,
             Refusal::NotTheirFindings => 25,
         }
@@ -120,6 +123,7 @@ impl Refusal {
             Refusal::TooLongATrack => 0,
             Refusal::TrackGivenTwice => 0,
             Refusal::TooManyTracks => 0,
+            Refusal::FluxSection => 0,
             Refusal::NoPlainImage(number) => number,
             Refusal::NotTheirFindings => 0,
         }

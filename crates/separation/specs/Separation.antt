@@ -1,4 +1,4 @@
--- Section 3 of the specification, rules 3.10 to 3.12, 3.17 and 3.22, and rule 9.6: the separator's call on a whole list of timings, with its
+-- Section 3 of the specification, rules 3.10 to 3.12, 3.17, 3.22 and 3.23, and rule 9.6: the separator's call on a whole list of timings, with its
 -- refusals 6 to 10, over half of the window. The main property is demand 3: Demand3 states what the call recovers for double density.
 -- Assumes nothing.
 use Prim.Native.Nat.{ℕ, zero, suc, _+_}
@@ -84,3 +84,7 @@ separation ts room = separationBy doubleHalfWindow ts room
 
 abbrev pub separatedCells : List ℕ → List ℕ → List ℕ
 separatedCells ts buffer = separatedCellsBy doubleHalfWindow ts buffer
+
+-- 3.23: what counting the border pulses of a list answers: the timings are judged by 6, 7 and 8, and no cells are
+abbrev pub borderPulsesCounted : List ℕ → Answer ℕ
+borderPulsesCounted ts = timingsJudged ts (gives (borderPulsesOf ts))

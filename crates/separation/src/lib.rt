@@ -19,7 +19,7 @@ ghost use Rattle.refusals.specs.RefusedCalls.Answer.{gives};
 ghost use Rattle.cells.specs.CellsAndBytes.{bytesFor, packed, withOne};
 ghost use Rattle.flux_timings.specs.Timings.{firstOut};
 ghost use Rattle.separator.specs.Rule.{takenAnswer, singleHalfWindow, stepAnswerBy, stepOffsetBy, stepResidualBy, borderPulsesAtBy};
-ghost use Rattle.separation.specs.Separation.{borderPulsesOf, separation, separatedCells, borderPulsesAfter, cellsOfBy, borderPulsesOfBy, separationBy, separatedCellsBy};
+ghost use Rattle.separation.specs.Separation.{borderPulsesOf, borderPulsesCounted, separation, separatedCells, borderPulsesAfter, cellsOfBy, borderPulsesOfBy, separationBy, separatedCellsBy};
 ghost use Rattle.separation.specs.Demand3.{Demand3};
 ghost use Rattle.separation.specs.PrivateContracts.{IsHalfWindow};
 
@@ -45,7 +45,26 @@ pub fn separate_single(timings: &[u32], cells: &mut [u8], border_pulses: &mut us
     separate_by(SINGLE_HALF_WINDOW, timings, cells, border_pulses)
 }
 
-// The same by half of the window.
+// The number of border pulses of a list of timings, without its cells (rule 3.23).
+pub fn count_border_pulses(timings: &[u32]) -> Counted
+    ensures { λ r. ⌜ countedAnswer r ≡ borderPulsesCounted (now (timings .entry)) ⌝ }
+{
+    let given = timings.len();
+    if given == 0 {
+        return Counted::Refused(Refusal::NoTimings);
+    }
+    if MOST_TIMINGS < given {
+        return Counted::Refused(Refusal::TooManyTimings(given));
+    }
+    let first = first_out(timings);
+    if first < given {
+        return Counted::Refused(Refusal::TimingOutOfRange(first));
+    }
+    let counts = count_cells(DOUBLE_HALF_WINDOW, timings);
+    Counted::Count(counts.border_pulses)
+}
+
+// Separates by half of the window.
 fn separate_by(
     half_window: u32,
     timings: &[u32],

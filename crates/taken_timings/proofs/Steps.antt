@@ -5,7 +5,7 @@ use mathlib.Core.List.{List}
 use borrow.Author.Tests.{lt-ltb, le-ltb, eq-eqb, ne-eqb}
 use lib.IntN.{ℤ, pos}
 use Rattle.cells.specs.CellsAndBytes.{withOne}
-use Rattle.separator.specs.Rule.{stepAnswer, stepOffset, stepResidual, takenAnswer, borderPulsesAt}
+use Rattle.separator.specs.Rule.{stepAnswer, stepResidual, takenAnswer}
 use Rattle.separator.specs.declared.Separator.{Separator}
 use Rattle.separator.specs.declared.Taken.{Taken}
 use Rattle.separator.specs.declared.Taken.the-variants.{Cells, Refused}
@@ -42,18 +42,17 @@ module _ (at n : ℕ) (buffer : List ℕ) where
 separator-is : {s : Separator} {r : ℤ} → s .residual ≡ r → s ≡ record { residual = r }
 separator-is e = ap (λ (z : ℤ). record { residual = z }) e
 
-pub none-taken : {s : Separator} → s .residual ≡ pos 0 → InRange 0 0 0 s ≡ noneTaken
-none-taken e = ap (λ (s : Separator). InRange 0 0 0 s) (separator-is e)
+pub none-taken : {s : Separator} → s .residual ≡ pos 0 → InRange 0 0 s ≡ noneTaken
+none-taken e = ap (λ (s : Separator). InRange 0 0 s) (separator-is e)
 
 -- a timing
 module _ (taken : TakenTimings) (t : ℕ) (buffer : List ℕ) where
-  module _ {timings cells pulses : ℕ} {s : Separator} (is : taken ≡ InRange timings cells pulses s) {answer : Taken} (steps : takenAnswer answer ≡ stepAnswer (s .residual) t) where
-    pub timing-in-range : {n : ℕ} {next : Separator} {e : ℤ} {timings′ cells′ pulses′ : ℕ} {after : List ℕ} → answer ≡ Cells n
-        → next .residual ≡ stepResidual (s .residual) t → e ≡ stepOffset (s .residual) t
-        → timings′ ≡ countAfter timings 1 → cells′ ≡ countAfter cells n → pulses′ ≡ countAfter pulses (borderPulsesAt e) → after ≡ timingCells cells n buffer
-        → (InRange timings′ cells′ pulses′ next ≡ takenAfter taken t) × (after ≡ takenCells taken t buffer)
+  module _ {timings cells : ℕ} {s : Separator} (is : taken ≡ InRange timings cells s) {answer : Taken} (steps : takenAnswer answer ≡ stepAnswer (s .residual) t) where
+    pub timing-in-range : {n : ℕ} {next : Separator} {timings′ cells′ : ℕ} {after : List ℕ} → answer ≡ Cells n → next .residual ≡ stepResidual (s .residual) t
+        → timings′ ≡ countAfter timings 1 → cells′ ≡ countAfter cells n → after ≡ timingCells cells n buffer
+        → (InRange timings′ cells′ next ≡ takenAfter taken t) × (after ≡ takenCells taken t buffer)
     unfolding takenAfter takenStep takenCells stepCells
-    timing-in-range e r o p q k b = (rw (is, ← steps, e, separator-is r, p, q, k, o), rw (is, ← steps, e) b)
+    timing-in-range e r p q b = (rw (is, ← steps, e, separator-is r, p, q), rw (is, ← steps, e) b)
 
     pub timing-out-of-range : {refusal : Refusal} → answer ≡ Refused refusal → (OutOfRange timings ≡ takenAfter taken t) × (buffer ≡ takenCells taken t buffer)
     unfolding takenAfter takenStep takenCells stepCells
@@ -65,11 +64,11 @@ module _ (taken : TakenTimings) (t : ℕ) (buffer : List ℕ) where
 
 -- what the timings give in all
 module _ (taken : TakenTimings) where
-  pub counted-cells : {timings cells pulses : ℕ} {s : Separator} → taken ≡ InRange timings cells pulses s → cells ≤ 131072 → gives cells ≡ timingsAnswer taken
+  pub counted-cells : {timings cells : ℕ} {s : Separator} → taken ≡ InRange timings cells s → cells ≤ 131072 → gives cells ≡ timingsAnswer taken
   unfolding timingsAnswer
   counted-cells {timings} {cells} e h = rw (e, le-ltb 131072 cells h)
 
-  pub counted-too-many : {timings cells pulses : ℕ} {s : Separator} → taken ≡ InRange timings cells pulses s → 131072 < cells → refused 9 cells ≡ timingsAnswer taken
+  pub counted-too-many : {timings cells : ℕ} {s : Separator} → taken ≡ InRange timings cells s → 131072 < cells → refused 9 cells ≡ timingsAnswer taken
   unfolding timingsAnswer
   counted-too-many {timings} {cells} e h = rw (e, lt-ltb 131072 cells h)
 

@@ -1,4 +1,4 @@
--- Timings taken one after another: their answer, and the number of their border pulses, are the separator's on the list. Assumes nothing.
+-- Timings taken one after another: their answer is the separator's on the list. Assumes nothing.
 use Prim.Native.Nat.{ℕ, suc, _+_, _*_, _≤_, _<_}
 use mathlib.Core.Path.{_≡_, refl, sym, _∙_, ap}
 use mathlib.Core.Bool.{Bool, true, false, cond}
@@ -12,17 +12,15 @@ use Rattle.cells.specs.CellsAndBytes.{bytesFor}
 use Rattle.refusals.specs.RefusedCalls.{Answer}
 use Rattle.refusals.specs.RefusedCalls.Answer.{gives, refused}
 use Rattle.flux_timings.specs.Timings.{inRange}
-use Rattle.separator.specs.Rule.{cellsAt, offsetAt, residualAfter, doubleHalfWindow, borderPulsesAt}
-use Rattle.separation.specs.Separation.{cellsFor, windowsFrom, cellsIn, cellsOf, borderPulsesIn, borderPulsesOf, cellsJudged, separation}
+use Rattle.separator.specs.Rule.{cellsAt, residualAfter, doubleHalfWindow}
+use Rattle.separation.specs.Separation.{cellsFor, windowsFrom, cellsIn, cellsOf, cellsJudged, separation}
 use Rattle.flux_timings.specs.Timings.{firstOut, timingsJudged}
-use Rattle.separator.proofs.Border.{border-few}
 use Rattle.separator.proofs.Lifted.{Kept, kept-none, kept-next}
 use Rattle.flux_timings.proofs.Timing.{range-of}
 use Rattle.separator.proofs.MachineStep.{cells-small}
-use Rattle.separator.proofs.Stepping.{step-refused, step-answers, step-offsets, step-leaves}
-use Rattle.separation.proofs.BorderPulses.{borderPulsesFrom}
+use Rattle.separator.proofs.Stepping.{step-refused, step-answers, step-leaves}
 use Rattle.separation.proofs.Walk.{length-for, cellsFrom}
-use Rattle.taken_timings.specs.Timings.{timingCells, takenStep, takenAfter, stepCells, takenCells, timingsAnswer, borderPulsesTaken}
+use Rattle.taken_timings.specs.Timings.{timingCells, takenStep, takenAfter, stepCells, takenCells, timingsAnswer}
 use Rattle.taken_timings.specs.declared.TakenTimings.{TakenTimings}
 use Rattle.taken_timings.specs.declared.TakenTimings.the-variants.{InRange, OutOfRange}
 use Rattle.taken_timings.proofs.Steps.{count-more}
@@ -36,35 +34,33 @@ abbrev pub cellsOver : TakenTimings → List ℕ → List ℕ → List ℕ
 cellsOver taken [] buffer = buffer
 cellsOver taken (t ∷ ts) buffer = cellsOver (takenAfter taken t) ts (takenCells taken t buffer)
 
--- i timings with `at` cells and p border pulses taken, and the residual r
-abbrev pub tookWith : ℕ → ℕ → ℕ → ℤ → TakenTimings
-tookWith i at p r = InRange i at p (record { residual = r })
+-- i timings with `at` cells taken, and the residual r
+abbrev pub tookWith : ℕ → ℕ → ℤ → TakenTimings
+tookWith i at r = InRange i at (record { residual = r })
 
 -- one timing in range
-module _ (i at p : ℕ) (r : ℤ) (t : ℕ) (kept : Kept doubleHalfWindow r) (ranged : inRange t ≡ true) (small : at ≤ 5000 * i) (pulses : p ≤ i) (few : i < 65536) where
+module _ (i at : ℕ) (r : ℤ) (t : ℕ) (kept : Kept doubleHalfWindow r) (ranged : inRange t ≡ true) (small : at ≤ 5000 * i) (few : i < 65536) where
   pub n-small : cellsAt doubleHalfWindow r t ≤ 5000
   n-small = cells-small (record { low = omega arith; high = omega arith; short = range-of t ranged .1; kept = kept })
 
-  pub one-taken : takenAfter (tookWith i at p r) t
-      ≡ tookWith (i + 1) (at + cellsAt doubleHalfWindow r t) (p + borderPulsesAt (offsetAt doubleHalfWindow r t)) (residualAfter doubleHalfWindow r t)
+  pub one-taken : takenAfter (tookWith i at r) t
+      ≡ tookWith (i + 1) (at + cellsAt doubleHalfWindow r t) (residualAfter doubleHalfWindow r t)
   unfolding takenAfter takenStep
   one-taken =
       rw (
         step-answers doubleHalfWindow r t kept ranged,
-        step-offsets doubleHalfWindow r t kept ranged,
         step-leaves doubleHalfWindow r t kept ranged,
         ← count-more i 1 (omega arith),
         ← count-more at (cellsAt doubleHalfWindow r t) (omega arith),
-        ← count-more p (borderPulsesAt (offsetAt doubleHalfWindow r t)) (omega arith),
       )
 
-  pub one-cells : (buffer : List ℕ) → takenCells (tookWith i at p r) t buffer ≡ timingCells at (cellsAt doubleHalfWindow r t) buffer
+  pub one-cells : (buffer : List ℕ) → takenCells (tookWith i at r) t buffer ≡ timingCells at (cellsAt doubleHalfWindow r t) buffer
   unfolding takenCells stepCells
   one-cells buffer = rw (step-answers doubleHalfWindow r t kept ranged)
 
-out-taken : (i at p : ℕ) (r : ℤ) (t : ℕ) → inRange t ≡ false → takenAfter (tookWith i at p r) t ≡ OutOfRange i
+out-taken : (i at : ℕ) (r : ℤ) (t : ℕ) → inRange t ≡ false → takenAfter (tookWith i at r) t ≡ OutOfRange i
 unfolding takenAfter takenStep
-out-taken i at p r t e = rw (← (step-refused doubleHalfWindow r t e .0))
+out-taken i at r t e = rw (← (step-refused doubleHalfWindow r t e .0))
 
 stays-out : (index : ℕ) (ts : List ℕ) → takenOver (OutOfRange index) ts ≡ OutOfRange index
 unfolding takenAfter
@@ -100,28 +96,27 @@ told-later i first count m n e =
     let f : (i + 1) + first ≡ i + suc first = omega arith in
     rw (leb·suc-suc (suc first) count, f, e)
 
-over-answer : (ts : List ℕ) (i at p : ℕ) (r : ℤ) → Kept doubleHalfWindow r → i + length ts ≤ 65536 → at ≤ 5000 * i → p ≤ i
-    → timingsAnswer (takenOver (tookWith i at p r) ts) ≡ told i (firstOut ts) (length ts) (at + length (cellsFrom r ts))
+over-answer : (ts : List ℕ) (i at : ℕ) (r : ℤ) → Kept doubleHalfWindow r → i + length ts ≤ 65536 → at ≤ 5000 * i
+    → timingsAnswer (takenOver (tookWith i at r) ts) ≡ told i (firstOut ts) (length ts) (at + length (cellsFrom r ts))
 unfolding timingsAnswer firstOut windowsFrom cellsIn
-over-answer [] i at p r kept few small pulses = let e : at ≡ at + 0 = omega arith in ap inAll e
-over-answer (t ∷ ts) i at p r kept few small pulses = go (inRange t) refl (over-answer ts)
+over-answer [] i at r kept few small = let e : at ≡ at + 0 = omega arith in ap inAll e
+over-answer (t ∷ ts) i at r kept few small = go (inRange t) refl (over-answer ts)
   where
     go : (x : Bool) → inRange t ≡ x
-        → ((i at p : ℕ) (r : ℤ) → Kept doubleHalfWindow r → i + length ts ≤ 65536 → at ≤ 5000 * i → p ≤ i → timingsAnswer (takenOver (tookWith i at p r) ts) ≡ told i (firstOut ts) (length ts) (at + length (cellsFrom r ts)))
-        → timingsAnswer (takenOver (takenAfter (tookWith i at p r) t) ts) ≡ told i (firstOut (t ∷ ts)) (suc (length ts)) (at + length (cellsFrom r (t ∷ ts)))
+        → ((i at : ℕ) (r : ℤ) → Kept doubleHalfWindow r → i + length ts ≤ 65536 → at ≤ 5000 * i → timingsAnswer (takenOver (tookWith i at r) ts) ≡ told i (firstOut ts) (length ts) (at + length (cellsFrom r ts)))
+        → timingsAnswer (takenOver (takenAfter (tookWith i at r) t) ts) ≡ told i (firstOut (t ∷ ts)) (suc (length ts)) (at + length (cellsFrom r (t ∷ ts)))
     go true e more =
         let n = cellsAt doubleHalfWindow r t in
-        let l = n-small i at p r t kept e small pulses (omega arith) in
+        let l = n-small i at r t kept e small (omega arith) in
         let m = length-more r t ts in
-        let b = border-few doubleHalfWindow (offsetAt doubleHalfWindow r t) in
         let d : (at + n) + length (cellsFrom (residualAfter doubleHalfWindow r t) ts) ≡ at + length (cellsFrom r (t ∷ ts)) = omega arith in
-        ap (λ (x : TakenTimings). timingsAnswer (takenOver x ts)) (one-taken i at p r t kept e small pulses (omega arith))
-        ∙ more (i + 1) (at + n) (p + borderPulsesAt (offsetAt doubleHalfWindow r t)) (residualAfter doubleHalfWindow r t) (kept-next 1000 (omega arith) r t kept) (omega arith) (omega arith) (omega arith)
+        ap (λ (x : TakenTimings). timingsAnswer (takenOver x ts)) (one-taken i at r t kept e small (omega arith))
+        ∙ more (i + 1) (at + n) (residualAfter doubleHalfWindow r t) (kept-next 1000 (omega arith) r t kept) (omega arith) (omega arith)
         ∙ told-later i (firstOut ts) (length ts) _ _ d
         ∙ ap (λ (x : ℕ). told i x (suc (length ts)) (at + length (cellsFrom r (t ∷ ts)))) (sym (first-later t ts e))
     go false e more =
         let z : i ≡ i + 0 = omega arith in
-        ap (λ (x : TakenTimings). timingsAnswer (takenOver x ts)) (out-taken i at p r t e) ∙ ap timingsAnswer (stays-out i ts)
+        ap (λ (x : TakenTimings). timingsAnswer (takenOver x ts)) (out-taken i at r t e) ∙ ap timingsAnswer (stays-out i ts)
         ∙ ap (λ (x : ℕ). refused 8 x) z
         ∙ rw (first-here t ts e, lt-ltb 0 (suc (length ts)) (omega arith))
 
@@ -143,35 +138,8 @@ module _ (ts : List ℕ) (some : length ts ≡ 0 → ⊥) (few : length ts ≤ 6
   pub separation-is : (room : ℕ) → 16384 ≤ room → cond (ltb (firstOut ts) (length ts)) (refused 8 (firstOut ts)) (inAll (length (cellsOf ts))) ≡ separation ts room
   separation-is room h = rw (separation-judged room, ← judged-in-room (length (cellsOf ts)) room h)
 
-  pub taken-answer : timingsAnswer (takenOver (tookWith 0 0 0 (pos 0)) ts) ≡ separation ts 16384
+  pub taken-answer : timingsAnswer (takenOver (tookWith 0 0 (pos 0)) ts) ≡ separation ts 16384
   taken-answer =
       let i : 0 + firstOut ts ≡ firstOut ts = omega arith in
       let n : 0 + length (cellsOf ts) ≡ length (cellsOf ts) = omega arith in
-      over-answer ts 0 0 0 (pos 0) (kept-none 1000 (omega arith)) (omega arith) (omega arith) (omega arith) ∙ rw (i, n) (separation-is 16384 (omega arith))
-
--- the border pulses of timings that are accepted
-over-pulses : (ts : List ℕ) (i at p : ℕ) (r : ℤ) → Kept doubleHalfWindow r → i + length ts ≤ 65536 → at ≤ 5000 * i → p ≤ i → firstOut ts ≡ length ts
-    → borderPulsesTaken (takenOver (tookWith i at p r) ts) ≡ p + borderPulsesFrom r ts
-unfolding windowsFrom borderPulsesIn
-over-pulses [] i at p r kept few small pulses all = omega arith
-over-pulses (t ∷ ts) i at p r kept few small pulses all = go (inRange t) refl (over-pulses ts)
-  where
-    go : (x : Bool) → inRange t ≡ x
-        → ((i at p : ℕ) (r : ℤ) → Kept doubleHalfWindow r → i + length ts ≤ 65536 → at ≤ 5000 * i → p ≤ i → firstOut ts ≡ length ts → borderPulsesTaken (takenOver (tookWith i at p r) ts) ≡ p + borderPulsesFrom r ts)
-        → borderPulsesTaken (takenOver (takenAfter (tookWith i at p r) t) ts) ≡ p + borderPulsesFrom r (t ∷ ts)
-    go true e more =
-        let n = cellsAt doubleHalfWindow r t in
-        let l = n-small i at p r t kept e small pulses (omega arith) in
-        let b = border-few doubleHalfWindow (offsetAt doubleHalfWindow r t) in
-        let f = first-later t ts e in
-        let q = p + borderPulsesAt (offsetAt doubleHalfWindow r t) in
-        let d : q + borderPulsesFrom (residualAfter doubleHalfWindow r t) ts ≡ p + borderPulsesFrom r (t ∷ ts) = omega arith in
-        ap (λ (x : TakenTimings). borderPulsesTaken (takenOver x ts)) (one-taken i at p r t kept e small pulses (omega arith))
-        ∙ more (i + 1) (at + n) q (residualAfter doubleHalfWindow r t) (kept-next 1000 (omega arith) r t kept) (omega arith) (omega arith) (omega arith) (omega arith)
-        ∙ d
-    go false e more = let z : ⊥ = omega (arith, first-here t ts e) in absurd z
-
-pub taken-pulses : (ts : List ℕ) → length ts ≤ 65536 → firstOut ts ≡ length ts → borderPulsesTaken (takenOver (tookWith 0 0 0 (pos 0)) ts) ≡ borderPulsesOf ts
-taken-pulses ts few all =
-    let z : 0 + borderPulsesOf ts ≡ borderPulsesOf ts = omega arith in
-    over-pulses ts 0 0 0 (pos 0) (kept-none 1000 (omega arith)) (omega arith) (omega arith) (omega arith) all ∙ z
+      over-answer ts 0 0 (pos 0) (kept-none 1000 (omega arith)) (omega arith) (omega arith) ∙ rw (i, n) (separation-is 16384 (omega arith))

@@ -14,10 +14,9 @@ use Rattle.cells.proofs.Zeros.{cells-append}
 use Rattle.refusals.specs.RefusedCalls.{Answer}
 use Rattle.refusals.specs.RefusedCalls.Answer.{gives, refused}
 use Rattle.flux_timings.specs.Timings.{inRange}
-use Rattle.separator.specs.Rule.{cellsAt, offsetAt, residualAfter, doubleHalfWindow, borderPulsesAt}
+use Rattle.separator.specs.Rule.{cellsAt, residualAfter, doubleHalfWindow}
 use Rattle.separation.specs.Separation.{cellsFor, windowsFrom, cellsIn, cellsOf, separation}
 use Rattle.flux_timings.specs.Timings.{firstOut}
-use Rattle.separator.proofs.Border.{border-few}
 use Rattle.separator.proofs.Lifted.{Kept, kept-none, kept-next}
 use Rattle.separation.proofs.Walk.{length-for, cells-for, cellsFrom}
 use Rattle.separation.proofs.Writing.{frontOf, front-with-timing, front-cleared, front-whole}
@@ -42,29 +41,27 @@ within-most at (suc k) buffer h = rw (← count-more at (suc k - 1) (omega arith
 module _ (needed : ℕ) (most : needed ≤ 16384) (rest : List ℕ) where
   abbrev pub OverCells : List ℕ → Type 0
   OverCells ts =
-      (i at p : ℕ) (r : ℤ) (q : List ℕ) → Kept doubleHalfWindow r → i + length ts ≤ 65536 → at ≤ 5000 * i → p ≤ i → length q ≡ at → Cells q → firstOut ts ≡ length ts
-      → at + length (cellsFrom r ts) ≤ 8 * needed → cellsOver (tookWith i at p r) ts (frontOf q needed rest) ≡ frontOf (q ++ cellsFrom r ts) needed rest
+      (i at : ℕ) (r : ℤ) (q : List ℕ) → Kept doubleHalfWindow r → i + length ts ≤ 65536 → at ≤ 5000 * i → length q ≡ at → Cells q → firstOut ts ≡ length ts
+      → at + length (cellsFrom r ts) ≤ 8 * needed → cellsOver (tookWith i at r) ts (frontOf q needed rest) ≡ frontOf (q ++ cellsFrom r ts) needed rest
 
   pub over-cells : (ts : List ℕ) → OverCells ts
   unfolding windowsFrom cellsIn
-  over-cells [] i at p r q kept few small pulses long bits all fits = ap (λ (x : List ℕ). frontOf x needed rest) (sym (append-nil q))
-  over-cells (t ∷ ts) i at p r q kept few small pulses long bits all fits = go (inRange t) refl (over-cells ts)
+  over-cells [] i at r q kept few small long bits all fits = ap (λ (x : List ℕ). frontOf x needed rest) (sym (append-nil q))
+  over-cells (t ∷ ts) i at r q kept few small long bits all fits = go (inRange t) refl (over-cells ts)
     where
       go : (x : Bool) → inRange t ≡ x → OverCells ts
-          → cellsOver (takenAfter (tookWith i at p r) t) ts (takenCells (tookWith i at p r) t (frontOf q needed rest)) ≡ frontOf (q ++ cellsFrom r (t ∷ ts)) needed rest
+          → cellsOver (takenAfter (tookWith i at r) t) ts (takenCells (tookWith i at r) t (frontOf q needed rest)) ≡ frontOf (q ++ cellsFrom r (t ∷ ts)) needed rest
       go true e more =
           let n = cellsAt doubleHalfWindow r t in
           let r′ = residualAfter doubleHalfWindow r t in
-          let l = n-small i at p r t kept e small pulses (omega arith) in
+          let l = n-small i at r t kept e small (omega arith) in
           let m = length-more r t ts in
           let f = first-later t ts e in
-          let b = border-few doubleHalfWindow (offsetAt doubleHalfWindow r t) in
-          let p′ = p + borderPulsesAt (offsetAt doubleHalfWindow r t) in
-          ap (λ (x : TakenTimings). cellsOver x ts (takenCells (tookWith i at p r) t (frontOf q needed rest))) (one-taken i at p r t kept e small pulses (omega arith))
-          ∙ ap (cellsOver (tookWith (i + 1) (at + n) p′ r′) ts)
-          (one-cells i at p r t kept e small pulses (omega arith) (frontOf q needed rest) ∙ within-most at n (frontOf q needed rest) (omega arith)
+          ap (λ (x : TakenTimings). cellsOver x ts (takenCells (tookWith i at r) t (frontOf q needed rest))) (one-taken i at r t kept e small (omega arith))
+          ∙ ap (cellsOver (tookWith (i + 1) (at + n) r′) ts)
+          (one-cells i at r t kept e small (omega arith) (frontOf q needed rest) ∙ within-most at n (frontOf q needed rest) (omega arith)
           ∙ front-with-timing q bits needed rest at n long (omega arith))
-          ∙ more (i + 1) (at + n) p′ r′ (q ++ cellsFor n) (kept-next 1000 (omega arith) r t kept) (omega arith) (omega arith) (omega arith)
+          ∙ more (i + 1) (at + n) r′ (q ++ cellsFor n) (kept-next 1000 (omega arith) r t kept) (omega arith) (omega arith)
           (length-append q (cellsFor n) ∙ ap (λ (x : ℕ). x + length (cellsFor n)) long ∙ ap (λ (x : ℕ). at + x) (length-for n))
           (cells-append q (cellsFor n) bits (cells-for n)) (omega arith) (omega arith)
           ∙ ap (λ (x : List ℕ). frontOf x needed rest) (append-assoc q (cellsFor n) (cellsFrom r′ ts))
@@ -103,13 +100,13 @@ accepted ts some small {count} e =
 
 -- the cells of accepted timings, from zeros
 pub timings-filled : (room : ℕ) → 16384 ≤ room → (ts : List ℕ) → length ts ≤ 65536 → {count : ℕ} → Accepted ts count
-    → cellsOver (tookWith 0 0 0 (pos 0)) ts (zeros room) ≡ writtenOver (packed (cellsOf ts)) (zeros room)
+    → cellsOver (tookWith 0 0 (pos 0)) ts (zeros room) ≡ writtenOver (packed (cellsOf ts)) (zeros room)
 timings-filled room big ts small ok =
     let needed = bytesFor (length (cellsOf ts)) in
     let k = ok .few in
     let h : needed ≤ room = omega arith in
     let l : length (zeros room) ≡ room = length-replicate room 0 in
-    ap (cellsOver (tookWith 0 0 0 (pos 0)) ts) (front-cleared needed (zeros room) (omega arith) (zeros-cleared needed room h))
-    ∙ over-cells needed (omega arith) (drop needed (zeros room)) ts 0 0 0 (pos 0) [] (kept-none 1000 (omega arith)) (omega arith) (omega arith) (omega arith) refl
+    ap (cellsOver (tookWith 0 0 (pos 0)) ts) (front-cleared needed (zeros room) (omega arith) (zeros-cleared needed room h))
+    ∙ over-cells needed (omega arith) (drop needed (zeros room)) ts 0 0 (pos 0) [] (kept-none 1000 (omega arith)) (omega arith) (omega arith) refl
     (λ i. omega arith) (ok .all) (omega arith)
     ∙ front-whole (cellsOf ts) needed (zeros room) refl

@@ -1,4 +1,4 @@
--- Section 10 of the specification, rules 10.8 and 10.12: timings that come one by one: what each does to those taken so far and to the cell
+-- Section 18 of the specification, rules 18.5 and 18.9: timings that come one by one: what each does to those taken so far and to the cell
 -- buffer, and what they give in all. The main property: taken one after another they give what the separator's call on the list of them
 -- gives (proofs/Taking and proofs/TimingCells). Assumes nothing.
 use Prim.Native.Nat.{ℕ, _+_, _-_}
@@ -7,54 +7,47 @@ use mathlib.Core.List.{List}
 use lib.Dec.{eqb, ltb}
 use lib.IntN.{ℤ, pos}
 use Rattle.cells.specs.CellsAndBytes.{withOne}
-use Rattle.separator.specs.Rule.{stepAnswer, stepOffset, stepResidual, borderPulsesAt}
+use Rattle.separator.specs.Rule.{stepAnswer, stepResidual}
 use Rattle.refusals.specs.RefusedCalls.{Answer}
 use Rattle.refusals.specs.RefusedCalls.Answer.{gives, refused}
 use Rattle.taken_timings.specs.declared.TakenTimings.{TakenTimings}
 use Rattle.taken_timings.specs.declared.TakenTimings.the-variants.{InRange, OutOfRange}
 
--- 3.2, 10.12, 10.17: before the first timing: no timing, no cell, no border pulse, and a residual of 0
+-- 3.2, 18.9: before the first timing: no timing, no cell, and a residual of 0
 abbrev pub noneTaken : TakenTimings
-noneTaken = InRange 0 0 0 (record { residual = pos 0 })
+noneTaken = InRange 0 0 (record { residual = pos 0 })
 
 -- a count and more. A count that no file reaches stays
 unfoldable pub countAfter : ℕ → ℕ → ℕ
 countAfter count more = cond (ltb count 1000000000) (count + more) count
 
--- 3.4, 10.12: the cells of a timing put at cell `at`. Zeros stand there, so that only its one is put, as the last of its n cells; nothing
+-- 3.4, 18.9: the cells of a timing put at cell `at`. Zeros stand there, so that only its one is put, as the last of its n cells; nothing
 -- is where n is 0. From cell 131,072 on nothing is put
 unfoldable pub timingCells : ℕ → ℕ → List ℕ → List ℕ
 timingCells at n buffer =
     cond (eqb n 0) buffer (cond (ltb (countAfter at (n - 1)) 131072) (withOne buffer (countAfter at (n - 1))) buffer)
 
--- 10.8, 10.17: the timings taken, after a step that answers so, has the offset e and leaves the residual r. The first one out of range is
--- the last that is looked at: its index is kept
-unfoldable pub takenStep : (timings cells pulses : ℕ) → Answer ℕ → (e r : ℤ) → TakenTimings
-takenStep timings cells pulses (gives n) e r =
-    InRange (countAfter timings 1) (countAfter cells n) (countAfter pulses (borderPulsesAt e)) (record { residual = r })
-takenStep timings cells pulses (refused number value) e r = OutOfRange timings
+-- 18.5: the timings taken, after a step that answers so and leaves the residual r. The first one out of range is the last that is looked at:
+-- its index is kept
+unfoldable pub takenStep : (timings cells : ℕ) → Answer ℕ → (r : ℤ) → TakenTimings
+takenStep timings cells (gives n) r = InRange (countAfter timings 1) (countAfter cells n) (record { residual = r })
+takenStep timings cells (refused number value) r = OutOfRange timings
 
--- 10.12, 10.17: the timings taken, with one more, by the separator's step
+-- 18.9: the timings taken, with one more, by the separator's step
 unfoldable pub takenAfter : TakenTimings → ℕ → TakenTimings
-takenAfter (InRange timings cells pulses separator) t =
-    takenStep timings cells pulses (stepAnswer (separator .residual) t) (stepOffset (separator .residual) t) (stepResidual (separator .residual) t)
+takenAfter (InRange timings cells separator) t = takenStep timings cells (stepAnswer (separator .residual) t) (stepResidual (separator .residual) t)
 takenAfter (OutOfRange index) t = OutOfRange index
 
--- 10.12: the buffer after that timing: its cells are put, and none of one that is out of range or follows such a one
+-- 18.9: the buffer after that timing: its cells are put, and none of one that is out of range or follows such a one
 unfoldable pub stepCells : ℕ → Answer ℕ → List ℕ → List ℕ
 stepCells at (gives n) buffer = timingCells at n buffer
 stepCells at (refused number value) buffer = buffer
 
 unfoldable pub takenCells : TakenTimings → ℕ → List ℕ → List ℕ
-takenCells (InRange timings cells pulses separator) t buffer = stepCells cells (stepAnswer (separator .residual) t) buffer
+takenCells (InRange timings cells separator) t buffer = stepCells cells (stepAnswer (separator .residual) t) buffer
 takenCells (OutOfRange index) t buffer = buffer
 
--- 8.8, 8.9, 10.8: what all timings give: 8 with the index, then 9 with the cells where they are above 131,072, and else the number of cells
+-- 8.8, 8.9, 18.5: what all timings give: 8 with the index, then 9 with the cells where they are above 131,072, and else the number of cells
 unfoldable pub timingsAnswer : TakenTimings → Answer ℕ
-timingsAnswer (InRange timings cells pulses separator) = cond (ltb 131072 cells) (refused 9 cells) (gives cells)
+timingsAnswer (InRange timings cells separator) = cond (ltb 131072 cells) (refused 9 cells) (gives cells)
 timingsAnswer (OutOfRange index) = refused 8 index
-
--- 10.17: how many border pulses the timings have; where one is out of range none counts
-abbrev pub borderPulsesTaken : TakenTimings → ℕ
-borderPulsesTaken (InRange timings cells pulses separator) = pulses
-borderPulsesTaken (OutOfRange index) = 0

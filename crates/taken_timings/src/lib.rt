@@ -5,16 +5,14 @@ use separator::Separator;
 use separator::Taken;
 ghost use mathlib.Core.Path.{_≡_};
 ghost use Rattle.refusals.specs.RefusedCalls.{countedAnswer};
-ghost use Rattle.taken_timings.specs.Timings.{noneTaken, countAfter, timingCells, takenAfter, takenCells, timingsAnswer, borderPulsesTaken};
-ghost use Rattle.separator.specs.Rule.{borderPulsesAt};
+ghost use Rattle.taken_timings.specs.Timings.{noneTaken, countAfter, timingCells, takenAfter, takenCells, timingsAnswer};
 
-// The timings taken so far: all in range, with their number, their cells and their border pulses in all and the separator's state; or the
-// index of the first outside its range.
+// The timings taken so far: all in range, with their number, their cells in all and the separator's state; or the index of the first outside
+// its range.
 pub enum TakenTimings {
     InRange {
         timings: usize,
         cells: usize,
-        border_pulses: u32,
         separator: Separator,
     },
     OutOfRange(usize),
@@ -27,13 +25,11 @@ pub fn none_taken() -> TakenTimings
     TakenTimings::InRange {
         timings: 0,
         cells: 0,
-        border_pulses: 0,
         separator: Separator::new(),
     }
 }
 
-// A timing more: it is stepped, its cells are put after those so far, and it is counted where its pulse is a border pulse. After one outside
-// its range no more are.
+// A timing more: it is stepped, and its cells are put after those so far. After one outside its range no more are.
 pub fn take_timing(taken: TakenTimings, timing: u32, cells: &mut [u8]) -> TakenTimings
     ensures taken { λ r. ⌜ r ≡ takenAfter taken timing ⌝ }
     ensures buffer { λ _. ⌜ now (cells .exit) ≡ takenCells taken timing (now (cells .entry)) ⌝ }
@@ -42,13 +38,11 @@ pub fn take_timing(taken: TakenTimings, timing: u32, cells: &mut [u8]) -> TakenT
         TakenTimings::InRange {
             timings,
             cells: at,
-            border_pulses,
             separator,
         } => {
             let stepped = separator.step(timing);
             let given = stepped.given;
             let answer = given.taken;
-            let offset = given.offset;
             let next = stepped.next;
             match answer {
                 Taken::Cells(count) => {
@@ -56,7 +50,6 @@ pub fn take_timing(taken: TakenTimings, timing: u32, cells: &mut [u8]) -> TakenT
                     TakenTimings::InRange {
                         timings: add_count(timings, 1),
                         cells: add_count(at, count),
-                        border_pulses: add_pulse(border_pulses, offset),
                         separator: next,
                     }
                 }
@@ -75,7 +68,6 @@ pub fn count_taken(taken: TakenTimings) -> Counted
         TakenTimings::InRange {
             timings: _,
             cells,
-            border_pulses: _,
             separator: _,
         } => {
             if separation::MOST_CELLS < cells {
@@ -85,21 +77,6 @@ pub fn count_taken(taken: TakenTimings) -> Counted
             }
         }
         TakenTimings::OutOfRange(index) => Counted::Refused(Refusal::TimingOutOfRange(index)),
-    }
-}
-
-// How many border pulses the timings have. Where one is outside its range, none counts.
-pub fn border_pulses_taken(taken: TakenTimings) -> u32
-    ensures { λ r. ⌜ r ≡ borderPulsesTaken taken ⌝ }
-{
-    match taken {
-        TakenTimings::InRange {
-            timings: _,
-            cells: _,
-            border_pulses,
-            separator: _,
-        } => border_pulses,
-        TakenTimings::OutOfRange(_) => 0,
     }
 }
 
@@ -123,17 +100,6 @@ fn add_count(count: usize, more: u32) -> usize
 {
     if count < 1_000_000_000 {
         count + (more as usize)
-    } else {
-        count
-    }
-}
-
-// The same for border pulses, with a pulse of this offset.
-fn add_pulse(count: u32, offset: i32) -> u32
-    ensures { λ r. ⌜ r ≡ countAfter count (borderPulsesAt offset) ⌝ }
-{
-    if count < 1_000_000_000 {
-        count + separator::border_pulses_at(offset)
     } else {
         count
     }

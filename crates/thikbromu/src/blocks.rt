@@ -5,26 +5,34 @@ ghost use mathlib.Core.Path.{_≡_};
 ghost use lib.ListN.{length};
 ghost use Rattle.supercard_pro.specs.TrackBlock.{blockAnswer, blockTimings};
 ghost use Rattle.revolution_portions.specs.Portions.{portionAnswer, portionReader, portionList};
-ghost use Rattle.block_cells.specs.BlockToCells.{blockSeparation, blockCells, blockBorderPulses, BlockDemand3};
+ghost use Rattle.block_cells.specs.BlockToCells.{blockSeparation, blockCells, blockBorderPulses, timingsBorderPulses, BlockDemand3};
 ghost use Rattle.reader_as_number.specs.Numbers.{readerOfNumber, numberKept, AllByNumber};
 ghost use Rattle.telling.specs.Numbers.{numberIn, valueIn};
 
-// The timings of one revolution of a block, counted from 0, to the front of `timings`; `value` is their number. `revolutions` is the number
-// of revolutions in the image's header.
+// The timings of one revolution of a block, counted from 0, to the front of `timings`; `value` is their number, and `border_pulses` the number
+// of their border pulses, which is kept beside a refusal. `revolutions` is the number of revolutions in the image's header.
 #[no_mangle]
 pub extern "C" fn thikbromu_revolution_timings(
     block: &[u8],
     revolutions: u32,
     revolution: u32,
     timings: &mut [u32],
+    border_pulses: &mut usize,
     value: &mut usize,
 ) -> u32
     ensures number { λ r. ⌜ r ≡ numberIn (blockAnswer (now (block .entry)) revolutions revolution (length (now (timings .entry)))) ⌝ }
     ensures value { λ _. ⌜ now (value .exit) ≡ valueIn (blockAnswer (now (block .entry)) revolutions revolution (length (now (timings .entry)))) ⌝ }
     ensures list { λ _. ⌜ now (timings .exit) ≡ blockTimings (now (block .entry)) revolutions revolution (now (timings .entry)) ⌝ }
+    ensures border_pulses { λ _. ⌜ now («border_pulses» .exit) ≡ timingsBorderPulses (now (block .entry)) revolutions revolution (length (now (timings .entry))) (now («border_pulses» .entry)) ⌝ }
 {
     told(
-        supercard_pro::revolution_timings(block, revolutions, revolution, timings),
+        block_cells::timings_with_border_pulses(
+            block,
+            revolutions,
+            revolution,
+            timings,
+            border_pulses,
+        ),
         value,
     )
 }

@@ -4,7 +4,7 @@ ghost use mathlib.Core.Path.{_≡_};
 ghost use Prim.Native.Nat.{_≤_};
 ghost use lib.ListN.{length};
 ghost use Rattle.refusals.specs.RefusedCalls.{bufferAfter};
-ghost use Rattle.track_file.specs.TrackFile.{fileCells};
+ghost use Rattle.track_file.specs.TrackFile.{packedBytes};
 ghost use Rattle.whole_file.specs.FileCells.{cellsAnswer};
 ghost use Rattle.telling.specs.Numbers.{numberIn, valueGiven, placeGiven};
 ghost use Rattle.lines.specs.Lines.{outAfter};
@@ -23,7 +23,7 @@ pub extern "C" fn thikbromu_file_cells(
     ensures number { λ r. ⌜ r ≡ numberIn (cellsAnswer (length (now (cells .entry))) (now (file .entry))) ⌝ }
     ensures value { λ _. ⌜ now (value .exit) ≡ valueGiven (cellsAnswer (length (now (cells .entry))) (now (file .entry))) ⌝ }
     ensures place { λ _. ⌜ now (place .exit) ≡ placeGiven (cellsAnswer (length (now (cells .entry))) (now (file .entry))) (now (place .entry)) ⌝ }
-    ensures cells { λ _. ⌜ now (cells .exit) ≡ bufferAfter (cellsAnswer (length (now (cells .entry))) (now (file .entry))) (fileCells (now (file .entry))) (now (cells .entry)) ⌝ }
+    ensures cells { λ _. ⌜ now (cells .exit) ≡ bufferAfter (cellsAnswer (length (now (cells .entry))) (now (file .entry))) (packedBytes (now (file .entry))) (now (cells .entry)) ⌝ }
 {
     told_file(whole_file::file_cells(file, cells), place, value)
 }

@@ -7,6 +7,7 @@
 // What the boundary asks of a caller in another language: each address is valid for its length, lent memory does not overlap what else is
 // passed, and a bool is 0 or 1. The routines ask nothing of the values.
 mod blocks;
+mod conversion;
 mod disks;
 mod files;
 mod images;
@@ -17,6 +18,7 @@ mod writing;
 pub use blocks::thikbromu_revolution_cells;
 pub use blocks::thikbromu_revolution_portion;
 pub use blocks::thikbromu_revolution_timings;
+pub use conversion::thikbromu_convert_file;
 pub use disks::thikbromu_disk_page;
 pub use files::thikbromu_file_cells;
 pub use files::thikbromu_file_listing;

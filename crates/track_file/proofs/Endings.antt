@@ -10,20 +10,16 @@ use denote.Enum.Declared.{tagOf}
 use lib.ListN.{length, replicate, length-replicate, drop-of-length-le}
 use types.Run.{OneOf, miss}
 use Rattle.cells.specs.CellsAndBytes.{cleared}
-use Rattle.refusals.specs.RefusedCalls.{refusedWith, countedAnswer}
-use Rattle.refusals.specs.declared.Counted.{Counted}
-use Rattle.refusals.specs.declared.Counted.the-variants.{Count, Refused as CountRefused}
+use Rattle.refusals.specs.RefusedCalls.{refusedWith}
 use Rattle.refusals.specs.RefusedCalls.Answer.{refused}
 use Rattle.refusals.specs.declared.Refusal.{Refusal}
 use Rattle.refusals.specs.declared.Refusal.the-variants.{NoRoom}
-use Rattle.taken_timings.specs.Timings.{timingsAnswer}
 use Rattle.file_reader.specs.Bytes.{readerAfterByte}
 use Rattle.track_file.specs.Portions.{startOf, startCells, readerAfter, isStopped, readAnswer, finishAnswer}
 use Rattle.file_reader.specs.declared.Place.{Place}
 use Rattle.file_reader.specs.declared.Number.the-variants.{Empty}
-use Rattle.taken_timings.specs.declared.TakenTimings.{TakenTimings}
 use Rattle.file_reader.specs.declared.Reader.{Reader}
-use Rattle.file_reader.specs.declared.Reader.the-variants.{PlaceCount, Track, Side, CellCount, PackedCells, FluxCount, Timings, AllCells, AllTimings, NotATrackFile, Stopped}
+use Rattle.file_reader.specs.declared.Reader.the-variants.{PlaceCount, Track, Side, CellCount, PackedCells, FluxCount, AllCells, NotATrackFile, Stopped}
 use Rattle.file_reader.proofs.Reader.{the-type}
 use Rattle.track_file.specs.declared.Read.the-variants.{Cells}
 
@@ -57,21 +53,12 @@ module _ (reader : Reader) where
   unfolding finishAnswer
   given-cells e = rw e
 
-  module _ {place : Place} {taken : TakenTimings} (e : reader ≡ AllTimings place taken) {counted : Counted} (is : countedAnswer counted ≡ timingsAnswer taken) where
-    pub given-timings : {count : ℕ} → counted ≡ Count count → readAnswer (Cells (place .track) (place .side) count) ≡ finishAnswer reader
-    unfolding finishAnswer
-    given-timings f = rw (e, ← is, f)
-
-    pub given-refusal : {refusal : Refusal} → counted ≡ CountRefused refusal → refusedWith refusal ≡ finishAnswer reader
-    unfolding finishAnswer
-    given-refusal f = rw (e, ← is, f)
-
   pub given-stopped : {refusal : Refusal} → reader ≡ Stopped refusal → refusedWith refusal ≡ finishAnswer reader
   unfolding finishAnswer
   given-stopped e = rw e
 
 -- anywhere else, by the number of the state, the file is short
-pub given-elsewhere : (reader : Reader) → OneOf (0 ∷ 1 ∷ 2 ∷ 3 ∷ 4 ∷ 5 ∷ 6 ∷ 9 ∷ []) (tagOf the-type reader) → refused 15 0 ≡ finishAnswer reader
+pub given-elsewhere : (reader : Reader) → OneOf (0 ∷ 1 ∷ 2 ∷ 3 ∷ 4 ∷ 5 ∷ 7 ∷ []) (tagOf the-type reader) → refused 15 0 ≡ finishAnswer reader
 unfolding finishAnswer
 given-elsewhere (PlaceCount number) h = refl
 given-elsewhere Track h = refl
@@ -79,14 +66,12 @@ given-elsewhere (Side track) h = refl
 given-elsewhere (CellCount place number) h = refl
 given-elsewhere (PackedCells place count at) h = refl
 given-elsewhere (FluxCount place cells number) h = refl
-given-elsewhere (Timings place left number taken) h = refl
-given-elsewhere (AllCells place count) h = absurd (miss (0 ∷ 1 ∷ 2 ∷ 3 ∷ 4 ∷ 5 ∷ 6 ∷ 9 ∷ []) 7 tt h)
-given-elsewhere (AllTimings place taken) h = absurd (miss (0 ∷ 1 ∷ 2 ∷ 3 ∷ 4 ∷ 5 ∷ 6 ∷ 9 ∷ []) 8 tt h)
+given-elsewhere (AllCells place count) h = absurd (miss (0 ∷ 1 ∷ 2 ∷ 3 ∷ 4 ∷ 5 ∷ 7 ∷ []) 6 tt h)
 given-elsewhere NotATrackFile h = refl
-given-elsewhere (Stopped refusal) h = absurd (miss (0 ∷ 1 ∷ 2 ∷ 3 ∷ 4 ∷ 5 ∷ 6 ∷ 9 ∷ []) 10 tt h)
+given-elsewhere (Stopped refusal) h = absurd (miss (0 ∷ 1 ∷ 2 ∷ 3 ∷ 4 ∷ 5 ∷ 7 ∷ []) 8 tt h)
 
 -- any state but the last goes on
-pub goes-on : (reader : Reader) → OneOf (0 ∷ 1 ∷ 2 ∷ 3 ∷ 4 ∷ 5 ∷ 6 ∷ 7 ∷ 8 ∷ 9 ∷ []) (tagOf the-type reader) → false ≡ isStopped reader
+pub goes-on : (reader : Reader) → OneOf (0 ∷ 1 ∷ 2 ∷ 3 ∷ 4 ∷ 5 ∷ 6 ∷ 7 ∷ []) (tagOf the-type reader) → false ≡ isStopped reader
 unfolding isStopped
 goes-on (PlaceCount number) h = refl
 goes-on Track h = refl
@@ -94,8 +79,6 @@ goes-on (Side track) h = refl
 goes-on (CellCount place number) h = refl
 goes-on (PackedCells place count at) h = refl
 goes-on (FluxCount place cells number) h = refl
-goes-on (Timings place left number taken) h = refl
 goes-on (AllCells place count) h = refl
-goes-on (AllTimings place taken) h = refl
 goes-on NotATrackFile h = refl
-goes-on (Stopped refusal) h = absurd (miss (0 ∷ 1 ∷ 2 ∷ 3 ∷ 4 ∷ 5 ∷ 6 ∷ 7 ∷ 8 ∷ 9 ∷ []) 10 tt h)
+goes-on (Stopped refusal) h = absurd (miss (0 ∷ 1 ∷ 2 ∷ 3 ∷ 4 ∷ 5 ∷ 6 ∷ 7 ∷ []) 8 tt h)

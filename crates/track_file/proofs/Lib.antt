@@ -6,4 +6,3 @@ pub mod Filling
 pub mod Whole
 pub mod Stopping
 pub mod Settling
-pub mod Pulses

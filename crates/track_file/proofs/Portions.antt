@@ -1,23 +1,15 @@
 -- Bytes one after another: a turn of the walk over a portion, a portion cut in two, and portions joined. Assumes
 -- nothing.
-use Prim.Native.Nat.{ℕ, _+_, _-_, _≤_, _<_}
+use Prim.Native.Nat.{ℕ, _+_, _≤_, _<_}
 use mathlib.Core.Path.{_≡_, refl, sym, _∙_, ap}
 use mathlib.Core.List.{List, [], _∷_, _++_, append-nil}
 use native.Mathlib.Numerals.{add-one}
 use native.Mathlib.Omega.{arith}
 use lib.ListN.{length, getD, drop, drop-of-length-le}
 use lib.Seq.{drop-cons}
-use Rattle.basis.specs.Bytes.{fourBytes}
-use Rattle.taken_timings.specs.Timings.{takenAfter, takenCells}
-use Rattle.file_reader.specs.Bytes.{numberAfter, inTiming, inTimingCells, readerAfterByte, cellsAfterByte}
+use Rattle.file_reader.specs.Bytes.{readerAfterByte, cellsAfterByte}
 use Rattle.track_file.specs.Portions.{startOf, startCells, readerAfter, cellsAfter, readerAfterAll, cellsAfterAll, readerThrough, cellsThrough, wholeOf}
-use Rattle.file_reader.specs.declared.Place.{Place}
-use Rattle.file_reader.specs.declared.Number.{Number}
-use Rattle.file_reader.specs.declared.Number.the-variants.{Empty}
-use Rattle.taken_timings.specs.declared.TakenTimings.{TakenTimings}
 use Rattle.file_reader.specs.declared.Reader.{Reader}
-use Rattle.file_reader.specs.declared.Reader.the-variants.{Timings}
-use Rattle.file_reader.proofs.Sections.{more-timings}
 
 -- a portion cut in two
 pub reader-cut : (reader : Reader) (a b : List ℕ) → readerAfter reader (a ++ b) ≡ readerAfter (readerAfter reader a) b
@@ -57,101 +49,36 @@ unfolding readerAfterAll cellsAfterAll wholeOf
 in-one-portion buffer file started fed =
     (rw (← started .0) (fed .0), (rw (← started .0, ← started .1) (fed .1), append-nil file))
 
--- the bytes of a portion from `from` to i are fed
-pub record Fed (portion cells₀ : List ℕ) (reader₀ : Reader) (from : ℕ) (cells : List ℕ) (reader : Reader) (i : ℕ) : Type 0 where
-  pub on : from ≤ i
+-- the first i bytes of a portion are fed
+pub record Fed (portion cells₀ : List ℕ) (reader₀ : Reader) (cells : List ℕ) (reader : Reader) (i : ℕ) : Type 0 where
   pub within : i ≤ length portion
   pub long : length cells ≡ length cells₀
-  pub to-reader : readerAfter reader (drop i portion) ≡ readerAfter reader₀ (drop from portion)
-  pub to-cells : cellsAfter reader (drop i portion) cells ≡ cellsAfter reader₀ (drop from portion) cells₀
+  pub to-reader : readerAfter reader (drop i portion) ≡ readerAfter reader₀ portion
+  pub to-cells : cellsAfter reader (drop i portion) cells ≡ cellsAfter reader₀ portion cells₀
 
-pub none-fed : (portion cells : List ℕ) (reader : Reader) (from : ℕ) → from ≤ length portion → Fed portion cells reader from cells reader from
-none-fed portion cells reader from h = record { on = omega arith; within = h; long = refl; to-reader = refl; to-cells = refl }
+pub none-fed : (portion cells : List ℕ) (reader : Reader) → Fed portion cells reader cells reader 0
+none-fed portion cells reader = record { within = omega arith; long = refl; to-reader = refl; to-cells = refl }
 
--- the same, as the contract of a part of the walk says it
-abbrev Said : List ℕ → List ℕ → Reader → ℕ → List ℕ → Reader → ℕ → Type 0
-Said portion cells₀ reader₀ from cells reader i =
-    (from ≤ i) × ((i ≤ length portion)
-    × ((readerAfter reader (drop i portion) ≡ readerAfter reader₀ (drop from portion))
-    × (cellsAfter reader (drop i portion) cells ≡ cellsAfter reader₀ (drop from portion) cells₀)))
+-- the byte at i
+byte-at : (portion : List ℕ) (i : ℕ) → i < length portion → drop i portion ≡ getD portion i 0 ∷ drop (i + 1) portion
+byte-at portion i h = rw (add-one, drop-cons portion i 0)
 
-module _ {portion cells₀ : List ℕ} {reader₀ : Reader} {from : ℕ} {cells : List ℕ} {reader : Reader} {i : ℕ} where
-  pub as-said : {told : Reader} → told ≡ reader₀ → Fed portion cells₀ reader₀ from cells reader i → Said portion cells₀ told from cells reader i
-  as-said e fed = rw e (fed .on, (fed .within, (fed .to-reader, fed .to-cells)))
-
-  pub from-said : Said portion cells₀ reader₀ from cells reader i → length cells ≡ length cells₀ → Fed portion cells₀ reader₀ from cells reader i
-  from-said s l = record { on = s .0; within = s .1 .0; long = l; to-reader = s .1 .1 .0; to-cells = s .1 .1 .1 }
-
--- the byte at i, and the four from i on
-byte-at : (portion : List ℕ) (i j : ℕ) → j ≡ i + 1 → j ≤ length portion → drop i portion ≡ getD portion i 0 ∷ drop j portion
-byte-at portion i j e h = let k : i < length portion = omega arith in rw (e, add-one, drop-cons portion i 0)
-
-four-at : (portion : List ℕ) (i : ℕ) → i + 4 ≤ length portion
-    → drop i portion ≡ getD portion i 0 ∷ getD portion (i + 1) 0 ∷ getD portion (i + 2) 0 ∷ getD portion (i + 3) 0 ∷ drop (i + 4) portion
-four-at portion i h =
-    byte-at portion i (i + 1) refl (omega arith)
-    ∙ ap (λ (x : List ℕ). getD portion i 0 ∷ x)
-    (byte-at portion (i + 1) (i + 2) (omega arith) (omega arith)
-    ∙ ap (λ (x : List ℕ). getD portion (i + 1) 0 ∷ x)
-    (byte-at portion (i + 2) (i + 3) (omega arith) (omega arith)
-    ∙ ap (λ (x : List ℕ). getD portion (i + 2) 0 ∷ x) (byte-at portion (i + 3) (i + 4) (omega arith) h)))
-
--- the reader before a timing
-pub at-timing : {told : Reader} {place : Place} {left : ℕ} {number : Number} {taken : TakenTimings} → told ≡ Timings place left number taken → number ≡ Empty
-    → told ≡ Timings place left Empty taken
-at-timing e none = rw (e, none)
-
-module _ {portion cells₀ : List ℕ} {reader₀ : Reader} {from : ℕ} where
-  module _ {cells : List ℕ} {reader : Reader} {i : ℕ} (fed : Fed portion cells₀ reader₀ from cells reader i) where
-    pub one-more-fed : i < length portion → {next : Reader} {after : List ℕ}
-        → (next ≡ readerAfterByte reader (getD portion i 0)) × (after ≡ cellsAfterByte reader (getD portion i 0) cells) → length after ≡ length cells
-        → Fed portion cells₀ reader₀ from after next (i + 1)
-    unfolding readerAfter cellsAfter
-    one-more-fed h e l =
-        let n = fed .on in
-        let rest = byte-at portion i (i + 1) refl (omega arith) in
-        record {
-          on = omega arith;
-          within = omega arith;
-          long = l ∙ fed .long;
-          to-reader = rw (e .0) (ap (readerAfter reader) (sym rest) ∙ fed .to-reader);
-          to-cells = rw (e .0, e .1) (ap (λ (x : List ℕ). cellsAfter reader x cells) (sym rest) ∙ fed .to-cells);
-        }
-
-    pub more-fed : {after : List ℕ} {next : Reader} {j : ℕ} → Fed portion cells reader i after next j → Fed portion cells₀ reader₀ from after next j
-    more-fed more =
-        let n = fed .on in
-        let m = more .on in
-        record {
-          on = omega arith;
-          within = more .within;
-          long = more .long ∙ fed .long;
-          to-reader = more .to-reader ∙ fed .to-reader;
-          to-cells = more .to-cells ∙ fed .to-cells;
-        }
-
-    pub all-fed : length portion ≤ i
-        → (reader ≡ readerAfter reader₀ (drop from portion)) × (cells ≡ cellsAfter reader₀ (drop from portion) cells₀)
-    unfolding readerAfter cellsAfter
-    all-fed h =
-        let rest = drop-of-length-le portion h in
-        (ap (readerAfter reader) (sym rest) ∙ fed .to-reader, ap (λ (x : List ℕ). cellsAfter reader x cells) (sym rest) ∙ fed .to-cells)
-
-  -- a whole timing that is not the last
-  pub timing-fed : {cells : List ℕ} {place : Place} {left : ℕ} {taken : TakenTimings} {i : ℕ}
-      → Fed portion cells₀ reader₀ from cells (Timings place left Empty taken) i → i + 4 ≤ length portion → 1 < left
-      → {t : ℕ} → t ≡ fourBytes (getD portion i 0) (getD portion (i + 1) 0) (getD portion (i + 2) 0) (getD portion (i + 3) 0)
-      → {next : TakenTimings} {after : List ℕ} → (next ≡ takenAfter taken t) × (after ≡ takenCells taken t cells) → length after ≡ length cells
-      → Fed portion cells₀ reader₀ from after (Timings place (left - 1) Empty next) (i + 4)
-  unfolding readerAfter cellsAfter readerAfterByte cellsAfterByte numberAfter inTiming inTimingCells
-  timing-fed {cells} {place} {left} {taken} {i} fed h some {t} number {next} {after} e l =
-      let n = fed .on in
-      let rest = four-at portion i h in
-      let step = more-timings place left next some in
+module _ {portion cells₀ : List ℕ} {reader₀ : Reader} {cells : List ℕ} {reader : Reader} {i : ℕ} (fed : Fed portion cells₀ reader₀ cells reader i) where
+  pub one-more-fed : i < length portion → {next : Reader} {after : List ℕ}
+      → (next ≡ readerAfterByte reader (getD portion i 0)) × (after ≡ cellsAfterByte reader (getD portion i 0) cells) → length after ≡ length cells
+      → Fed portion cells₀ reader₀ after next (i + 1)
+  unfolding readerAfter cellsAfter
+  one-more-fed h e l =
+      let rest = byte-at portion i h in
       record {
-        on = omega arith;
-        within = h;
+        within = omega arith;
         long = l ∙ fed .long;
-        to-reader = rw (step, e .0, number) (ap (readerAfter (Timings place left Empty taken)) (sym rest) ∙ fed .to-reader);
-        to-cells = rw (step, e .0, e .1, number) (ap (λ (x : List ℕ). cellsAfter (Timings place left Empty taken) x cells) (sym rest) ∙ fed .to-cells);
+        to-reader = rw (e .0) (ap (readerAfter reader) (sym rest) ∙ fed .to-reader);
+        to-cells = rw (e .0, e .1) (ap (λ (x : List ℕ). cellsAfter reader x cells) (sym rest) ∙ fed .to-cells);
       }
+
+  pub all-fed : length portion ≤ i → (reader ≡ readerAfter reader₀ portion) × (cells ≡ cellsAfter reader₀ portion cells₀)
+  unfolding readerAfter cellsAfter
+  all-fed h =
+      let rest = drop-of-length-le portion h in
+      (ap (readerAfter reader) (sym rest) ∙ fed .to-reader, ap (λ (x : List ℕ). cellsAfter reader x cells) (sym rest) ∙ fed .to-cells)

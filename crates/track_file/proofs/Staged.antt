@@ -1,33 +1,27 @@
 -- What the bytes of a file give, taken one by one, section after section. Assumes nothing.
-use Prim.Native.Nat.{ℕ, zero, suc, _+_, _-_, _*_, _≤_, _<_}
+use Prim.Native.Nat.{ℕ, zero, suc, _+_, _-_, _<_}
 use mathlib.Core.Path.{_≡_, refl, sym, _∙_, ap, subst}
 use mathlib.Core.Bool.{Bool, true, false, cond}
 use mathlib.Core.List.{List, [], _∷_}
 use native.Mathlib.Omega.{arith}
-use native.Mathlib.Decide.{ℕ-discrete}
-use borrow.Author.Tests.{le-ltb, eq-eqb, ne-eqb, ltb-false, eqb-true, eqb-false}
+use borrow.Author.Tests.{le-ltb, eq-eqb, ne-eqb, eqb-true, eqb-false}
 use lib.Dec.{eqb, ltb}
-use lib.IntN.{pos}
 use lib.ListN.{length, drop}
 use Rattle.cells.specs.CellsAndBytes.{bytesFor}
 use Rattle.refusals.specs.RefusedCalls.{Answer, refusedWith}
 use Rattle.refusals.specs.RefusedCalls.Answer.{gives, refused}
 use Rattle.refusals.specs.declared.Refusal.{Refusal}
-use Rattle.refusals.specs.declared.Refusal.the-variants.{CellCount as CellsRefused, TooManyTimings}
-use Rattle.separation.specs.Separation.{separation}
+use Rattle.refusals.specs.declared.Refusal.the-variants.{CellCount as CellsRefused, FluxSection}
 use Rattle.basis.specs.Bytes.{fourBytes, number}
-use Rattle.track_file.specs.TrackFile.{numbers, Content, placed}
-use Rattle.taken_timings.specs.Timings.{takenAfter}
-use Rattle.file_reader.specs.Bytes.{numberAfter, afterCellCount, afterFluxCount, afterTiming, inCellCount, inFluxCount, inTiming, readerAfterByte}
+use Rattle.track_file.specs.TrackFile.{Content}
+use Rattle.file_reader.specs.Bytes.{numberAfter, afterCellCount, afterFluxCount, inCellCount, inFluxCount, readerAfterByte}
 use Rattle.track_file.specs.Portions.{readerAfter, finishAnswer}
 use Rattle.file_reader.specs.declared.Place.{Place}
 use Rattle.file_reader.specs.declared.Number.the-variants.{Empty}
-use Rattle.taken_timings.specs.declared.TakenTimings.{TakenTimings}
 use Rattle.file_reader.specs.declared.Reader.{Reader}
-use Rattle.file_reader.specs.declared.Reader.the-variants.{CellCount, PackedCells, FluxCount, Timings, AllCells, AllTimings, NotATrackFile, Stopped}
-use Rattle.file_reader.proofs.Sections.{more-bytes, last-byte, more-timings, last-timing}
+use Rattle.file_reader.specs.declared.Reader.the-variants.{CellCount, PackedCells, FluxCount, AllCells, NotATrackFile, Stopped}
+use Rattle.file_reader.proofs.Sections.{more-bytes, last-byte}
 use Rattle.track_file.proofs.Endings.{reader-stays}
-use Rattle.taken_timings.proofs.Taking.{takenOver, tookWith, taken-answer}
 
 -- what the file gives that has these bytes left where the reader stands so
 abbrev pub ends : Reader → List ℕ → Answer Content
@@ -49,10 +43,9 @@ pub ends-no-file : (bytes : List ℕ) → ends NotATrackFile bytes ≡ short
 unfolding finishAnswer
 ends-no-file bytes = ap finishAnswer (no-file-stays bytes)
 
-pub length-numbers : (k : ℕ) (bytes : List ℕ) → length (numbers k bytes) ≡ k
-unfolding numbers
-length-numbers zero bytes = refl
-length-numbers (suc k) bytes = ap suc (length-numbers k (drop 4 bytes))
+-- a refusal is no answer that is accepted
+pub never : {A X : Type 0} {number value : ℕ} {given : A} → _≡_ {A = Answer A} (refused number value) (gives given) → X
+never e = let z : _≡_ {A = ℕ} 0 1 = cc in let y : ⊥ = omega arith in absurd y
 
 -- a number that is not 0
 pub some-of : (m : ℕ) → (m ≡ 0 → ⊥) → 0 < m
@@ -63,11 +56,9 @@ some-of (suc m) f = omega arith
 unfoldable pub fluxStage : Place → ℕ → List ℕ → Answer Content
 fluxStage place n fs =
     cond (ltb (length fs) 4) short
-    (cond (ltb 65536 (number fs)) (refused 7 (number fs))
-    (cond (eqb n 0)
-    (cond (eqb (number fs) 0) short
-    (cond (eqb (length fs) (4 + 4 * number fs)) (placed (place .track) (place .side) (separation (numbers (number fs) (drop 4 fs)) 16384)) short))
-    (cond (eqb (number fs) 0) (cond (eqb (length fs) 4) (placed (place .track) (place .side) (gives n)) short) short)))
+    (cond (eqb (number fs) 0)
+    (cond (eqb n 0) short (cond (eqb (length fs) 4) (gives (record { track = place .track; side = place .side; cells = n })) short))
+    (refused 23 0))
 
 -- the cell section and what follows
 unfoldable pub cellStage : Place → List ℕ → Answer Content
@@ -76,83 +67,24 @@ cellStage place cs =
     (cond (ltb 131072 (number cs)) (refused 2 (number cs)) (fluxStage place (number cs) (drop (bytesFor (number cs)) (drop 4 cs))))
 
 module _ (place : Place) where
-  abbrev at-place : Answer ℕ → Answer Content
-  at-place answer = placed (place .track) (place .side) answer
+  abbrev at-place : ℕ → Answer Content
+  at-place n = gives (record { track = place .track; side = place .side; cells = n })
 
-  -- one timing more, of two at least
-  pub next-timing : (k : ℕ) (taken : TakenTimings) → afterTiming place (suc (suc k)) taken ≡ Timings place (suc k) Empty taken
-  next-timing k taken =
-      let l : suc (suc k) - 1 ≡ suc k = omega arith in
-      sym (more-timings place (suc (suc k)) taken (omega arith)) ∙ ap (λ (n : ℕ). Timings place n Empty taken) l
-
-  pub timings-whole : (k : ℕ) (taken : TakenTimings) (ys : List ℕ) → length ys ≡ 4 * suc k
-      → readerAfter (Timings place (suc k) Empty taken) ys ≡ AllTimings place (takenOver taken (numbers (suc k) ys))
-  unfolding readerAfter readerAfterByte numberAfter inTiming numbers
-  timings-whole k taken [] e = let z : ⊥ = omega arith in absurd z
-  timings-whole k taken (a ∷ []) e = let z : ⊥ = omega arith in absurd z
-  timings-whole k taken (a ∷ b ∷ []) e = let z : ⊥ = omega arith in absurd z
-  timings-whole k taken (a ∷ b ∷ c ∷ []) e = let z : ⊥ = omega arith in absurd z
-  timings-whole zero taken (a ∷ b ∷ c ∷ d ∷ []) e = sym (last-timing place 1 (takenAfter taken (fourBytes a b c d)) (omega arith))
-  timings-whole zero taken (a ∷ b ∷ c ∷ d ∷ y ∷ ys) e = let z : ⊥ = omega arith in absurd z
-  timings-whole (suc k) taken (a ∷ b ∷ c ∷ d ∷ ys) e =
-      ap (λ (s : Reader). readerAfter s ys) (next-timing k (takenAfter taken (fourBytes a b c d)))
-      ∙ timings-whole k (takenAfter taken (fourBytes a b c d)) ys (omega arith)
-
-  -- too few bytes, or too many
-  pub timings-not-whole : (k : ℕ) (taken : TakenTimings) (ys : List ℕ) → (length ys ≡ 4 * suc k → ⊥) → ends (Timings place (suc k) Empty taken) ys ≡ short
-  unfolding readerAfter readerAfterByte numberAfter inTiming finishAnswer
-  timings-not-whole k taken [] f = refl
-  timings-not-whole k taken (a ∷ []) f = refl
-  timings-not-whole k taken (a ∷ b ∷ []) f = refl
-  timings-not-whole k taken (a ∷ b ∷ c ∷ []) f = refl
-  timings-not-whole zero taken (a ∷ b ∷ c ∷ d ∷ []) f = absurd (f (omega arith))
-  timings-not-whole zero taken (a ∷ b ∷ c ∷ d ∷ y ∷ ys) f =
-      ap (λ (s : Reader). ends s (y ∷ ys)) (sym (last-timing place 1 (takenAfter taken (fourBytes a b c d)) (omega arith))) ∙ ends-no-file ys
-  timings-not-whole (suc k) taken (a ∷ b ∷ c ∷ d ∷ ys) f =
-      ap (λ (s : Reader). ends s ys) (next-timing k (takenAfter taken (fourBytes a b c d)))
-      ∙ timings-not-whole k (takenAfter taken (fourBytes a b c d)) ys (λ e. f (omega arith))
-
-  timings-end : (k len : ℕ) (ys : List ℕ) → suc k ≤ 65536 → len ≡ 4 + length ys
-      → ends (Timings place (suc k) Empty (tookWith 0 0 0 (pos 0))) ys ≡ cond (eqb len (4 + 4 * suc k)) (at-place (separation (numbers (suc k) ys) 16384)) short
-  unfolding finishAnswer
-  timings-end k len ys h e = go (ℕ-discrete (length ys) (4 * suc k))
-    where
-      go : Dec (length ys ≡ 4 * suc k)
-          → ends (Timings place (suc k) Empty (tookWith 0 0 0 (pos 0))) ys ≡ cond (eqb len (4 + 4 * suc k)) (at-place (separation (numbers (suc k) ys) 16384)) short
-      go (yes q) =
-          let l = length-numbers (suc k) ys in
-          rw (eq-eqb len (4 + 4 * suc k) (omega arith))
-          (ap finishAnswer (timings-whole k (tookWith 0 0 0 (pos 0)) ys q) ∙ ap at-place (taken-answer (numbers (suc k) ys) (λ z. omega arith) (omega arith)))
-      go (no f) = rw (ne-eqb len (4 + 4 * suc k) (λ w. f (omega arith))) (timings-not-whole k (tookWith 0 0 0 (pos 0)) ys f)
-
-  cells-end : (n len : ℕ) (ys : List ℕ) → len ≡ 4 + length ys → ends (AllCells place n) ys ≡ cond (eqb len 4) (at-place (gives n)) short
+  cells-end : (n len : ℕ) (ys : List ℕ) → len ≡ 4 + length ys → ends (AllCells place n) ys ≡ cond (eqb len 4) (at-place n) short
   unfolding readerAfter readerAfterByte finishAnswer
   cells-end n len [] e = rw (eq-eqb len 4 (omega arith))
   cells-end n len (y ∷ ys) e = rw (ne-eqb len 4 (λ w. omega arith)) (ends-no-file ys)
 
   after-flux-count : (n v len : ℕ) (ys : List ℕ) → len ≡ 4 + length ys
-      → ends (afterFluxCount place n v) ys
-      ≡ cond (ltb 65536 v) (refused 7 v)
-      (cond (eqb n 0)
-      (cond (eqb v 0) short (cond (eqb len (4 + 4 * v)) (at-place (separation (numbers v ys) 16384)) short))
-      (cond (eqb v 0) (cond (eqb len 4) (at-place (gives n)) short) short))
+      → ends (afterFluxCount place n v) ys ≡ cond (eqb v 0) (cond (eqb n 0) short (cond (eqb len 4) (at-place n) short)) (refused 23 0)
   unfolding afterFluxCount
-  after-flux-count n v len ys e = go (ltb 65536 v) (eqb n 0) (eqb v 0) refl refl
+  after-flux-count n v len ys e = go (eqb v 0) (eqb n 0)
     where
-      some : (v : ℕ) → v ≤ 65536 → (v ≡ 0 → ⊥)
-          → ends (Timings place v Empty (tookWith 0 0 0 (pos 0))) ys ≡ cond (eqb len (4 + 4 * v)) (at-place (separation (numbers v ys) 16384)) short
-      some zero h f = absurd (f refl)
-      some (suc k) h f = timings-end k len ys h e
-
-      go : (x y z : Bool) → ltb 65536 v ≡ x → eqb v 0 ≡ z
-          → ends (cond x (Stopped (TooManyTimings v)) (cond y (cond z NotATrackFile (Timings place v Empty (tookWith 0 0 0 (pos 0)))) (cond z (AllCells place n) NotATrackFile))) ys
-          ≡ cond x (refused 7 v)
-          (cond y (cond z short (cond (eqb len (4 + 4 * v)) (at-place (separation (numbers v ys) 16384)) short)) (cond z (cond (eqb len 4) (at-place (gives n)) short) short))
-      go true y z a b = ends-stopped (TooManyTimings v) ys
-      go false true true a b = ends-no-file ys
-      go false true false a b = some v (ltb-false 65536 v a) (eqb-false v 0 b)
-      go false false true a b = cells-end n len ys e
-      go false false false a b = ends-no-file ys
+      go : (x y : Bool)
+          → ends (cond x (cond y NotATrackFile (AllCells place n)) (Stopped FluxSection)) ys ≡ cond x (cond y short (cond (eqb len 4) (at-place n) short)) (refused 23 0)
+      go true true = ends-no-file ys
+      go true false = cells-end n len ys e
+      go false y = ends-stopped FluxSection ys
 
   pub flux-end : (n : ℕ) (fs : List ℕ) → ends (FluxCount place n Empty) fs ≡ fluxStage place n fs
   unfolding readerAfter readerAfterByte numberAfter inFluxCount finishAnswer fluxStage

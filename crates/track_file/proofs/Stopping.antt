@@ -6,25 +6,20 @@ use mathlib.Core.List.{List, [], _∷_}
 use native.Mathlib.Omega.{arith}
 use borrow.Author.Tests.{lt-leb, le-leb, eqb-true, eqb-false}
 use lib.Dec.{eqb, ltb}
-use lib.IntN.{pos}
 use lib.ListN.{length, drop, length-drop}
 use Rattle.cells.specs.CellsAndBytes.{bytesFor}
 use Rattle.refusals.specs.declared.Refusal.{Refusal}
-use Rattle.refusals.specs.declared.Refusal.the-variants.{CellCount as CellsRefused, TooManyTimings, NoRoom, NotATrackFile as NoTrackFile}
+use Rattle.refusals.specs.declared.Refusal.the-variants.{CellCount as CellsRefused, FluxSection, NoRoom, NotATrackFile as NoTrackFile}
 use Rattle.basis.specs.Bytes.{fourBytes, number}
 use Rattle.track_file.specs.TrackFile.{hasCount, refusedAtOnce}
-use Rattle.taken_timings.specs.Timings.{takenAfter}
-use Rattle.file_reader.specs.Bytes.{numberAfter, afterPlaceCount, afterCellCount, afterFluxCount, afterTiming, inPlaceCount, inCellCount, inFluxCount, inTiming, readerAfterByte}
+use Rattle.file_reader.specs.Bytes.{numberAfter, afterPlaceCount, afterCellCount, afterFluxCount, inPlaceCount, inCellCount, inFluxCount, readerAfterByte}
 use Rattle.track_file.specs.Portions.{startOf, readerAfter, isStopped}
 use Rattle.file_reader.specs.declared.Place.{Place}
-use Rattle.file_reader.specs.declared.Number.{Number}
-use Rattle.file_reader.specs.declared.Number.the-variants.{Empty, One, Two, Three}
-use Rattle.taken_timings.specs.declared.TakenTimings.{TakenTimings}
+use Rattle.file_reader.specs.declared.Number.the-variants.{Empty}
 use Rattle.file_reader.specs.declared.Reader.{Reader}
-use Rattle.file_reader.specs.declared.Reader.the-variants.{PlaceCount, Track, CellCount, PackedCells, FluxCount, Timings, AllCells, AllTimings, NotATrackFile, Stopped}
+use Rattle.file_reader.specs.declared.Reader.the-variants.{PlaceCount, Track, CellCount, PackedCells, FluxCount, AllCells, NotATrackFile, Stopped}
 use Rattle.file_reader.proofs.Sections.{more-bytes, last-byte}
 use Rattle.track_file.proofs.Endings.{reader-stays}
-use Rattle.taken_timings.proofs.Taking.{tookWith}
 use Rattle.track_file.proofs.Staged.{no-file-stays, some-of}
 
 -- whether the reader is stopped after these bytes
@@ -41,7 +36,7 @@ stops-no-file bytes = ap isStopped (no-file-stays bytes)
 
 -- whether the flux count fs is refused
 abbrev fluxRefused : List ℕ → Bool
-fluxRefused fs = hasCount fs && ltb 65536 (number fs)
+fluxRefused fs = hasCount fs && not (eqb (number fs) 0)
 
 -- whether the cell count cs, or the flux count after it, is refused
 abbrev cellsRefused : List ℕ → Bool
@@ -61,37 +56,14 @@ module _ (place : Place) where
   stops-all-cells n [] = refl
   stops-all-cells n (byte ∷ bytes) = stops-no-file bytes
 
-  stops-all-timings : (taken : TakenTimings) (bytes : List ℕ) → stops (AllTimings place taken) bytes ≡ false
-  unfolding isStopped readerAfter readerAfterByte
-  stops-all-timings taken [] = refl
-  stops-all-timings taken (byte ∷ bytes) = stops-no-file bytes
-
-  -- among the timings no refusal is given at once
-  stops-timings : (left : ℕ) (n : Number) (taken : TakenTimings) (bytes : List ℕ) → stops (Timings place left n taken) bytes ≡ false
-  unfolding isStopped readerAfter readerAfterByte numberAfter inTiming afterTiming
-  stops-timings left n taken [] = refl
-  stops-timings left Empty taken (byte ∷ bytes) = stops-timings left (One byte) taken bytes
-  stops-timings left (One a) taken (byte ∷ bytes) = stops-timings left (Two a byte) taken bytes
-  stops-timings left (Two a b) taken (byte ∷ bytes) = stops-timings left (Three a b byte) taken bytes
-  stops-timings left (Three a b c) taken (byte ∷ bytes) =
-      go (ltb 1 left) (takenAfter taken (fourBytes a b c byte)) (stops-timings (left - 1) Empty (takenAfter taken (fourBytes a b c byte)) bytes)
-    where
-      go : (x : Bool) (after : TakenTimings) → stops (Timings place (left - 1) Empty after) bytes ≡ false
-          → stops (cond x (Timings place (left - 1) Empty after) (AllTimings place after)) bytes ≡ false
-      go true after e = e
-      go false after e = stops-all-timings after bytes
-
-  after-flux-count : (n v : ℕ) (bytes : List ℕ) → stops (afterFluxCount place n v) bytes ≡ ltb 65536 v
+  after-flux-count : (n v : ℕ) (bytes : List ℕ) → stops (afterFluxCount place n v) bytes ≡ not (eqb v 0)
   unfolding afterFluxCount
-  after-flux-count n v bytes = go (ltb 65536 v) (eqb n 0) (eqb v 0)
+  after-flux-count n v bytes = go (eqb v 0) (eqb n 0)
     where
-      go : (x y z : Bool)
-          → stops (cond x (Stopped (TooManyTimings v)) (cond y (cond z NotATrackFile (Timings place v Empty (tookWith 0 0 0 (pos 0)))) (cond z (AllCells place n) NotATrackFile))) bytes ≡ x
-      go true y z = stops-stopped (TooManyTimings v) bytes
-      go false true true = stops-no-file bytes
-      go false true false = stops-timings v Empty (tookWith 0 0 0 (pos 0)) bytes
-      go false false true = stops-all-cells n bytes
-      go false false false = stops-no-file bytes
+      go : (x y : Bool) → stops (cond x (cond y NotATrackFile (AllCells place n)) (Stopped FluxSection)) bytes ≡ not x
+      go true true = stops-no-file bytes
+      go true false = stops-all-cells n bytes
+      go false y = stops-stopped FluxSection bytes
 
   in-flux-count : (n : ℕ) (fs : List ℕ) → stops (FluxCount place n Empty) fs ≡ fluxRefused fs
   unfolding isStopped readerAfter readerAfterByte numberAfter inFluxCount

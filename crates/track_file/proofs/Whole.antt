@@ -10,14 +10,13 @@ use Rattle.basis.specs.Lists.{writtenOver}
 use Rattle.refusals.specs.RefusedCalls.{Answer}
 use Rattle.refusals.specs.RefusedCalls.Answer.{gives, refused}
 use Rattle.refusals.specs.declared.Refusal.the-variants.{NoRoom}
-use Rattle.track_file.specs.TrackFile.{Content, fileAnswer, fileCells, fileAnswerIn, fileBuffer}
+use Rattle.track_file.specs.TrackFile.{Content, fileAnswer, packedBytes, fileAnswerIn, fileBuffer}
 use Rattle.track_file.specs.Portions.{startOf, startCells, cellsAfter, wholeOf, finishAnswer, WholeFile}
 use Rattle.file_reader.specs.declared.Number.the-variants.{Empty}
 use Rattle.file_reader.specs.declared.Reader.{Reader}
 use Rattle.file_reader.specs.declared.Reader.the-variants.{PlaceCount, Stopped}
 use Rattle.track_file.proofs.Portions.{reader-joined, cells-joined}
-use Rattle.taken_timings.proofs.TimingCells.{never}
-use Rattle.track_file.proofs.Staged.{ends, ends-stopped}
+use Rattle.track_file.proofs.Staged.{never, ends, ends-stopped}
 use Rattle.track_file.proofs.Judged.{file-answer}
 use Rattle.track_file.proofs.Filling.{file-filled}
 
@@ -38,7 +37,7 @@ whole-buffer buffer file content = go (ltb (length buffer) 16384) refl
   where
     go : (x : Bool) → ltb (length buffer) 16384 ≡ x → ends (cond x (Stopped (NoRoom 16384)) (PlaceCount Empty)) file ≡ gives content
         → cellsAfter (cond x (Stopped (NoRoom 16384)) (PlaceCount Empty)) file (cond x buffer (replicate (length buffer) 0))
-        ≡ writtenOver (fileCells file) (replicate (length buffer) 0)
+        ≡ writtenOver (packedBytes file) (replicate (length buffer) 0)
     go true e accepted = never (sym (ends-stopped (NoRoom 16384) file) ∙ accepted)
     go false e accepted = file-filled (length buffer) (ltb-false (length buffer) 16384 e) content file accepted
 

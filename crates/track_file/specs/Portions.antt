@@ -1,6 +1,6 @@
--- Section 10 of the specification, rules 10.11 to 10.15 and 10.17: the track file in portions: from the start, portion after portion, to the
--- end. The main properties: however a file is cut, it gives what TrackFile says of the whole (`WholeFile`, `WholeBorderPulses`), and reading
--- stops exactly where a refusal is given at once (`AtOnce`). Assumes nothing.
+-- Section 10 of the specification, rules 10.11 to 10.15: the track file in portions: from the start, portion after portion, to the end. The
+-- main properties: however a file is cut, it gives what TrackFile says of the whole (`WholeFile`), and reading stops exactly where a refusal
+-- is given at once (`AtOnce`). Assumes nothing.
 use Prim.Native.Nat.{ℕ}
 use mathlib.Core.Path.{_≡_}
 use mathlib.Core.Bool.{Bool, true, false, cond, _||_}
@@ -10,14 +10,11 @@ use lib.ListN.{length, replicate}
 use Rattle.refusals.specs.RefusedCalls.{Answer, refusedWith}
 use Rattle.refusals.specs.RefusedCalls.Answer.{gives, refused}
 use Rattle.refusals.specs.declared.Refusal.the-variants.{NoRoom}
-use Rattle.taken_timings.specs.Timings.{timingsAnswer, borderPulsesTaken}
 use Rattle.file_reader.specs.Bytes.{readerAfterByte, cellsAfterByte}
 use Rattle.file_reader.specs.declared.Number.the-variants.{Empty}
 use Rattle.file_reader.specs.declared.Reader.{Reader}
-use Rattle.file_reader.specs.declared.Reader.the-variants.{PlaceCount, Track, Side, CellCount, PackedCells, FluxCount, Timings, AllCells, AllTimings, NotATrackFile, Stopped}
-use Rattle.track_file.specs.TrackFile.{Content, placed, refusedAtOnce, fileAnswerIn, fileBuffer, fileBorderPulses}
-use Rattle.track_file.specs.declared.BorderPulses.{BorderPulses}
-use Rattle.track_file.specs.declared.BorderPulses.the-variants.{Pulses, NoFluxSection}
+use Rattle.file_reader.specs.declared.Reader.the-variants.{PlaceCount, Track, Side, CellCount, PackedCells, FluxCount, AllCells, NotATrackFile, Stopped}
+use Rattle.track_file.specs.TrackFile.{Content, refusedAtOnce, fileAnswerIn, fileBuffer}
 use Rattle.track_file.specs.declared.Read.{Read}
 use Rattle.track_file.specs.declared.Read.the-variants.{Cells, Refused}
 
@@ -68,9 +65,7 @@ isStopped (Side track) = false
 isStopped (CellCount place number) = false
 isStopped (PackedCells place count at) = false
 isStopped (FluxCount place cellCount number) = false
-isStopped (Timings place left number taken) = false
 isStopped (AllCells place count) = false
-isStopped (AllTimings place taken) = false
 isStopped NotATrackFile = false
 isStopped (Stopped refusal) = true
 
@@ -87,9 +82,7 @@ finishAnswer (Side track) = refused 15 0
 finishAnswer (CellCount place number) = refused 15 0
 finishAnswer (PackedCells place count at) = refused 15 0
 finishAnswer (FluxCount place cellCount number) = refused 15 0
-finishAnswer (Timings place left number taken) = refused 15 0
-finishAnswer (AllCells place count) = placed (place .track) (place .side) (gives count)
-finishAnswer (AllTimings place taken) = placed (place .track) (place .side) (timingsAnswer taken)
+finishAnswer (AllCells place count) = gives (record { track = place .track; side = place .side; cells = count })
 finishAnswer NotATrackFile = refused 15 0
 finishAnswer (Stopped refusal) = refusedWith refusal
 
@@ -100,26 +93,6 @@ pub record WholeFile (reader : Reader) (answer : Answer Content) : Type 0 where
   pub whole : (buffer : List ℕ) (portions : List (List ℕ)) → reader ≡ readerThrough buffer portions
       → (answer ≡ fileAnswerIn (length buffer) (wholeOf portions))
       × ((content : Content) → answer ≡ gives content → cellsThrough buffer portions ≡ fileBuffer (length buffer) (wholeOf portions))
-
--- 10.17: the border pulses at the end of the file: those of the timings taken, where the file ends with its last timing
-unfoldable pub borderPulsesRead : Reader → BorderPulses
-borderPulsesRead (PlaceCount number) = NoFluxSection
-borderPulsesRead Track = NoFluxSection
-borderPulsesRead (Side track) = NoFluxSection
-borderPulsesRead (CellCount place number) = NoFluxSection
-borderPulsesRead (PackedCells place count at) = NoFluxSection
-borderPulsesRead (FluxCount place cellCount number) = NoFluxSection
-borderPulsesRead (Timings place left number taken) = NoFluxSection
-borderPulsesRead (AllCells place count) = NoFluxSection
-borderPulsesRead (AllTimings place taken) = Pulses (borderPulsesTaken taken)
-borderPulsesRead NotATrackFile = NoFluxSection
-borderPulsesRead (Stopped refusal) = NoFluxSection
-
--- 10.15, 10.17: for every file that is accepted and every way to cut it into portions: where `start` was called on a buffer and then `feed`
--- on each portion in turn, the border pulses are those of the whole file
-pub record WholeBorderPulses (reader : Reader) (pulses : BorderPulses) : Type 0 where
-  pub whole : (buffer : List ℕ) (portions : List (List ℕ)) → reader ≡ readerThrough buffer portions
-      → (content : Content) → fileAnswerIn (length buffer) (wholeOf portions) ≡ gives content → pulses ≡ fileBorderPulses (wholeOf portions)
 
 -- 10.6, 10.13: what `stopped` answers, where `start` was called on a buffer and then `feed` on each portion in turn: whether the bytes so
 -- far are refused at once, or the buffer is. Where it answers yes, the file gives the same whatever comes after

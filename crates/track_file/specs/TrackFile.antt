@@ -1,29 +1,21 @@
 -- Section 10 of the specification: the track file as a whole.
 --
 --   place                  cells                       flux
---   count 2    T    H      count N    packed bytes     count k    k timings
---   4 bytes    1    1      4 bytes    (N + 7) / 8      4 bytes    4 bytes each
+--   count 2    T    H      count N    packed bytes     count 0
+--   4 bytes    1    1      4 bytes    (N + 7) / 8      4 bytes
 --
 -- The main property: `fileAnswer`, which is what a file gives, also where it is read in portions (`WholeFile`, in Portions). What is asked
 -- of a file that lacks the bytes for it counts them as 0: such a file is short and refused. Assumes nothing.
-use Prim.Native.Nat.{ℕ, zero, suc, _+_, _*_}
+use Prim.Native.Nat.{ℕ, _+_}
 use mathlib.Core.Bool.{Bool, cond, not, _&&_, _||_}
-use mathlib.Core.List.{List, [], _∷_}
+use mathlib.Core.List.{List}
 use lib.Dec.{eqb, leb, ltb}
 use lib.ListN.{length, getD, take, drop, replicate}
 use Rattle.basis.specs.Bytes.{number}
 use Rattle.basis.specs.Lists.{writtenOver}
-use Rattle.cells.specs.CellsAndBytes.{bytesFor, packed}
-use Rattle.separation.specs.Separation.{cellsOf, borderPulsesOf, separation}
+use Rattle.cells.specs.CellsAndBytes.{bytesFor}
 use Rattle.refusals.specs.RefusedCalls.{Answer}
 use Rattle.refusals.specs.RefusedCalls.Answer.{gives, refused}
-use Rattle.track_file.specs.declared.BorderPulses.{BorderPulses}
-use Rattle.track_file.specs.declared.BorderPulses.the-variants.{Pulses, NoFluxSection}
-
--- 10.2: so many counts or timings, one after another
-unfoldable pub numbers : ℕ → List ℕ → List ℕ
-numbers zero bytes = []
-numbers (suc k) bytes = number bytes ∷ numbers k (drop 4 bytes)
 
 -- 10.1, 10.2: the place: its count, and T and H in a byte each
 abbrev pub placeCount : List ℕ → ℕ
@@ -45,30 +37,22 @@ cellCount file = number (cellSection file)
 abbrev pub packedBytes : List ℕ → List ℕ
 packedBytes file = take (bytesFor (cellCount file)) (drop 4 (cellSection file))
 
--- 10.1, 10.3: the flux timings: their count, and four bytes for each
+-- 10.1, 10.3: the flux section: its count, and no timings
 abbrev pub fluxSection : List ℕ → List ℕ
 fluxSection file = drop (bytesFor (cellCount file)) (drop 4 (cellSection file))
 
 abbrev pub fluxCount : List ℕ → ℕ
 fluxCount file = number (fluxSection file)
 
-abbrev pub timings : List ℕ → List ℕ
-timings file = numbers (fluxCount file) (drop 4 (fluxSection file))
-
--- 10.7: how many bytes a file with these counts has
+-- 10.7: how many bytes a file with this count of cells has
 abbrev pub fileLength : List ℕ → ℕ
-fileLength file = 14 + bytesFor (cellCount file) + 4 * fluxCount file
+fileLength file = 14 + bytesFor (cellCount file)
 
 -- 10.9: what an accepted file gives: T, H and the number of its cells
 pub record Content : Type 0 where
   pub track : ℕ
   pub side : ℕ
   pub cells : ℕ
-
--- 10.9: an answer that gives a number of cells, with T and H beside it
-abbrev pub placed : ℕ → ℕ → Answer ℕ → Answer Content
-placed track side (gives cells) = gives (record { track = track; side = side; cells = cells })
-placed track side (refused number value) = refused number value
 
 -- 10.4: the four bytes of a section's count are there
 abbrev pub hasCount : List ℕ → Bool
@@ -82,43 +66,30 @@ placeCountRefused file = hasCount file && not (eqb (placeCount file) 2)
 abbrev pub cellCountRefused : List ℕ → Bool
 cellCountRefused file = hasCount (cellSection file) && ltb 131072 (cellCount file)
 
--- 8.7, 10.4: the count of timings is there and above 65,536
+-- 8.23, 10.4: the count of timings is there and is not 0
 abbrev pub fluxCountRefused : List ℕ → Bool
-fluxCountRefused file = hasCount (fluxSection file) && ltb 65536 (fluxCount file)
+fluxCountRefused file = hasCount (fluxSection file) && not (eqb (fluxCount file) 0)
 
 -- 10.4, 10.5: the refusals that are given at once: that of the count which stands first in the file; and else what `next` answers
 unfoldable pub givenAtOnce : List ℕ → Answer Content → Answer Content
 givenAtOnce file next =
     cond (placeCountRefused file) (refused 15 0)
-    (cond (cellCountRefused file) (refused 2 (cellCount file)) (cond (fluxCountRefused file) (refused 7 (fluxCount file)) next))
+    (cond (cellCountRefused file) (refused 2 (cellCount file)) (cond (fluxCountRefused file) (refused 23 0) next))
 
 -- 10.4: one of the three is given
 unfoldable pub refusedAtOnce : List ℕ → Bool
 refusedAtOnce file = placeCountRefused file || (cellCountRefused file || fluxCountRefused file)
 
--- 10.7: the counts of cells and of timings are both 0, or both not 0
-abbrev pub bothOrNeither : ℕ → ℕ → Bool
-bothOrNeither cells timings = cond (eqb cells 0) (eqb timings 0) (not (eqb timings 0))
-
--- 8.15, 10.7: the bytes are no track file, judged at their end: for these two counts, or because bytes are missing or left over
+-- 8.15, 10.7: the bytes are no track file, judged at their end: the count of cells is 0, as that of timings is, or bytes are missing or left
+-- over
 unfoldable pub notATrackFile : List ℕ → Bool
-notATrackFile file = bothOrNeither (cellCount file) (fluxCount file) || not (eqb (length file) (fileLength file))
+notATrackFile file = eqb (cellCount file) 0 || not (eqb (length file) (fileLength file))
 
--- 10.5, 10.8, 10.9, 10.10: what a file gives: the refusals at once, then 15, then those of the separator's list call on its timings, with
--- room for 131,072 cells; else T, H and the number of cells, which are not judged further
+-- 10.5, 10.9, 10.10: what a file gives: the refusals at once, then 15; else T, H and the number of cells, which are not judged further
 unfoldable pub fileAnswer : List ℕ → Answer Content
 fileAnswer file =
     givenAtOnce file
-    (cond (notATrackFile file) (refused 15 0)
-    (placed (trackOf file) (sideOf file) (cond (eqb (fluxCount file) 0) (gives (cellCount file)) (separation (timings file) 16384))))
-
--- 10.9: the packed cells of an accepted file: its own bytes, or the separator's cells
-unfoldable pub fileCells : List ℕ → List ℕ
-fileCells file = cond (eqb (fluxCount file) 0) (packedBytes file) (packed (cellsOf (timings file)))
-
--- 10.17: the border pulses of an accepted file: those of all its timings; a file with cells has no flux section and so no such number
-unfoldable pub fileBorderPulses : List ℕ → BorderPulses
-fileBorderPulses file = cond (eqb (fluxCount file) 0) NoFluxSection (Pulses (borderPulsesOf (timings file)))
+    (cond (notATrackFile file) (refused 15 0) (gives (record { track = trackOf file; side = sideOf file; cells = cellCount file })))
 
 -- 8.10, 9.10, 10.11: what a file gives that is read into a buffer of `room` bytes: 10 goes first, with the bytes that 131,072 cells need
 -- beside it
@@ -127,4 +98,4 @@ fileAnswerIn room file = cond (ltb room 16384) (refused 10 16384) (fileAnswer fi
 
 -- 10.14: that buffer after an accepted file: its cells, and then zeros
 unfoldable pub fileBuffer : ℕ → List ℕ → List ℕ
-fileBuffer room file = writtenOver (fileCells file) (replicate room 0)
+fileBuffer room file = writtenOver (packedBytes file) (replicate room 0)

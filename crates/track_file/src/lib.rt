@@ -2,14 +2,10 @@
 // cells go to a buffer that the caller lends to each call.
 use file_reader::Number;
 use file_reader::Reader;
-use refusals::Counted;
 use refusals::Refusal;
-use separator::Separator;
-use separator::Taken;
 ghost use mathlib.Core.Path.{_≡_};
-ghost use Prim.Native.Nat.{_≤_};
-ghost use lib.ListN.{length, drop};
-ghost use Rattle.track_file.specs.Portions.{startOf, startCells, readerAfter, cellsAfter, isStopped, AtOnce, readAnswer, finishAnswer, WholeFile, borderPulsesRead, WholeBorderPulses};
+ghost use lib.ListN.{length};
+ghost use Rattle.track_file.specs.Portions.{startOf, startCells, readerAfter, cellsAfter, isStopped, AtOnce, readAnswer, finishAnswer, WholeFile};
 
 // The bytes that a cell buffer must have: room for 131,072 cells.
 pub const ROOM: usize = 16_384;
@@ -18,12 +14,6 @@ pub const ROOM: usize = 16_384;
 pub enum Read {
     Cells { track: u8, side: u8, count: usize },
     Refused(Refusal),
-}
-
-// The border pulses of a file: their number, which a file with a flux section alone has.
-pub enum BorderPulses {
-    Pulses(u32),
-    NoFluxSection,
 }
 
 // The beginning, before any byte: the cell buffer is cleared, or refused where it has too little room (rule 10.11).
@@ -39,7 +29,7 @@ pub fn start(cells: &mut [u8]) -> Reader
     Reader::PlaceCount(Number::Empty)
 }
 
-// A portion more of the file (rule 10.12): byte by byte, and after a byte the whole timings that follow.
+// A portion more of the file, byte by byte (rule 10.12).
 pub fn feed(reader: Reader, portion: &[u8], cells: &mut [u8]) -> Reader
     ensures reader { λ r. ⌜ r ≡ readerAfter reader (now (portion .entry)) ⌝ }
     ensures buffer { λ _. ⌜ now (cells .exit) ≡ cellsAfter reader (now (portion .entry)) (now (cells .entry)) ⌝ }
@@ -48,9 +38,7 @@ pub fn feed(reader: Reader, portion: &[u8], cells: &mut [u8]) -> Reader
     let mut i: usize = 0;
     while i < portion.len() {
         at = file_reader::feed_byte(at, portion[i], cells);
-        let fed = feed_timings(at, portion, i + 1, cells);
-        at = fed.reader;
-        i = fed.to;
+        i += 1;
     }
     at
 }
@@ -74,19 +62,6 @@ pub fn finish(reader: Reader) -> Read
     given(reader)
 }
 
-// The border pulses of the file, at its end (rule 10.17). They are counted as the timings come.
-pub fn border_pulses(reader: Reader) -> BorderPulses
-    ensures answer { λ r. ⌜ r ≡ borderPulsesRead reader ⌝ }
-    ensures file { λ r. ⌜ WholeBorderPulses reader r ⌝ }
-{
-    match reader {
-        Reader::AllTimings(_, taken) => {
-            BorderPulses::Pulses(taken_timings::border_pulses_taken(taken))
-        }
-        _ => BorderPulses::NoFluxSection,
-    }
-}
-
 // What the end of the file gives. A file that ends anywhere else is short.
 fn given(reader: Reader) -> Read
     ensures { λ r. ⌜ readAnswer r ≡ finishAnswer reader ⌝ }
@@ -97,57 +72,7 @@ fn given(reader: Reader) -> Read
             side: place.side,
             count: count as usize,
         },
-        Reader::AllTimings(place, taken) => {
-            let counted = taken_timings::count_taken(taken);
-            match counted {
-                Counted::Count(count) => Read::Cells {
-                    track: place.track,
-                    side: place.side,
-                    count,
-                },
-                Counted::Refused(refusal) => Read::Refused(refusal),
-            }
-        }
         Reader::Stopped(refusal) => Read::Refused(refusal),
         _ => Read::Refused(Refusal::NotATrackFile),
-    }
-}
-
-// How far a portion is fed, and the reader there.
-struct FedTo {
-    reader: Reader,
-    to: usize,
-}
-
-// Where a timing begins at byte `from` of a portion: as many as the portion has whole, without the file's last, after which the reader
-// stands elsewhere. Each is taken at once: a reader made anew for each of its bytes took most of the time.
-fn feed_timings(reader: Reader, portion: &[u8], from: usize, cells: &mut [u8]) -> FedTo
-    requires { ⌜ from ≤ length (now portion) ⌝ }
-    ensures on { λ r. ⌜ from ≤ r .to ⌝ }
-    ensures within { λ r. ⌜ r .to ≤ length (now (portion .entry)) ⌝ }
-    ensures reader { λ r. ⌜ readerAfter (r .reader) (drop (r .to) (now (portion .entry))) ≡ readerAfter reader (drop from (now (portion .entry))) ⌝ }
-    ensures buffer { λ r. ⌜ cellsAfter (r .reader) (drop (r .to) (now (portion .entry))) (now (cells .exit)) ≡ cellsAfter reader (drop from (now (portion .entry))) (now (cells .entry)) ⌝ }
-{
-    let Reader::Timings(place, count, number, timings) = reader else {
-        return FedTo { reader, to: from };
-    };
-    let Number::Empty = number else {
-        return FedTo { reader, to: from };
-    };
-    let mut taken = timings;
-    let mut left = count;
-    let mut i = from;
-    while 4 <= portion.len() - i {
-        if left <= 1 {
-            break;
-        }
-        let timing = basis::four_bytes(portion[i], portion[i + 1], portion[i + 2], portion[i + 3]);
-        taken = taken_timings::take_timing(taken, timing, cells);
-        left -= 1;
-        i += 4;
-    }
-    FedTo {
-        reader: Reader::Timings(place, left, Number::Empty, taken),
-        to: i,
     }
 }

@@ -14,7 +14,7 @@ use Rattle.refusals.specs.declared.Refusal.{Refusal}
 use Rattle.refusals.specs.declared.Refusal.the-variants.{NoRoom}
 use Rattle.file_reader.specs.declared.Reader.{Reader}
 use Rattle.track_file.specs.Portions.{startOf, startCells, readerAfter, cellsAfter, wholeOf, readAnswer, WholeFile}
-use Rattle.track_file.specs.TrackFile.{Content, fileAnswer, fileCells, fileAnswerIn, fileBuffer}
+use Rattle.track_file.specs.TrackFile.{Content, fileAnswer, packedBytes, fileAnswerIn, fileBuffer}
 use Rattle.track_file.specs.declared.Read.{Read}
 use Rattle.track_file.specs.declared.Read.the-variants.{Cells, Refused}
 use Rattle.track_file.proofs.Portions.{in-one-portion}
@@ -68,14 +68,14 @@ module _ (buffer file : List ℕ) (room : length buffer ≡ 16384) {start reader
 
   -- all that `file_cells` promises
   pub all-handed : (before : List ℕ) {after : List ℕ} {told : Answer Content} → Handed answer own before after told
-      → (told ≡ cellsAnswer (length before) file) × (after ≡ bufferAfter (cellsAnswer (length before) file) (fileCells file) before)
+      → (told ≡ cellsAnswer (length before) file) × (after ≡ bufferAfter (cellsAnswer (length before) file) (packedBytes file) before)
   unfolding ownCells answerInRoom bufferAfter fileBuffer
   all-handed before over =
-      (over .0 ∙ ap (answerInRoom (length before)) (given .0), over .1 ∙ same answer refl ∙ ap (λ (x : Answer Content). bufferAfter (answerInRoom (length before) x) (fileCells file) before) (given .0))
+      (over .0 ∙ ap (answerInRoom (length before)) (given .0), over .1 ∙ same answer refl ∙ ap (λ (x : Answer Content). bufferAfter (answerInRoom (length before) x) (packedBytes file) before) (given .0))
     where
-      same : (x : Answer Content) → answer ≡ x → bufferAfter (answerInRoom (length before) x) (ownCells x own) before ≡ bufferAfter (answerInRoom (length before) x) (fileCells file) before
+      same : (x : Answer Content) → answer ≡ x → bufferAfter (answerInRoom (length before) x) (ownCells x own) before ≡ bufferAfter (answerInRoom (length before) x) (packedBytes file) before
       same (gives content) is =
           ap (λ (x : List ℕ). bufferAfter (answerInRoom (length before) (gives content)) x before)
           (ap (take (bytesFor (content .cells))) (given .1 content is)
-          ∙ take-at (fileCells file) (drop (length (fileCells file)) (replicate 16384 0)) (bytesFor (content .cells)) (cells-fill file content (sym (given .0) ∙ is) .0))
+          ∙ take-at (packedBytes file) (drop (length (packedBytes file)) (replicate 16384 0)) (bytesFor (content .cells)) (cells-fill file content (sym (given .0) ∙ is) .0))
       same (refused number value) is = refl

@@ -7,14 +7,14 @@ ghost use lib.ListN.{length};
 ghost use Rattle.refusals.specs.RefusedCalls.{bufferAfter};
 ghost use Rattle.refusals.specs.RefusedCalls.Answer.{gives};
 ghost use Rattle.track_file.specs.Portions.{readAnswer};
-ghost use Rattle.track_file.specs.TrackFile.{Content, fileCells};
+ghost use Rattle.track_file.specs.TrackFile.{Content, packedBytes};
 ghost use Rattle.whole_file.specs.FileCells.{answerInRoom, cellsAnswer};
 ghost use Rattle.whole_file.specs.PrivateContracts.{ownCells};
 
 // What a file gives, with its packed cells at the front of `cells` (rule 9.11).
 pub fn file_cells(file: &[u8], cells: &mut [u8]) -> Read
     ensures answer { λ r. ⌜ readAnswer r ≡ cellsAnswer (length (now (cells .entry))) (now (file .entry)) ⌝ }
-    ensures cells { λ _. ⌜ now (cells .exit) ≡ bufferAfter (cellsAnswer (length (now (cells .entry))) (now (file .entry))) (fileCells (now (file .entry))) (now (cells .entry)) ⌝ }
+    ensures cells { λ _. ⌜ now (cells .exit) ≡ bufferAfter (cellsAnswer (length (now (cells .entry))) (now (file .entry))) (packedBytes (now (file .entry))) (now (cells .entry)) ⌝ }
 {
     let mut own = [0u8; track_file::ROOM];
     let start = track_file::start(&mut own);

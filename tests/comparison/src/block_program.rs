@@ -42,25 +42,24 @@ fn expected(block: &[u8], [revolutions, revolution, track, side]: [u8; 4]) -> St
     text(&printed(block, revolutions, revolution, track, side))
 }
 
-/// What the crate lists of the revolution's cells, and the line of their border pulses, which a track's listing has not.
+/// What the crate lists of the revolution's cells.
 fn listing_by_crate(block: &[u8], numbers: [u8; 4]) -> String {
     let [revolutions, revolution, track, side] = numbers.map(u32::from);
     match TrackBlock::new(block, revolutions).cells(revolution) {
-        Ok(cells) => {
-            let listed = cells.track(track, side).listing();
-            if listed.starts_with("refused ") {
-                listed
-            } else {
-                format!("{listed}FAA {}\n", cells.border_pulses)
-            }
-        }
+        Ok(cells) => cells.track(track, side).listing(),
         Err(refusal) => format!("refused {}\n", refusal.number()),
     }
 }
 
-/// What is listed of flux within demand 3's tolerance: the listing of its cells, and no border pulse.
+/// What is listed of flux within demand 3's tolerance: the listing of its cells.
 fn within_tolerance(track: u8, side: u8, track_cells: &[u8]) -> String {
-    text(&listing(&file_of_cells(track, side, track_cells))) + "FAA 0\n"
+    text(&listing(&file_of_cells(track, side, track_cells)))
+}
+
+/// Flux within demand 3's tolerance has no border pulse, which the listing does not tell.
+fn no_border_pulses(group: &mut Group, block: &[u8], [revolutions, revolution, _, _]: [u8; 4], given: impl Fn() -> String) {
+    let timings = TrackBlock::new(block, revolutions.into()).timings(revolution.into());
+    group.same(timings.map(|it| it.border_pulses), Ok(0), given);
 }
 
 /// A block through the program, and by the crate.
@@ -125,12 +124,13 @@ pub fn standard_track(report: &mut Report) {
                 group.same(&ours, &within_tolerance(track, side, track_cells), given);
                 group.same(&ours, &expected(&block, numbers), given);
                 group.same(&listing_by_crate(&block, numbers), &ours, given);
+                no_border_pulses(&mut group, &block, numbers, given);
             }
         }
     }
     let block = standard_track_block(14, 0, 0, 0xE5, 1).bytes();
     let ours = text(&through_pipe(program_with([1, 0, 0, 0]), &block));
-    let listed = "T00 H0 cells 100000 sectors 9 findings 0\nFAA 0\n";
+    let listed = "T00 H0 cells 100000 sectors 9 findings 0\n";
     group.same(ours, listed.to_string(), || "the listing of rule 11.10".to_string());
     group.close(report);
 }
@@ -158,8 +158,9 @@ pub fn standard_track_from_index(report: &mut Report) {
                 if revolution == 0 {
                     continue;
                 }
+                no_border_pulses(&mut group, &block, numbers, given);
                 let listed = if between && track == own_track {
-                    format!("T{track:02} H{side} cells 100000 sectors 9 findings 0\nFAA 0\n")
+                    format!("T{track:02} H{side} cells 100000 sectors 9 findings 0\n")
                 } else {
                     within_tolerance(track, side, &turned)
                 };

@@ -4,31 +4,41 @@ use crate::report::{Group, Lent, Report};
 use crate::terms::answer;
 use second_program::refusal::{Refusal, MOST_TIMINGS};
 use second_program::separator::Separation;
-use second_program::track_block::{self, revolution_bytes, BytesSoFar, Carried, PortionAnswer};
+use second_program::track_block::{self, revolution_bytes, BytesSoFar, Carried, PortionAnswer, RevolutionTimings};
 use std::collections::HashSet;
 use test_inputs::block_inputs::{any_carried, any_portion, cases, equal_portions, random_portions, with_empty_portions};
 use test_inputs::random::Random;
 use thikbromu::boundary::{revolution_cells, revolution_portion, revolution_timings};
 use thikbromu::{RevolutionReader, TrackBlock, MOST_CELL_BYTES};
 
-/// The whole call on all cases, with rooms around what is needed.
+/// The whole call on all cases, with rooms around what is needed: the timings, and the number of their border pulses.
 pub fn timings(report: &mut Report) {
     let mut group = Group::new("the timings of a revolution");
+    let (mut without, mut with, mut too_many_cells) = (0, 0, 0);
     for case in cases() {
         let (block, revolutions, revolution) = (&case.block, case.revolutions, case.revolution);
         for room in case.rooms() {
-            group.same_written(
+            let second = track_block::revolution_timings(block, revolutions, revolution, room);
+            group.same_with_border_pulses(
                 block,
                 room,
-                |input, list| revolution_timings(input, revolutions, revolution, list),
-                track_block::revolution_timings(block, revolutions, revolution, room),
+                |input, list, border_pulses| revolution_timings(input, revolutions, revolution, list, border_pulses),
+                second.as_ref().map(|it| (it.timings.len(), &it.timings[..], it.border_pulses)).map_err(|&refusal| refusal),
                 || format!("{}, room {room}", case.name),
             );
         }
         let second = track_block::revolution_timings(block, revolutions, revolution, MOST_TIMINGS);
         let ours = answer(TrackBlock::new(block, revolutions).timings(revolution));
-        group.same(ours, second.map(|(_, timings)| timings), || format!("{}, as a vector", case.name));
+        let ours = ours.map(|it| RevolutionTimings { timings: it.list, border_pulses: it.border_pulses });
+        group.same(&ours, &second, || format!("{}, as a vector", case.name));
+        if let Ok(read) = second {
+            let cells = track_block::revolution_cells(block, revolutions, revolution, MOST_CELL_BYTES);
+            too_many_cells += usize::from(cells.is_err_and(|refusal| refusal.number == 9));
+            *(if read.border_pulses == 0 { &mut without } else { &mut with }) += 1;
+        }
     }
+    let often = without >= 1_000 && with >= 1_000 && too_many_cells >= 10;
+    group.same(often, true, || format!("{without} without border pulses, {with} with, {too_many_cells} of too many cells"));
     group.close(report);
 }
 
@@ -179,7 +189,7 @@ fn revolutions() -> Vec<Revolution> {
     for case in cases() {
         let Ok(bytes) = revolution_bytes(&case.block, case.revolutions, case.revolution) else { continue };
         if seen.insert(bytes.to_vec()) {
-            let whole = answer(TrackBlock::new(&case.block, case.revolutions).timings(case.revolution));
+            let whole = answer(TrackBlock::new(&case.block, case.revolutions).timings(case.revolution)).map(|it| it.list);
             all.push(Revolution { name: case.name.clone(), bytes: bytes.to_vec(), whole });
         }
     }

@@ -125,6 +125,7 @@ fn any_file(random: &mut Random) -> Option<Vec<u8>> {
         0 => return None,
         1 => cut(&file_of_cells(track, side, &standard_track(track, side, 0xE5)), 9_000),
         2 => file_of_cells(track, 2, &standard_track(track, side, 0xE5)),
+        // An old file, which is refused with 23.
         3 => file_of_timings(track, side, &timings_of_cells(&standard_track(track, side, 0xE5))),
         4 | 5 => file_of_cells(track, side, &standard_track(track, side, 0x00)),
         6..=8 => unformatted(70 + track % 12, side),

@@ -1,4 +1,5 @@
-//! Sections 10 and 11 of the specification: files that are whole in memory, files that the crate reads, and listings.
+//! Sections 10 and 11 of the specification: files that are whole in memory, files that the crate reads, and listings. Old files are among
+//! them, which are refused with 23.
 
 use crate::report::{Group, Lent, Report};
 use crate::terms::answer;
@@ -17,22 +18,10 @@ const ROOM: usize = 16_384;
 /// The bytes that any listing has room in.
 const LISTING: usize = 65_536;
 
-/// What the crate read of a file, as the second program has it. The call does not tell the number of border pulses, which the listings
-/// show.
-fn read_cells_of(ours: thikbromu::TrackCells) -> TrackCells {
+/// What the crate read of a file, as the second program has it.
+pub fn read_cells_of(ours: thikbromu::TrackCells) -> TrackCells {
     let track = ours.track();
-    TrackCells {
-        drive_track: track.track(),
-        drive_side: track.side(),
-        n: track.cells(),
-        bytes: track.packed().to_vec(),
-        border_pulses: None,
-    }
-}
-
-/// What the second program read of a file, without what the crate's call does not tell.
-fn told_by_crate(second: &Result<TrackCells, Refusal>) -> Result<TrackCells, Refusal> {
-    second.clone().map(|track| TrackCells { border_pulses: None, ..track })
+    TrackCells { drive_track: track.track(), drive_side: track.side(), n: track.cells(), bytes: track.packed().to_vec() }
 }
 
 /// What is expected of a file's cells with so much room: the answer, the bytes at the front of the cells, and the place. Too little room is
@@ -111,7 +100,7 @@ pub fn in_memory(report: &mut Report) {
                 cells_case(&mut group, bytes, &second, (room, places.next().expect("lengths without end")), given);
             }
         }
-        group.same(answer(TrackFile::new(bytes).cells()).map(read_cells_of), told_by_crate(&second), given);
+        group.same(answer(TrackFile::new(bytes).cells()).map(read_cells_of), second.clone(), given);
 
         let expected = listing(bytes);
         for room in listing_rooms(expected.len()) {
@@ -119,7 +108,6 @@ pub fn in_memory(report: &mut Report) {
         }
         listings.same(TrackFile::new(bytes).listing().as_bytes(), &expected[..], given);
         if let Ok(track) = &second {
-            // The listing of its cells alone has no line of border pulses.
             let expected = listing_of_cells(track);
             let mut out = Lent::new(LISTING);
             let (packed, n, drive) = (&track.bytes, track.n, (track.drive_track, track.drive_side));
@@ -165,7 +153,7 @@ pub fn from_readers(report: &mut Report) {
             let given = || format!("{} in portions of up to {most}", file.name);
             let read = TrackFile::read_from(Portions { rest: bytes, most, random: &mut random, fails: false }).expect("no failure");
             group.same(read.bytes(), &bytes[..bytes.len().min(LONGEST_FILE + 1)], given);
-            group.same(answer(read.cells()).map(read_cells_of), told_by_crate(&second), given);
+            group.same(answer(read.cells()).map(read_cells_of), second.clone(), given);
             group.same(read.listing().as_bytes(), &expected[..], given);
         }
         // The failure is not met behind a file that is longer than any.
@@ -181,18 +169,16 @@ pub fn from_readers(report: &mut Report) {
 pub fn short_rooms(report: &mut Report) {
     let mut group = Group::new("rooms for a file's cells and for its place");
     let mut random = Random::new(64);
-    let of_timings = |timings: &[u32]| file_inputs::file_of_timings(12, 1, timings);
-    let mut broken = FilePlan::of_timings(12, 1, &[4_100; 2_500]);
-    broken.timings[2_400] = 0;
+    let mut both = FilePlan::of_cells(12, 1, 8, &[0xAA]);
+    (both.flux_count, both.timings) = (1, vec![4_000]);
     let files = [
-        ("25,000 timings", of_timings(&[4_100; 25_000])),
-        ("65,536 timings and 131,072 cells", of_timings(&[4_000; 65_536])),
-        ("timings without cells", of_timings(&[1; 9])),
+        ("25,000 cells", file_inputs::file_of_cells(12, 1, &[0, 1].repeat(12_500))),
         ("one cell", file_inputs::file_of_cells(83, 1, &[1])),
         ("131,072 cells", file_inputs::file_of_cells(255, 255, &vec![1; 131_072])),
         ("131,065 cells", file_inputs::file_of_cells(0, 2, &vec![1; 131_065])),
-        ("a timing of 0", broken.bytes()),
-        ("a cell too many", of_timings(&[vec![4_000; 65_535], vec![6_000]].concat())),
+        ("timings", file_inputs::file_of_timings(12, 1, &[4_100; 25_000])),
+        ("cells and a timing", both.bytes()),
+        ("no cells and no timings", file_inputs::file_of_timings(12, 1, &[])),
         ("no bytes", Vec::new()),
     ];
     for (name, file) in &files {
@@ -209,7 +195,7 @@ pub fn short_rooms(report: &mut Report) {
         }
     }
     // Longer than any file: the answers are those of the first bytes, one more than the longest has.
-    for (count, timings) in [(131_072, 65_536), (131_072, 65_537), (131_072, 0), (0, 65_536), (131_073, 0), (8, 1)] {
+    for (count, timings) in [(131_072, 0), (131_072, 1), (131_072, 1 << 24), (131_065, 0), (0, 0), (0, 1), (131_073, 0), (8, 0), (8, 1)] {
         let packed = vec![0x11; bytes_needed(count.min(131_072) as usize)];
         let plan = FilePlan { cell_count: count, flux_count: timings, ..FilePlan::of_cells(3, 1, 0, &packed) };
         for more in [0, 1, 2, 4_096] {

@@ -62,7 +62,7 @@ pub fn whole_files(report: &mut Report) {
     group.close(report);
 }
 
-/// A sound file, one of timings and a refused one, in portions. Of a refused file standard output has nothing.
+/// A sound file, an old one and a refused one, in portions. Of a refused file standard output has nothing.
 pub fn portions(report: &mut Report) {
     let mut group = Group::new("the program of plain images on files in portions");
     let standard = standard_track(0, 0, 0xE5);

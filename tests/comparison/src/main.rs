@@ -10,6 +10,8 @@
 mod block_program;
 mod blocks;
 mod coding;
+mod converter;
+mod converter_program;
 mod densities;
 mod disk_page;
 mod disk_program;
@@ -37,13 +39,15 @@ use std::thread;
 type Part = fn(&mut Report);
 
 /// The parts, by their modules. The long ones come first, so that no worker is left alone with one at the end.
-const PARTS: [(&str, Part); 70] = [
+const PARTS: [(&str, Part); 78] = [
+    ("converter", converter::old_files),
     ("files", files::in_memory),
     ("findings", findings::any_tracks),
     ("sectors", sectors::standard),
     ("single_density", single_density::sectors_of_tracks),
     ("single_density", single_density::findings_of_tracks),
     ("program", program::whole_files),
+    ("converter_program", converter_program::whole_files),
     ("sectors", sectors::any_tracks),
     ("files", files::from_readers),
     ("block_program", block_program::whole_blocks),
@@ -56,6 +60,9 @@ const PARTS: [(&str, Part); 70] = [
     ("findings", findings::size_codes),
     ("sectors", sectors::size_codes),
     ("program", program::portions),
+    ("converter_program", converter_program::portions),
+    ("converter_program", converter_program::small_files),
+    ("converter", converter::revolutions),
     ("disk_program", disk_program::few_files),
     ("disk_program", disk_program::many_files),
     ("image_program", image_program::whole_files),
@@ -97,10 +104,13 @@ const PARTS: [(&str, Part); 70] = [
     ("single_density", single_density::refused_tracks),
     ("single_density", single_density::steps),
     ("files", files::short_rooms),
+    ("converter", converter::rooms),
     ("blocks", blocks::states),
     ("program", program::samples),
     ("program", program::failing_inputs),
     ("program", program::system),
+    ("converter_program", converter_program::failing_inputs),
+    ("converter_program", converter_program::system),
     ("block_program", block_program::standard_track),
     ("block_program", block_program::standard_track_from_index),
     ("block_program", block_program::failing_inputs),

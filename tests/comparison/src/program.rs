@@ -14,8 +14,8 @@ use std::os::unix::net::{UnixDatagram, UnixStream};
 use std::path::Path;
 use std::process::{Child, Command, Output, Stdio};
 use std::time::{Duration, Instant};
-use test_inputs::file_inputs::{self, NamedFile};
-use test_inputs::flux_inputs::{timings_at_the_limits, timings_of_cells};
+use test_inputs::file_inputs::{self, FilePlan, NamedFile};
+use test_inputs::flux_inputs::timings_of_cells;
 use test_inputs::random::Random;
 use test_inputs::track_builder::{odd_track, standard_track};
 
@@ -147,13 +147,11 @@ fn kind_of(line: &str) -> Option<usize> {
     line.split(' ').next()?.parse().ok()
 }
 
-/// The kinds and the refusals that stand in some listing, and the lines of border pulses.
+/// The kinds and the refusals that stand in some listing.
 #[derive(Default)]
 pub struct Seen {
     kinds: [usize; 22],
-    refusals: [usize; 18],
-    without_border_pulses: usize,
-    with_border_pulses: usize,
+    refusals: [usize; 26],
 }
 
 impl Seen {
@@ -162,18 +160,13 @@ impl Seen {
             if let Some(kind) = kind_of(line) {
                 self.kinds[kind] += 1;
             }
-            match line.strip_prefix("FAA ") {
-                None => {}
-                Some("0") => self.without_border_pulses += 1,
-                Some(_) => self.with_border_pulses += 1,
-            }
         }
         if let Some(number) = listing.strip_prefix("refused ") {
             self.refusals[number.trim().parse::<usize>().expect("a number")] += 1;
         }
     }
 
-    /// A case for every kind, for each of these refusals, and for a line with border pulses and one without: that it was reached.
+    /// A case for every kind, and for each of these refusals: that it was reached.
     pub fn reached(&self, group: &mut Group, refusals: &[usize]) {
         for kind in 1..=21 {
             group.same(self.kinds[kind] > 0, true, || format!("kind {kind} was reached"));
@@ -181,8 +174,6 @@ impl Seen {
         for &number in refusals {
             group.same(self.refusals[number] > 0, true, || format!("refusal {number} was reached"));
         }
-        group.same(self.without_border_pulses > 0, true, || "no border pulses were reached".to_string());
-        group.same(self.with_border_pulses > 0, true, || "border pulses were reached".to_string());
     }
 }
 
@@ -195,12 +186,12 @@ pub fn whole_files(report: &mut Report) {
         seen.note(&expected);
         group.same(text(&through_pipe(program(), &file.bytes)), expected, || file.name.clone());
     }
-    // 3 gives way to 15, 6 to 15, and there is always room: 5 and 10 do not arise. The others are of other calls.
-    seen.reached(&mut group, &[1, 2, 4, 7, 8, 9, 15]);
+    // 3 gives way to 15, and there is always room: 5 and 10 do not arise. The others are of other calls.
+    seen.reached(&mut group, &[1, 2, 4, 15, 23]);
     group.close(report);
 }
 
-/// Ten files for portions: cells and timings, sound, odd and broken.
+/// Ten files for portions: sound, odd and broken ones, and old ones, which are refused at their flux count.
 fn ten_files() -> Vec<NamedFile> {
     let mut random = Random::new(61);
     let mut files = Vec::new();
@@ -210,16 +201,19 @@ fn ten_files() -> Vec<NamedFile> {
     add("standard track", file_inputs::file_of_cells(0, 0, &standard));
     add("standard track as timings", file_inputs::file_of_timings(0, 0, &timings_of_cells(&standard)));
     add("odd track", file_inputs::file_of_cells(33, 1, &odd));
-    let at_the_limits = timings_at_the_limits(&mut random, &odd, 2);
-    add("odd track as timings, half of them around the limits of border pulses", file_inputs::file_of_timings(33, 1, &at_the_limits));
     add("131,069 cells", file_inputs::file_of_cells(82, 0, &vec![1; 131_069]));
-    add("20,000 cells from four timings", file_inputs::file_of_timings(79, 0, &[10_000_000; 4]));
+    add("65 sectors", file_inputs::file_of_cells(5, 0, &file_inputs::ids_on(65, 25_000, 0)));
+    add("19,999 cells", file_inputs::file_of_cells(1, 0, &vec![1; 19_999]));
     add("a timing out of range", file_inputs::file_of_timings(1, 0, &[4_000, 4_000, 10_000_001, 0, 4_000]));
-    add("too many cells", file_inputs::file_of_timings(1, 0, &[10_000_000; 30]));
     let mut left_over = file_inputs::file_of_cells(2, 0, &vec![0; 20_001]);
     left_over.extend([0; 70]);
     add("bytes left over", left_over);
-    add("65,536 timings", file_inputs::file_of_timings(3, 0, &vec![4_000; 65_536]));
+    let mut behind_cells = FilePlan::of_cells(3, 0, 20_000, &[0xAA; 2_500]);
+    (behind_cells.flux_count, behind_cells.timings) = (1 << 24, vec![4_000; 20]);
+    add("timings behind cells", behind_cells.bytes());
+    let mut neither = file_inputs::file_of_timings(3, 0, &[]);
+    neither.extend([0xAA; 50]);
+    add("no cells and no timings, and bytes left over", neither);
     files
 }
 
@@ -279,7 +273,8 @@ pub fn failing_inputs(report: &mut Report) {
     let refused_by_a_count = [
         ("place count 3", vec![3, 0, 0, 0, 7, 7, 7]),
         ("131,073 cells", vec![2, 0, 0, 0, 5, 0, 1, 0, 2, 0, 7, 7]),
-        ("65,537 timings", vec![2, 0, 0, 0, 5, 0, 8, 0, 0, 0, 0xAA, 1, 0, 1, 0, 7]),
+        ("a timing", vec![2, 0, 0, 0, 5, 0, 0, 0, 0, 0, 1, 0, 0, 0, 7]),
+        ("timings behind cells", vec![2, 0, 0, 0, 5, 0, 8, 0, 0, 0, 0xAA, 0, 0, 0, 1, 7]),
     ];
     let refused = refused_by_a_count.map(|(name, bytes)| NamedFile { name: name.to_string(), bytes });
     for NamedFile { name, bytes } in ten_files().into_iter().chain(refused) {
@@ -346,15 +341,14 @@ pub fn system(report: &mut Report) {
         ("place count 3", number(3)),
         ("place count 2 to the power of 25", number(1 << 25)),
         ("131,073 cells", after_place(&[number(131_073)])),
-        ("65,537 timings", after_place(&[number(0), number(65_537)])),
-        ("65,537 timings after cells", after_place(&[number(8), vec![0xAA], number(65_537)])),
+        ("one timing", after_place(&[number(0), number(1)])),
+        ("2 to the power of 24 timings after cells", after_place(&[number(8), vec![0xAA], number(1 << 24)])),
         ("three bytes", vec![9, 9, 9]),
         ("131,072 cells", after_place(&[number(131_072)])),
-        ("65,536 timings", after_place(&[number(0), number(65_536)])),
-        ("both counts", after_place(&[number(8), vec![0xAA], number(1), number(4_000)])),
+        ("a flux count that is cut", after_place(&[number(8), vec![0xAA], vec![1, 0, 0]])),
         ("neither count", after_place(&[number(0), number(0)])),
         ("bytes left over", after_place(&[number(8), vec![0xAA], number(0), vec![0]])),
-        ("a timing out of range", after_place(&[number(0), number(2), number(0)])),
+        ("a track file", after_place(&[number(20_000), vec![0xAA; 2_500], number(0)])),
     ];
     for (name, prefix) in prefixes {
         let mut child = started(program(), Stdio::piped());

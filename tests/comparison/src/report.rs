@@ -70,8 +70,32 @@ impl Group {
         self.same((ours, lent.into_all(), &passed[..]), (expected, Lent::expected(room, &written), input), given);
     }
 
-    /// One call that packs cells to the front of a lent buffer and stores the number of border pulses in a lent variable: what it answers,
-    /// all of the buffer and the variable with their margins, and the input afterwards. Beside a refusal the variable is kept.
+    /// One call that writes to the front of a lent buffer and stores the number of border pulses in a lent variable: what it answers, all of
+    /// the buffer and the variable with their margins, and the input afterwards. `second` is what the second program answers and writes, and
+    /// its number. Beside a refusal the variable is kept.
+    pub fn same_with_border_pulses<I: Clone + PartialEq + Debug, O: Element>(
+        &mut self,
+        input: &[I],
+        room: usize,
+        call: impl FnOnce(&[I], &mut [O], &mut usize) -> Result<usize, thikbromu::Refusal>,
+        second: Result<(usize, &[O], usize), Refusal>,
+        given: impl Fn() -> String,
+    ) {
+        let passed = input.to_vec();
+        let (mut lent, mut number) = (Lent::new(room), Lent::new(1));
+        let ours = answer(call(&passed, lent.part(), &mut number.part()[0]));
+        let (expected, written, stored) = match second {
+            Ok((value, written, border_pulses)) => (Ok(value), written, vec![border_pulses]),
+            Err(refusal) => (Err(refusal), &[][..], Vec::new()),
+        };
+        self.same(
+            (ours, lent.into_all(), number.into_all(), &passed[..]),
+            (expected, Lent::expected(room, written), Lent::expected(1, &stored), input),
+            given,
+        );
+    }
+
+    /// The same of a call that packs cells.
     pub fn same_separation<I: Clone + PartialEq + Debug>(
         &mut self,
         input: &[I],
@@ -80,18 +104,8 @@ impl Group {
         second: &Result<Separation, Refusal>,
         given: impl Fn() -> String,
     ) {
-        let passed = input.to_vec();
-        let (mut packed, mut number) = (Lent::new(room), Lent::new(1));
-        let ours = answer(call(&passed, packed.part(), &mut number.part()[0]));
-        let (expected, written, stored) = match second {
-            Ok(separation) => (Ok(separation.cells), &separation.bytes[..], &[separation.border_pulses][..]),
-            Err(refusal) => (Err(*refusal), &[][..], &[][..]),
-        };
-        self.same(
-            (ours, packed.into_all(), number.into_all(), &passed[..]),
-            (expected, Lent::expected(room, written), Lent::expected(1, stored), input),
-            given,
-        );
+        let second = second.as_ref().map(|it| (it.cells, &it.bytes[..], it.border_pulses)).map_err(|&refusal| refusal);
+        self.same_with_border_pulses(input, room, call, second, given);
     }
 
     /// Adds the group's lines and its cases to the report.

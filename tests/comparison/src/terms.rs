@@ -20,7 +20,7 @@ fn refusal(ours: thikbromu::Refusal) -> Refusal {
         Ours::TooManyTimings(timings) => Refusal::too_many_timings(timings),
         Ours::TimingOutOfRange(index) => Refusal::timing_out_of_range(index),
         Ours::TooManyCells(cells) => Refusal::too_many_cells(cells),
-        // The same row for timings: `too_little_room_for_timings` has its number and its value.
+        // The same row for timings and for a new file: `too_little_room_for_timings` and `too_little_room_for_a_file` have its number and value.
         Ours::NoRoom(needed) => Refusal::too_little_room_for_cells(needed),
         Ours::NoSuchSector(sectors) => Refusal::no_such_sector(sectors),
         Ours::NoData => Refusal::no_data(),
@@ -34,6 +34,7 @@ fn refusal(ours: thikbromu::Refusal) -> Refusal {
         Ours::TooLongATrack => Refusal::too_many_cells_to_write(),
         Ours::TrackGivenTwice => Refusal::place_given_twice(),
         Ours::TooManyTracks => Refusal::too_many_tracks(),
+        Ours::FluxSection => Refusal::flux_section(),
         // The second program has a byte there: another number shows as a difference.
         Ours::NoPlainImage(number) => Refusal::no_plain_image(u8::try_from(number).unwrap_or(u8::MAX)),
         Ours::NotTheirFindings => Refusal::not_findings_of_a_disk(),
@@ -89,6 +90,7 @@ pub fn tables(report: &mut Report) {
         Refusal::too_many_cells(7),
         Refusal::too_little_room_for_cells(7),
         Refusal::too_little_room_for_timings(7),
+        Refusal::too_little_room_for_a_file(7),
         Refusal::no_such_sector(7),
         Refusal::no_data(),
         Refusal::too_little_room_for_bytes(7),
@@ -101,6 +103,7 @@ pub fn tables(report: &mut Report) {
         Refusal::too_many_cells_to_write(),
         Refusal::place_given_twice(),
         Refusal::too_many_tracks(),
+        Refusal::flux_section(),
         Refusal::no_plain_image(7),
         Refusal::not_findings_of_a_disk(),
     ];

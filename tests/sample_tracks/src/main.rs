@@ -3,6 +3,7 @@
 
 use second_program::cells;
 use second_program::check_word::check_word;
+use second_program::converter::converted;
 use second_program::disk_page::disk_page;
 use second_program::findings::{self, Finding};
 use second_program::single_density::{self, DELETED_DATA_MARK, ID_MARK};
@@ -25,10 +26,10 @@ fn changed(track: u8, change: impl Fn(&mut SectorPlan)) -> Vec<u8> {
     builder.cells().to_vec()
 }
 
-/// The gaps of the standard track, in cells, from each one to the next.
-fn gaps_of_standard_track(track: u8) -> Vec<usize> {
-    // Turned so that it ends in a one, and no cell is lost after the last pulse.
-    let track_cells = turn(&standard_track(track, 0, 0xE5), 99_999);
+/// The gaps of a track, in cells, from each one to the next. The track is turned by a cell, so that it ends in a one, and no cell is lost after
+/// the last pulse.
+fn gaps_of(track_cells: &[u8]) -> Vec<usize> {
+    let track_cells = turn(track_cells, track_cells.len() - 1);
     assert_eq!(track_cells.last(), Some(&1));
     let mut gaps = Vec::new();
     let mut cells_since_one = 0;
@@ -42,13 +43,23 @@ fn gaps_of_standard_track(track: u8) -> Vec<usize> {
     gaps
 }
 
-/// The standard track as a drive gives it: a cell takes 1,950 to 2,050 ns, and a pulse comes up to 250 ns early or late.
-fn standard_flux() -> Vec<u8> {
-    let gaps = gaps_of_standard_track(0);
-    let mut random = Random::new(1);
+/// The timings of a track as a drive gives it: a cell takes 1,950 to 2,050 ns, and a pulse comes up to 250 ns early or late.
+fn timings_of_drive(seed: u64, track_cells: &[u8]) -> Vec<u32> {
+    let gaps = gaps_of(track_cells);
+    let mut random = Random::new(seed);
     let distances: Vec<i64> = gaps.iter().map(|&g| random.between(1_950 * g as i64, 2_050 * g as i64)).collect();
     let shifts: Vec<i64> = (0..=gaps.len()).map(|_| random.between(-250, 250)).collect();
-    file_of_timings(0, 0, &flux_track_of(&gaps, &distances, &shifts).timings)
+    flux_track_of(&gaps, &distances, &shifts).timings
+}
+
+/// The track file that the converter makes of an old one.
+fn new_file(old_file: &[u8]) -> Vec<u8> {
+    converted(old_file).expect("an old file that is not refused")
+}
+
+/// The standard track, by way of its timings.
+fn standard_flux() -> Vec<u8> {
+    new_file(&file_of_timings(0, 0, &timings_of_drive(1, &standard_track(0, 0, 0xE5))))
 }
 
 /// A track whose flux is poor in the data of sector 5: there pulses come up to 950 ns off the centre of their windows, elsewhere up to
@@ -60,12 +71,22 @@ fn border_pulses() -> Vec<u8> {
     let mut random = Random::new(2);
     let mut place = 0;
     let mut steps = Vec::new();
-    for gap in gaps_of_standard_track(17) {
+    for gap in gaps_of(&standard_track(17, 0, 0xE5)) {
         place += gap;
         let most = if poor.contains(&place) { 950 } else { 300 };
         steps.push((gap as i64, random.between(-most, most)));
     }
-    file_of_timings(17, 0, &timings_of_steps(&steps).expect("steps with cells"))
+    new_file(&file_of_timings(17, 0, &timings_of_steps(&steps).expect("steps with cells")))
+}
+
+/// An old file, with a flux section: a track on which the data of sector 3 has a bad check, and sector 9 has the number 245.
+fn old_flux() -> Vec<u8> {
+    let track_cells = changed(55, |plan| match plan.number {
+        3 => plan.data_check_error = 0x0001,
+        9 => plan.number = 245,
+        _ => {}
+    });
+    file_of_timings(55, 0, &timings_of_drive(3, &track_cells))
 }
 
 /// A long track: 4E goes on to 104,000 cells.
@@ -264,6 +285,8 @@ fn main() {
         ("standard", standard_file.clone()),
         ("standard-flux", standard_flux()),
         ("border-pulses", border_pulses()),
+        ("old-flux", old_flux()),
+        ("old-flux-converted", new_file(&old_flux())),
         ("unformatted", file_of_cells(5, 0, &all_aa)),
         ("unformatted-80", file_of_cells(80, 0, &all_aa)),
         ("no-flux-80", file_of_cells(80, 0, &[0; 100_000])),

@@ -10,10 +10,12 @@
 
 pub mod cells;
 pub mod check_word;
+pub mod converter;
 pub mod disk_page;
 pub mod findings;
 pub mod listing;
 pub mod mfm;
+pub mod old_track_file;
 pub mod refusal;
 pub mod sector_image;
 pub mod sectors;

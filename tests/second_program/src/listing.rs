@@ -1,4 +1,4 @@
-//! The listings of a track and of a track file (rules 11.1 to 11.8, 11.12 and 11.13).
+//! The listings of a track and of a track file (rules 11.1 to 11.8).
 
 use crate::findings::{self, Finding};
 use crate::refusal::Refusal;
@@ -17,9 +17,8 @@ pub(crate) fn line_of(finding: &Finding) -> String {
 }
 
 /// The listing of a track that is not refused: the header (rules 11.2 and 11.5), then a
-/// line for each finding (rule 11.3), and, where its cells are from timings, a line with
-/// the number of border pulses, which the header does not count (rules 11.12 and 11.13).
-fn lines_of(track: &Track) -> String {
+/// line for each finding (rule 11.3).
+pub(crate) fn lines_of(track: &Track) -> String {
     let mut lines = format!(
         "T{:02} H{} cells {} sectors {} findings {}\n",
         track.cells.drive_track,
@@ -31,14 +30,11 @@ fn lines_of(track: &Track) -> String {
     for finding in &track.findings {
         lines += &line_of(finding);
     }
-    if let Some(number) = track.cells.border_pulses {
-        lines += &format!("FAA {number}\n");
-    }
     lines
 }
 
 /// All that is printed where something is refused (rule 11.4).
-fn refused_line(refusal: Refusal) -> String {
+pub(crate) fn refused_line(refusal: Refusal) -> String {
     format!("refused {}\n", refusal.number)
 }
 
@@ -51,13 +47,9 @@ fn text_of(track: Result<Track, Refusal>) -> Vec<u8> {
     text.into_bytes()
 }
 
-/// The listing of a track (rule 9.12). It has no line of border pulses: of cells alone
-/// nobody can tell how they were read.
+/// The listing of a track (rule 9.12).
 pub fn listing_of_cells(cells: &TrackCells) -> Vec<u8> {
-    text_of(track_file::analysed(TrackCells {
-        border_pulses: None,
-        ..cells.clone()
-    }))
+    text_of(track_file::analysed(cells.clone()))
 }
 
 /// All that the program prints for a whole file.

@@ -88,6 +88,11 @@ impl Refusal {
         Refusal::new(10, bytes_needed)
     }
 
+    /// 10 of the converter: the buffer cannot hold the new file. Beside it: its length.
+    pub fn too_little_room_for_a_file(bytes_needed: usize) -> Refusal {
+        Refusal::new(10, bytes_needed)
+    }
+
     /// 10 of a track block: the list cannot hold the timings. Beside it: how many they are.
     pub fn too_little_room_for_timings(timings_needed: usize) -> Refusal {
         Refusal::new(10, timings_needed)
@@ -153,6 +158,11 @@ impl Refusal {
         Refusal::new(22, 0)
     }
 
+    /// 23: a track file has a flux section. Beside it: 0.
+    pub fn flux_section() -> Refusal {
+        Refusal::new(23, 0)
+    }
+
     /// 24: the sectors make no plain image. Beside it: the first number from 1 to 9 that
     /// is at fault, or 0 where only sectors of other numbers are.
     pub fn no_plain_image(number_at_fault: u8) -> Refusal {
@@ -182,6 +192,7 @@ mod tests {
             (Refusal::timing_out_of_range(3), 8, 3),
             (Refusal::too_many_cells(131_073), 9, 131_073),
             (Refusal::too_little_room_for_cells(2), 10, 2),
+            (Refusal::too_little_room_for_a_file(15), 10, 15),
             (Refusal::too_little_room_for_timings(4), 10, 4),
             (Refusal::no_such_sector(9), 11, 9),
             (Refusal::no_data(), 12, 0),
@@ -195,6 +206,7 @@ mod tests {
             (Refusal::too_many_cells_to_write(), 20, 0),
             (Refusal::place_given_twice(), 21, 0),
             (Refusal::too_many_tracks(), 22, 0),
+            (Refusal::flux_section(), 23, 0),
             (Refusal::no_plain_image(0), 24, 0),
             (Refusal::no_plain_image(9), 24, 9),
             (Refusal::not_findings_of_a_disk(), 25, 0),

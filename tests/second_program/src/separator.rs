@@ -128,6 +128,18 @@ pub fn rows(timings: &[u32]) -> Result<Vec<Row>, Refusal> {
     Ok(rows)
 }
 
+/// The number of border pulses of a list, stepped from r = 0 (rule 3.17), however many cells
+/// it gives. Refusals 6 to 8.
+pub fn border_pulses(timings: &[u32]) -> Result<usize, Refusal> {
+    judge_timings(timings)?;
+    let mut state = SeparatorState::new();
+    let mut number = 0;
+    for &timing in timings {
+        number += usize::from(state.advance(timing)?.is_border_pulse());
+    }
+    Ok(number)
+}
+
 /// What a whole list of timings gives.
 #[derive(Clone, Debug, PartialEq, Eq)]
 pub struct Separation {
@@ -219,7 +231,9 @@ mod tests {
 
     /// The number of border pulses of a list that is not refused.
     fn border_pulses_of(timings: &[u32]) -> usize {
-        separate(timings, 16_384).unwrap().border_pulses
+        let number = separate(timings, 16_384).unwrap().border_pulses;
+        assert_eq!(border_pulses(timings), Ok(number));
+        number
     }
 
     /// The offsets of a list's timings.
@@ -361,6 +375,19 @@ mod tests {
         assert_eq!(separate(&[999, 500, 500], 0), accepted(0, 3, vec![]));
         // A timing without cells among others.
         assert_eq!(separate(&[902, 3_549], 1), accepted(2, 1, vec![0x40]));
+    }
+
+    #[test]
+    fn border_pulses_of_more_cells_than_a_track_has() {
+        // 10,000,000 ns leave nothing, so that only the first and the last are off.
+        let mut timings = vec![10_000_000; 65_536];
+        timings[0] = 4_902;
+        timings[65_535] = 9_999_098;
+        assert_eq!(border_pulses(&timings), Ok(2));
+        assert_eq!(separate(&timings, 16_384), refused(9, 65_535 * 5_000 + 2));
+        assert_eq!(border_pulses(&[]), refused(6, 0));
+        assert_eq!(border_pulses(&vec![0; 65_537]), refused(7, 65_537));
+        assert_eq!(border_pulses(&[4_902, 10_000_001]), refused(8, 1));
     }
 
     #[test]

@@ -11,9 +11,11 @@
 //!   revolution are not looked at (rule 12.14).
 //! - 16 is judged for every revolution, 6, 7, 8 and 10 for the chosen one alone.
 
-use crate::listing::listing;
-use crate::refusal::{Refusal, MOST_TIMINGS};
+use crate::cells;
+use crate::listing::{listing_of_cells, refused_line};
+use crate::refusal::{Refusal, MOST_CELLS, MOST_TIMINGS};
 use crate::separator::{self, Separation, LONGEST_TIMING, SHORTEST_TIMING};
+use crate::track_file::TrackCells;
 
 /// What a block begins with (rule 12.1).
 pub const LETTERS: &[u8] = b"TRK";
@@ -125,15 +127,24 @@ fn written(timings: &[u64]) -> (usize, Vec<u32>) {
     (list.len(), list)
 }
 
-/// The timings of the chosen revolution: how many, and what is written to the front of
-/// a list with so much room (rules 9.14 and 12.13). Refusals in order: 16, 17, 6, 7, 8,
-/// 10.
+/// The timings of a revolution.
+#[derive(Clone, Debug, PartialEq, Eq)]
+pub struct RevolutionTimings {
+    /// The timings, in nanoseconds.
+    pub timings: Vec<u32>,
+    /// The number of border pulses among them, stepped from r = 0 in double density.
+    pub border_pulses: usize,
+}
+
+/// The timings of the chosen revolution, which are written to the front of a list with so
+/// much room, and the number of their border pulses (rules 9.14 and 12.13). They may give
+/// more cells than a track has. Refusals in order: 16, 17, 6, 7, 8, 10.
 pub fn revolution_timings(
     block: &[u8],
     revolutions: u32,
     revolution: u32,
     room: usize,
-) -> Result<(usize, Vec<u32>), Refusal> {
+) -> Result<RevolutionTimings, Refusal> {
     let bytes = revolution_bytes(block, revolutions, revolution)?;
     let timings = timings_ended(bytes);
     if timings.is_empty() {
@@ -148,7 +159,12 @@ pub fn revolution_timings(
     if room < timings.len() {
         return Err(Refusal::too_little_room_for_timings(timings.len()));
     }
-    Ok(written(&timings))
+    let (_, timings) = written(&timings);
+    let border_pulses = separator::border_pulses(&timings)?;
+    Ok(RevolutionTimings {
+        timings,
+        border_pulses,
+    })
 }
 
 /// The answer to a portion: how many timings end in it, and what is written to the
@@ -289,24 +305,13 @@ pub fn revolution_cells(
     revolution: u32,
     room: usize,
 ) -> Result<Separation, Refusal> {
-    let (_, timings) = revolution_timings(block, revolutions, revolution, MOST_TIMINGS)?;
-    separator::separate(&timings, room)
-}
-
-/// The track file with these timings (rules 10.1 and 10.2): the place, no cells, the flux.
-fn file_of_timings(drive_track: u8, drive_side: u8, timings: &[u32]) -> Vec<u8> {
-    let mut file = vec![2, 0, 0, 0, drive_track, drive_side, 0, 0, 0, 0];
-    file.extend((timings.len() as u32).to_le_bytes());
-    for timing in timings {
-        file.extend(timing.to_le_bytes());
-    }
-    file
+    let read = revolution_timings(block, revolutions, revolution, MOST_TIMINGS)?;
+    separator::separate(&read.timings, room)
 }
 
 /// All that the program prints that gets the block on its standard input and the four
-/// numbers as arguments (rules 13.8 and 13.13): the listing of the track file with the
-/// revolution's timings at this T and H, its line of border pulses among them, or one line
-/// where the block is refused.
+/// numbers as arguments (rule 13.8): the listing of the track with the revolution's cells at
+/// this T and H, or one line where the block is refused.
 pub fn printed(
     block: &[u8],
     revolutions: u8,
@@ -314,9 +319,14 @@ pub fn printed(
     drive_track: u8,
     drive_side: u8,
 ) -> Vec<u8> {
-    let (revolutions, revolution) = (u32::from(revolutions), u32::from(revolution));
-    match revolution_timings(block, revolutions, revolution, MOST_TIMINGS) {
-        Ok((_, timings)) => listing(&file_of_timings(drive_track, drive_side, &timings)),
-        Err(refusal) => format!("refused {}\n", refusal.number).into_bytes(),
+    let room = cells::bytes_needed(MOST_CELLS);
+    match revolution_cells(block, revolutions.into(), revolution.into(), room) {
+        Ok(separation) => listing_of_cells(&TrackCells {
+            drive_track: drive_track.into(),
+            drive_side: drive_side.into(),
+            n: separation.cells,
+            bytes: separation.bytes,
+        }),
+        Err(refusal) => refused_line(refusal).into_bytes(),
     }
 }

@@ -1,17 +1,17 @@
-//! Reading a whole track file (rules 10.1 to 10.10 and 10.17).
+//! Reading a whole track file (rules 10.1 to 10.7, 10.9 and 10.10).
 //!
-//! The whole file lies in memory here, so each part of it is looked up at its place.
+//! The whole file lies in memory here, so each part of it is looked up at its place. A file
+//! with a flux section is refused; what was done with one is in `old_track_file`.
 
 use crate::cells;
 use crate::findings::{self, Finding, DSN, EXT, LGT, MTV, NFA, SID};
-use crate::refusal::{Refusal, MOST_CELLS, MOST_SECTORS, MOST_TIMINGS};
+use crate::refusal::{Refusal, MOST_CELLS, MOST_SECTORS};
 use crate::sectors::{self, SectorRecord};
-use crate::separator;
 
 /// The bytes of a count or a timing (rule 10.2).
-const NUMBER_LENGTH: usize = 4;
+pub(crate) const NUMBER_LENGTH: usize = 4;
 /// The bytes of the place, and its count (rules 10.2 and 10.4).
-const PLACE_LENGTH: usize = 2;
+pub(crate) const PLACE_LENGTH: usize = 2;
 /// Where T stands in the file.
 const DRIVE_TRACK_AT: usize = NUMBER_LENGTH;
 /// Where H stands in the file.
@@ -28,78 +28,59 @@ pub const ROOM_FOR_FINDINGS: usize =
 
 /// The number that the four bytes at a place of the file make, low byte first; none
 /// where the file ends before it is whole.
-fn number_at(file: &[u8], at: usize) -> Option<u32> {
+pub(crate) fn number_at(file: &[u8], at: usize) -> Option<u32> {
     let bytes = file.get(at..at + NUMBER_LENGTH)?;
     Some(u32::from_le_bytes([bytes[0], bytes[1], bytes[2], bytes[3]]))
 }
 
+/// The place count; none where the file ends before it is whole.
+pub(crate) fn place_count(file: &[u8]) -> Option<usize> {
+    number_at(file, 0).map(|count| count as usize)
+}
+
 /// The cell count; none where the file ends before it is whole.
-fn cell_count(file: &[u8]) -> Option<usize> {
+pub(crate) fn cell_count(file: &[u8]) -> Option<usize> {
     number_at(file, CELL_COUNT_AT).map(|count| count as usize)
 }
 
 /// Where the flux count stands in the file: after the packed bytes of so many cells.
-fn flux_count_at(cell_count: usize) -> usize {
+pub(crate) fn flux_count_at(cell_count: usize) -> usize {
     PACKED_CELLS_AT + cells::bytes_needed(cell_count)
 }
 
+/// The flux count after so many cells; none where the file ends before it is whole.
+pub(crate) fn flux_count(file: &[u8], cell_count: usize) -> Option<usize> {
+    number_at(file, flux_count_at(cell_count)).map(|count| count as usize)
+}
+
+/// The packed bytes of so many cells, in a file that has them all.
+pub(crate) fn packed_cells(file: &[u8], cell_count: usize) -> &[u8] {
+    &file[PACKED_CELLS_AT..flux_count_at(cell_count)]
+}
+
+/// T and H, in a file that has both.
+pub(crate) fn place_of(file: &[u8]) -> (u8, u8) {
+    (file[DRIVE_TRACK_AT], file[DRIVE_SIDE_AT])
+}
+
 /// What a program refuses at once that has read these bytes, the first of a file (rules
-/// 10.4 to 10.6): 15 by the place count, 2 by the cell count, 7 by the flux count. Four
+/// 10.4 to 10.6): 15 by the place count, 2 by the cell count, 23 by the flux count. Four
 /// bytes of a count are enough to judge it; what comes after them does not matter.
 pub fn at_once(prefix: &[u8]) -> Option<Refusal> {
-    if number_at(prefix, 0)? != PLACE_LENGTH as u32 {
+    if place_count(prefix)? != PLACE_LENGTH {
         return Some(Refusal::not_a_track_file());
     }
     let cell_count = cell_count(prefix)?;
     if cell_count > MOST_CELLS {
         return Some(Refusal::cell_count_out_of_range(cell_count));
     }
-    let flux_count = number_at(prefix, flux_count_at(cell_count))? as usize;
-    if flux_count > MOST_TIMINGS {
-        return Some(Refusal::too_many_timings(flux_count));
+    if flux_count(prefix, cell_count)? != 0 {
+        return Some(Refusal::flux_section());
     }
     None
 }
 
-/// The sections of a file that is a track file.
-struct Sections<'a> {
-    drive_track: u8,
-    drive_side: u8,
-    cell_count: usize,
-    packed_cells: &'a [u8],
-    timings: Vec<u32>,
-}
-
-/// The sections of a file of which nothing is refused at once; none where its end brings
-/// 15 (rule 10.7).
-fn sections(file: &[u8]) -> Option<Sections<'_>> {
-    // A file that is cut before a count is whole is a short file.
-    let cell_count = cell_count(file)?;
-    let flux_count_at = flux_count_at(cell_count);
-    let flux_count = number_at(file, flux_count_at)? as usize;
-    let timings_at = flux_count_at + NUMBER_LENGTH;
-    let end = timings_at + NUMBER_LENGTH * flux_count;
-    if file.len() != end {
-        return None;
-    }
-    if (cell_count == 0) == (flux_count == 0) {
-        return None;
-    }
-    let mut timings = Vec::with_capacity(flux_count);
-    for index in 0..flux_count {
-        timings.push(number_at(file, timings_at + NUMBER_LENGTH * index)?);
-    }
-    Some(Sections {
-        drive_track: file[DRIVE_TRACK_AT],
-        drive_side: file[DRIVE_SIDE_AT],
-        cell_count,
-        packed_cells: &file[PACKED_CELLS_AT..flux_count_at],
-        timings,
-    })
-}
-
-/// The place and the cells that a track file holds, or that its timings give (rule 10.9),
-/// and the number of border pulses among these timings (rule 10.17).
+/// The place and the cells that a track file holds (rule 10.9).
 #[derive(Clone, Debug, PartialEq, Eq)]
 pub struct TrackCells {
     /// T.
@@ -110,39 +91,32 @@ pub struct TrackCells {
     pub n: usize,
     /// The packed cells, as many bytes as N cells need.
     pub bytes: Vec<u8>,
-    /// The number of border pulses; none of a file without timings.
-    pub border_pulses: Option<usize>,
+}
+
+/// The place and the cells of a file of which nothing is refused at once; none where its
+/// end brings 15 (rule 10.7): a count of no cells beside one of no timings, bytes that are
+/// missing, or bytes left over.
+fn sections(file: &[u8]) -> Option<TrackCells> {
+    let n = cell_count(file)?;
+    if n == 0 || file.len() != flux_count_at(n) + NUMBER_LENGTH {
+        return None;
+    }
+    let (drive_track, drive_side) = place_of(file);
+    Some(TrackCells {
+        drive_track: u32::from(drive_track),
+        drive_side: u32::from(drive_side),
+        n,
+        bytes: packed_cells(file, n).to_vec(),
+    })
 }
 
 /// The place and the cells of a whole file. First come the refusals that are given at
-/// once, then 15, then what the separator refuses (rules 10.4 to 10.8). Of the latter, 6
-/// has given way to 15, and 7 to 7 at once; and 10 cannot be, as there is room for the
-/// most cells.
+/// once, then 15 (rules 10.4 to 10.7).
 pub fn read_cells(file: &[u8]) -> Result<TrackCells, Refusal> {
     if let Some(refusal) = at_once(file) {
         return Err(refusal);
     }
-    let Some(sections) = sections(file) else {
-        return Err(Refusal::not_a_track_file());
-    };
-    let (n, bytes, border_pulses) = if sections.cell_count > 0 {
-        (sections.cell_count, sections.packed_cells.to_vec(), None)
-    } else {
-        let room = cells::bytes_needed(MOST_CELLS);
-        let separation = separator::separate(&sections.timings, room)?;
-        (
-            separation.cells,
-            separation.bytes,
-            Some(separation.border_pulses),
-        )
-    };
-    Ok(TrackCells {
-        drive_track: u32::from(sections.drive_track),
-        drive_side: u32::from(sections.drive_side),
-        n,
-        bytes,
-        border_pulses,
-    })
+    sections(file).ok_or_else(Refusal::not_a_track_file)
 }
 
 /// What a track that is not refused gives.

@@ -1,13 +1,16 @@
-//! Rules 11.1 to 11.13: whole listings, among them those of rule 11.10.
+//! Rules 11.1 to 11.10: whole listings, among them those of rule 11.10.
 
 use second_program::listing::{listing, listing_of_cells};
 use second_program::track_file::read_cells;
 use test_inputs::file_inputs::{file_of_cells, file_of_timings, FilePlan};
-use test_inputs::flux_inputs::timings_of_cells;
 use test_inputs::track_builder::{nine_sectors, standard_track};
 
 fn assert_prints(file: &[u8], expected: &str) {
     assert_eq!(String::from_utf8(listing(file)).unwrap(), expected);
+    // The listing of its cells alone is the same.
+    if let Ok(cells) = read_cells(file) {
+        assert_eq!(listing_of_cells(&cells), expected.as_bytes());
+    }
 }
 
 #[test]
@@ -41,77 +44,6 @@ fn all_zero_cells() {
         "T80 H0 cells 100000 sectors 0 findings 2\n\
          3 NOS level 3 place 0 detail 0\n\
          21 NFA level 1 place 0 detail 100000\n",
-    );
-}
-
-#[test]
-fn timings() {
-    // Ones at 4,999, 9,999, 14,999 and 19,999; four equal runs of 4,999 zeros.
-    assert_prints(
-        &file_of_timings(5, 1, &[10_000_000; 4]),
-        "T05 H1 cells 20000 sectors 0 findings 5\n\
-         2 SHT level 1 place 0 detail 20000\n\
-         3 NOS level 3 place 0 detail 0\n\
-         4 TNF level 2 place 0 detail 0\n\
-         20 MTV level 3 place 4999 detail 4\n\
-         21 NFA level 1 place 0 detail 4999\n\
-         FAA 0\n",
-    );
-}
-
-#[test]
-fn border_pulses() {
-    // 10,000 timings of two cells: the first, the last and one in between end 902 ns off
-    // the centre.
-    let mut timings = vec![4_000; 10_000];
-    timings[0] = 4_902;
-    timings[4_000] = 3_098;
-    timings[9_999] = 4_902;
-    let header = "T83 H1 cells 20000 sectors 0 findings 2\n\
-                  2 SHT level 1 place 0 detail 20000\n\
-                  3 NOS level 3 place 0 detail 0\n";
-    assert_prints(
-        &file_of_timings(83, 1, &timings),
-        &format!("{header}FAA 3\n"),
-    );
-    // One nanosecond less, and they are none; the cells are the same.
-    for (index, timing) in [(0, 4_901), (4_000, 3_099), (9_999, 4_901)] {
-        timings[index] = timing;
-    }
-    assert_prints(
-        &file_of_timings(83, 1, &timings),
-        &format!("{header}FAA 0\n"),
-    );
-    // Hundreds of them.
-    timings[0] = 3_098;
-    timings[1..300].fill(3_549);
-    assert_prints(
-        &file_of_timings(83, 1, &timings),
-        &format!("{header}FAA 300\n"),
-    );
-    // The same cells as such have no line.
-    let cells = read_cells(&file_of_timings(83, 1, &timings)).unwrap();
-    assert_eq!(String::from_utf8(listing_of_cells(&cells)).unwrap(), header);
-    assert_prints(
-        &FilePlan::of_cells(83, 1, cells.n, &cells.bytes).bytes(),
-        header,
-    );
-}
-
-#[test]
-fn a_track_without_findings_has_the_line_as_well() {
-    // The standard track ends in two zeros, for which no timing stands.
-    let mut track_cells = standard_track(0, 0, 0xE5);
-    track_cells.rotate_right(2);
-    let mut timings = timings_of_cells(&track_cells);
-    assert_prints(
-        &file_of_timings(0, 0, &timings),
-        "T00 H0 cells 100000 sectors 9 findings 0\nFAA 0\n",
-    );
-    timings[7] += 902;
-    assert_prints(
-        &file_of_timings(0, 0, &timings),
-        "T00 H0 cells 100000 sectors 9 findings 0\nFAA 1\n",
     );
 }
 
@@ -157,20 +89,14 @@ fn refused_files_print_one_line() {
     assert_prints(b"", "refused 15\n");
     assert_prints(&[3, 0, 0, 0], "refused 15\n");
     assert_prints(&[2, 0, 0, 0, 0, 0, 1, 0, 2, 0], "refused 2\n");
-    assert_prints(&[2, 0, 0, 0, 0, 0, 0, 0, 0, 0, 1, 0, 1, 0], "refused 7\n");
-    assert_prints(&file_of_timings(0, 0, &[0]), "refused 8\n");
-    assert_prints(&file_of_timings(0, 0, &[10_000_000; 27]), "refused 9\n");
-    assert_prints(&file_of_timings(84, 0, &[10_000_000; 4]), "refused 1\n");
     assert_prints(&file_of_cells(0, 0, &[1; 19_999]), "refused 2\n");
-    // Border pulses in front of what is refused, and of tracks that are.
-    assert_prints(&file_of_timings(0, 0, &[4_902, 0]), "refused 8\n");
-    let mut timings = [10_000_000; 27];
-    timings[0] = 9_999_098;
-    assert_prints(&file_of_timings(0, 0, &timings), "refused 9\n");
-    assert_prints(&file_of_timings(84, 0, &timings[..4]), "refused 1\n");
-    assert_prints(&file_of_timings(0, 2, &timings[..4]), "refused 1\n");
-    assert_prints(&file_of_timings(0, 0, &timings[..3]), "refused 2\n");
-    // No cells at all (rule 11.11).
-    assert_prints(&file_of_timings(0, 0, &[902]), "refused 2\n");
-    assert_prints(&file_of_timings(84, 0, &[902]), "refused 1\n");
+    assert_prints(&file_of_cells(84, 0, &[1; 20_000]), "refused 1\n");
+    // A flux section, whatever is in it.
+    assert_prints(&[2, 0, 0, 0, 0, 0, 0, 0, 0, 0, 1, 0, 1, 0], "refused 23\n");
+    for timings in [&[0][..], &[10_000_000; 27], &[10_000_000; 4], &[902]] {
+        assert_prints(&file_of_timings(0, 0, timings), "refused 23\n");
+        assert_prints(&file_of_timings(84, 2, timings), "refused 23\n");
+    }
+    // Neither cells nor timings.
+    assert_prints(&file_of_timings(0, 0, &[]), "refused 15\n");
 }

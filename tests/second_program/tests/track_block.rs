@@ -1,6 +1,7 @@
 //! Rules 12.1 to 12.24: blocks and portions at and past each limit, and the order of the
 //! refusals.
 
+use second_program::converter::listed_after;
 use second_program::refusal::Refusal;
 use second_program::separator::Separation;
 use second_program::track_block::*;
@@ -8,6 +9,7 @@ use test_inputs::block_inputs::{
     any_carried, any_portion, block_of_values, equal_portions, random_portions,
     with_empty_portions, BlockPlan,
 };
+use test_inputs::file_inputs::file_of_timings;
 use test_inputs::flux_inputs::timings_of_cells;
 use test_inputs::random::Random;
 use test_inputs::track_builder::standard_track;
@@ -27,11 +29,7 @@ fn accepted(cells: usize, border_pulses: usize, bytes: Vec<u8>) -> Result<Separa
 
 /// The timings that a call with ample room gives.
 fn timings_of(block: &[u8], revolutions: u32, revolution: u32) -> Result<Vec<u32>, Refusal> {
-    let answer = revolution_timings(block, revolutions, revolution, 100_000);
-    answer.map(|(count, timings)| {
-        assert_eq!(count, timings.len());
-        timings
-    })
+    revolution_timings(block, revolutions, revolution, 100_000).map(|read| read.timings)
 }
 
 /// A block of one revolution with these values.
@@ -65,7 +63,10 @@ fn two_revolutions_written_out() {
     assert_eq!(timings_of(TWO, 2, 1), Ok(vec![1_638_425]));
     assert_eq!(
         revolution_timings(TWO, 2, 0, 3),
-        Ok((3, vec![4_000, 6_000, 8_000]))
+        Ok(RevolutionTimings {
+            timings: vec![4_000, 6_000, 8_000],
+            border_pulses: 0
+        })
     );
     assert_eq!(revolution_timings(TWO, 2, 0, 2), refused(10, 3));
     assert_eq!(revolution_timings(TWO, 2, 0, 0), refused(10, 3));
@@ -581,11 +582,25 @@ fn border_pulses_of_a_revolution() {
         // end far from the border.
         (vec![197, 178, 160], 6, 2, vec![0x54]),
     ] {
-        let block = block_of_values(&[vec![160], values]).bytes();
+        // The revolution before it, which ends in a border pulse, leaves nothing.
+        let block = block_of_values(&[vec![160, 197], values]).bytes();
         let bytes_needed = bytes.len();
         assert_eq!(
             revolution_cells(&block, 2, 1, bytes_needed),
             accepted(cells, number, bytes)
+        );
+        let timings = timings_of(&block, 2, 1).unwrap();
+        let room = timings.len();
+        assert_eq!(
+            revolution_timings(&block, 2, 1, room),
+            Ok(RevolutionTimings {
+                timings,
+                border_pulses: number
+            })
+        );
+        assert_eq!(
+            revolution_timings(&block, 2, 1, room - 1),
+            refused(10, room as u64)
         );
         if bytes_needed > 0 {
             assert_eq!(
@@ -594,6 +609,24 @@ fn border_pulses_of_a_revolution() {
             );
         }
     }
+}
+
+#[test]
+fn border_pulses_of_timings_that_give_too_many_cells() {
+    // 925 ns more than 2 cells, then 27 times 5,000 cells: the timings are given, the cells
+    // are refused. The first of the long ones ends 462 ns off, and so on: no border pulse.
+    let mut values = vec![197];
+    values.extend([0, 0, 0, 0, 0, 0, 6_784].repeat(27));
+    let block = one(&values);
+    let read = revolution_timings(&block, 1, 0, 28).unwrap();
+    assert_eq!((read.timings.len(), read.border_pulses), (28, 1));
+    assert_eq!(revolution_cells(&block, 1, 0, 16_384), refused(9, 135_002));
+    // As many as a list has, all but the first border pulses: 3,100 ns are 900 ns short of
+    // two cells, which leaves -450, and 3,525 ns then end 925 ns short, and later more.
+    let mut values = vec![141; 65_536];
+    values[0] = 124;
+    let read = revolution_timings(&one(&values), 1, 0, 65_536).unwrap();
+    assert_eq!((read.timings.len(), read.border_pulses), (65_536, 65_535));
 }
 
 fn assert_prints(plan: &BlockPlan, numbers: [u8; 4], expected: &str) {
@@ -629,8 +662,7 @@ fn what_the_program_prints() {
          3 NOS level 3 place 0 detail 0\n\
          4 TNF level 2 place 0 detail 0\n\
          20 MTV level 3 place 4999 detail 4\n\
-         21 NFA level 1 place 0 detail 4999\n\
-         FAA 0\n",
+         21 NFA level 1 place 0 detail 4999\n",
     );
     for (revolution, expected) in [
         (1, "refused 9\n"),
@@ -671,7 +703,7 @@ fn the_standard_track_at_even_distances() {
     assert_prints(
         &block_of_values(&[values]),
         [1, 0, 0, 0],
-        "T00 H0 cells 100000 sectors 9 findings 0\nFAA 0\n",
+        "T00 H0 cells 100000 sectors 9 findings 0\n",
     );
 }
 
@@ -684,16 +716,36 @@ fn a_block_with_border_pulses() {
     }
     values[6_000] = 123;
     let plan = block_of_values(&[vec![160; 10_000], values]);
-    let header = "T80 H0 cells 20000 sectors 0 findings 2\n\
-                  2 SHT level 1 place 0 detail 20000\n\
-                  3 NOS level 3 place 0 detail 0\n";
-    assert_prints(&plan, [2, 0, 80, 0], &format!("{header}FAA 0\n"));
-    assert_prints(&plan, [2, 1, 80, 0], &format!("{header}FAA 6\n"));
+    let listing = "T80 H0 cells 20000 sectors 0 findings 2\n\
+                   2 SHT level 1 place 0 detail 20000\n\
+                   3 NOS level 3 place 0 detail 0\n";
+    for (revolution, number) in [(0, 0), (1, 6)] {
+        let read = revolution_timings(&plan.bytes(), 2, revolution, 10_000).unwrap();
+        assert_eq!(read.border_pulses, number);
+        // The listing does not tell.
+        assert_prints(&plan, [2, revolution as u8, 80, 0], listing);
+    }
     assert_prints(&plan, [2, 1, 84, 0], "refused 1\n");
-    // Too few cells, or none.
+    // Too few cells, or none (rule 11.11).
     for values in [vec![197], vec![37]] {
         let plan = block_of_values(&[values]);
         assert_prints(&plan, [1, 0, 80, 0], "refused 2\n");
         assert_prints(&plan, [1, 0, 80, 2], "refused 1\n");
+    }
+}
+
+/// A block's revolution lists as the old file of its timings does that is converted (rule
+/// 13.13).
+#[test]
+fn a_revolution_lists_as_its_timings_converted() {
+    let longest = [0, 0, 0, 0, 0, 0, 6_784];
+    for values in [longest.repeat(4), longest.repeat(27), vec![160], vec![0, 1]] {
+        let plan = block_of_values(&[values]);
+        let timings = timings_of(&plan.bytes(), 1, 0).unwrap();
+        for (drive_track, drive_side) in [(5, 0), (80, 1), (84, 0), (83, 2)] {
+            let listed = listed_after(&file_of_timings(drive_track, drive_side, &timings));
+            let listed = String::from_utf8(listed).unwrap();
+            assert_prints(&plan, [1, 0, drive_track, drive_side], &listed);
+        }
     }
 }

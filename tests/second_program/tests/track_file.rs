@@ -1,13 +1,11 @@
-//! Rules 10.1 to 10.10 and 10.17: files at and past each limit, and the order of the refusals.
+//! Rules 10.1 to 10.7, 10.9 and 10.10: files at and past each limit, and the order of the
+//! refusals.
 
-use second_program::cells;
+use second_program::old_track_file;
 use second_program::refusal::Refusal;
 use second_program::track_file::{at_once, read, read_cells, TrackCells, ROOM_FOR_FINDINGS};
-use test_inputs::file_inputs::{cut, file_of_cells, file_of_timings, mixed_file, FilePlan};
+use test_inputs::file_inputs::{cut, file_of_cells, file_of_timings, files, mixed_file, FilePlan};
 use test_inputs::track_builder::TrackBuilder;
-
-/// 10,000,000, low byte first: 5,000 cells.
-const LONGEST: [u8; 4] = [0x80, 0x96, 0x98, 0x00];
 
 fn assert_refused(file: &[u8], number: u32, value: u64) {
     assert_eq!(read(file), Err(Refusal { number, value }));
@@ -44,7 +42,6 @@ fn a_file_of_cells() {
         drive_side: 1,
         n: 20_000,
         bytes: vec![0xAA; 2_500],
-        border_pulses: None,
     };
     assert_eq!(read_cells(&file), Ok(expected.clone()));
     let track = read(&file).unwrap();
@@ -56,70 +53,18 @@ fn a_file_of_cells() {
 }
 
 #[test]
-fn a_file_of_timings() {
-    let file = joined(&[
-        &[2, 0, 0, 0, 80, 0, 0, 0, 0, 0, 4, 0, 0, 0],
-        &LONGEST.repeat(4),
-    ]);
-    let track = read(&file).unwrap();
-    assert_eq!((track.cells.drive_track, track.cells.drive_side), (80, 0));
-    assert_eq!((track.cells.n, track.cells.bytes.len()), (20_000, 2_500));
-    for place in 0..20_000 {
-        let one = u8::from(place % 5_000 == 4_999);
-        assert_eq!(cells::cell(&track.cells.bytes, 20_000, place), one);
-    }
-    assert_eq!(track.cells.border_pulses, Some(0));
-}
-
-#[test]
-fn the_border_pulses_of_all_timings_are_counted() {
-    // Before, between and after timings of 5,000 cells; 4,902 and 5,098 are border pulses.
-    for (timings, number) in [
-        (vec![4_901, 10_000_000, 5_099], 0),
-        (vec![4_902, 10_000_000, 10_000_000], 1),
-        (vec![10_000_000, 10_000_000, 5_098], 1),
-        (vec![10_000_000, 4_902, 4_451, 4_451, 10_000_000], 3),
-        // Without cells of their own.
-        (vec![902, 451, 10_000_000], 2),
-        (
-            [vec![3_098], vec![3_549; 699], vec![10_000_000]].concat(),
-            700,
-        ),
-    ] {
-        let file = file_of_timings(5, 0, &timings);
-        assert_eq!(read_cells(&file).unwrap().border_pulses, Some(number));
-    }
-    // No cells at all: the timings are accepted, the track is not.
-    let file = file_of_timings(5, 0, &[902]);
-    assert_eq!(read_cells(&file).unwrap().border_pulses, Some(1));
-    assert_refused(&file, 2, 0);
-}
-
-#[test]
-fn border_pulses_do_not_change_what_is_refused() {
-    assert_refused(&file_of_timings(5, 0, &[4_902, 0, 4_902]), 8, 1);
-    assert_refused(&file_of_timings(84, 0, &[4_902]), 1, 0);
-    assert_refused(&file_of_timings(5, 0, &[4_902]), 2, 2);
-    let mut many = vec![10_000_000; 27];
-    many[0] = 9_999_098;
-    assert_refused(&file_of_timings(5, 0, &many), 9, 135_000);
-    let file = file_of_timings(5, 0, &[4_902; 3]);
-    assert_refused(&file[..file.len() - 1], 15, 0);
-    assert_refused(&joined(&[&file, &[0]]), 15, 0);
-}
-
-#[test]
 fn a_place_count_that_is_not_2_is_refused_at_once() {
     for count in [0, 1, 3, 0x102, 0x0200_0000, u32::MAX] {
         let mut plan = FilePlan::of_timings(0, 0, &[10_000_000; 4]);
         plan.place_count = count;
-        // 15 goes before 2 and before 7, and nothing need follow.
-        plan.cell_count = 131_073;
-        plan.flux_count = 65_537;
-        let file = plan.bytes();
-        for length in 0..file.len() {
-            assert_refused(&cut(&file, length), 15, 0);
-            assert_eq!(at_once(&cut(&file, length)).is_some(), length >= 4);
+        // 15 goes before 2 and before 23, and nothing need follow.
+        for cell_count in [0, 131_073] {
+            plan.cell_count = cell_count;
+            let file = plan.bytes();
+            for length in 0..file.len() {
+                assert_refused(&cut(&file, length), 15, 0);
+                assert_eq!(at_once(&cut(&file, length)).is_some(), length >= 4);
+            }
         }
     }
 }
@@ -133,7 +78,7 @@ fn a_cell_count_above_131072_is_refused_at_once() {
         assert_refused(&start[..length], 15, 0);
     }
     for rest in [
-        // A short file; 15 for two counts; 7; bytes left over.
+        // A short file; 23 for a timing; bytes left over.
         vec![],
         vec![0],
         [&[0; 16_385][..], &[1, 0, 0, 0, 0xA0, 0x0F, 0, 0]].concat(),
@@ -162,77 +107,87 @@ fn a_cell_count_above_131072_is_refused_at_once() {
 }
 
 #[test]
-fn a_flux_count_above_65536_is_refused_at_once() {
-    // 65,537 is 010001; after no cells, and after 9 cells in two bytes.
-    for start in [
-        vec![2, 0, 0, 0, 84, 2, 0, 0, 0, 0, 1, 0, 1, 0],
-        vec![2, 0, 0, 0, 84, 2, 9, 0, 0, 0, 0xAA, 0x80, 1, 0, 1, 0],
-    ] {
-        for length in 0..start.len() {
-            assert_eq!(at_once(&start[..length]), None);
-            assert_refused(&start[..length], 15, 0);
-        }
-        for rest in [vec![], vec![0], vec![0; 4 * 65_537], vec![0; 4 * 65_538]] {
-            assert_refused(&joined(&[&start, &rest]), 7, 65_537);
+fn a_flux_count_other_than_0_is_refused_at_once() {
+    // After no cells, after 9 cells in two bytes, and after the most.
+    let no_cells = vec![2, 0, 0, 0, 84, 2, 0, 0, 0, 0];
+    let nine = vec![2, 0, 0, 0, 84, 2, 9, 0, 0, 0, 0xAA, 0x80];
+    let most = joined(&[&[2, 0, 0, 0, 5, 0, 0, 0, 2, 0], &[0xAA; 16_384]]);
+    for start in [no_cells, nine, most] {
+        // 1; 256, 65,536 and 16,777,216, of which only another byte is not 0; 65,537; the
+        // highest of all.
+        for count in [1, 1 << 8, 1 << 16, 1 << 24, 65_537, u32::MAX] {
+            let file = joined(&[&start, &count.to_le_bytes()]);
+            for length in 0..file.len() {
+                assert_eq!(at_once(&file[..length]), None);
+                assert_refused(&file[..length], 15, 0);
+            }
+            for rest in [vec![], vec![0], vec![0, 0, 0, 0], vec![0; 300_000]] {
+                assert_refused(&joined(&[&file, &rest]), 23, 0);
+            }
         }
     }
-    let highest = [2, 0, 0, 0, 0, 0, 0, 0, 0, 0, 0xFF, 0xFF, 0xFF, 0xFF];
-    assert_refused(&highest, 7, 4_294_967_295);
-    // 65,536 timings of two cells are accepted.
-    let most = file_of_timings(0, 0, &vec![4_000; 65_536]);
-    assert_eq!(at_once(&most), None);
-    assert_eq!(read(&most).unwrap().cells.n, 131_072);
+}
+
+#[test]
+fn twenty_three_goes_before_all_but_15_and_2_at_once() {
+    for timings in [
+        // Sound timings, one of 0, too many cells, no cells.
+        &[10_000_000; 4][..],
+        &[4_000, 0],
+        &[10_000_000; 27],
+        &[500],
+    ] {
+        for (drive_track, drive_side) in [(5, 0), (84, 0), (5, 2)] {
+            let file = file_of_timings(drive_track, drive_side, timings);
+            assert_refused(&file, 23, 0);
+            assert_refused(&file[..14], 23, 0);
+            assert_refused(&file[..13], 15, 0);
+            assert_refused(&joined(&[&file, &[0]]), 23, 0);
+        }
+    }
+    // Behind cells that are too few, or on no drive.
+    for (drive_track, n) in [(5, 8), (84, 8), (84, 20_000)] {
+        let mut plan = FilePlan::of_cells(drive_track, 0, n, &vec![0xAA; n / 8]);
+        plan.flux_count = 1;
+        assert_refused(&plan.bytes(), 23, 0);
+        plan.flux_count = 0;
+        plan.left_over = vec![0];
+        assert_refused(&plan.bytes(), 15, 0);
+    }
 }
 
 #[test]
 fn a_file_that_is_cut_anywhere_is_a_short_file() {
-    for file in [
-        file_of_timings(5, 0, &[10_000_000; 4]),
-        file_of_cells(5, 0, &[1, 0].repeat(10_000)),
-    ] {
-        assert!(read(&file).is_ok());
-        for length in 0..file.len() {
-            assert_refused(&file[..length], 15, 0);
-            assert_eq!(at_once(&file[..length]), None);
-        }
+    let file = file_of_cells(5, 0, &[1, 0].repeat(10_000));
+    assert!(read(&file).is_ok());
+    for length in 0..file.len() {
+        assert_refused(&file[..length], 15, 0);
+        assert_eq!(at_once(&file[..length]), None);
     }
 }
 
 #[test]
 fn bytes_left_over_make_no_track_file() {
-    for file in [
-        file_of_timings(5, 0, &[10_000_000; 4]),
-        file_of_cells(5, 0, &[1, 0].repeat(10_000)),
-    ] {
-        for left_over in [&[0][..], &[0xFF], &[0; 4], &file] {
-            assert_refused(&joined(&[&file, left_over]), 15, 0);
-        }
+    let file = file_of_cells(5, 0, &[1, 0].repeat(10_000));
+    for left_over in [&[0][..], &[0xFF], &[0; 4], &file] {
+        assert_refused(&joined(&[&file, left_over]), 15, 0);
     }
 }
 
 #[test]
-fn both_or_neither_of_the_counts_zero_make_no_track_file() {
-    assert_refused(&[2, 0, 0, 0, 5, 0, 0, 0, 0, 0, 0, 0, 0, 0], 15, 0);
-    let mut plan = FilePlan::of_cells(5, 0, 20_000, &[0xAA; 2_500]);
-    plan.flux_count = 1;
-    plan.timings = vec![4_000];
-    assert_refused(&plan.bytes(), 15, 0);
-    plan.flux_count = 65_536;
-    plan.timings = vec![4_000; 65_536];
-    assert_refused(&plan.bytes(), 15, 0);
-    // One more gives 7, which goes before 15.
-    plan.flux_count = 65_537;
-    assert_refused(&plan.bytes(), 7, 65_537);
+fn neither_cells_nor_timings_make_no_track_file() {
+    for place in [[5, 0], [84, 2]] {
+        let file = joined(&[&[2, 0, 0, 0], &place, &[0; 8]]);
+        assert_refused(&file, 15, 0);
+        assert_eq!(at_once(&file), None);
+        assert_refused(&joined(&[&file, &[0; 4]]), 15, 0);
+    }
 }
 
 #[test]
 fn fifteen_goes_before_every_refusal_that_is_not_given_at_once() {
-    let longest = [10_000_000; 27];
     for (file, number, value) in [
-        // 8, 9, 1, 2 and 4.
-        (file_of_timings(5, 0, &[4_000, 0]), 8, 1),
-        (file_of_timings(5, 0, &longest), 9, 135_000),
-        (file_of_timings(84, 0, &longest[..4]), 1, 0),
+        // 1, 2 and 4.
         (file_of_cells(5, 2, &[0; 20_000]), 1, 0),
         (file_of_cells(5, 0, &[0; 19_999]), 2, 19_999),
         (file_of_cells(5, 0, &ids_on(65, 20_000)), 4, 65),
@@ -241,49 +196,6 @@ fn fifteen_goes_before_every_refusal_that_is_not_given_at_once() {
         assert_refused(&file[..file.len() - 1], 15, 0);
         assert_refused(&joined(&[&file, &[0]]), 15, 0);
     }
-    // Two counts go before 8, 1 and 2.
-    let mut plan = FilePlan::of_cells(84, 0, 8, &[0xAA]);
-    plan.flux_count = 1;
-    plan.timings = vec![0];
-    assert_refused(&plan.bytes(), 15, 0);
-}
-
-#[test]
-fn timings_out_of_range_go_before_all_but_15() {
-    assert_refused(&file_of_timings(84, 0, &[0]), 8, 0);
-    assert_refused(&file_of_timings(84, 2, &[4_000, 10_000_001, 0]), 8, 1);
-    assert_refused(&file_of_timings(0, 0, &[4_000, 1, u32::MAX]), 8, 2);
-    // Also after the cells have passed 131,072.
-    let mut timings = vec![10_000_000; 27];
-    timings.push(0);
-    assert_refused(&file_of_timings(0, 0, &timings), 8, 27);
-    // 1 and 10,000,000 are in range: 25,000 cells, and none for the 1.
-    let mut timings = vec![10_000_000; 5];
-    timings.push(1);
-    assert_eq!(
-        read(&file_of_timings(0, 0, &timings)).unwrap().cells.n,
-        25_000
-    );
-}
-
-#[test]
-fn too_many_cells_in_all_go_before_1() {
-    let mut timings = vec![10_000_000; 26];
-    timings.push(2_000 * 1_072);
-    assert_eq!(
-        read(&file_of_timings(0, 0, &timings)).unwrap().cells.n,
-        131_072
-    );
-    timings.push(2_000);
-    assert_refused(&file_of_timings(0, 0, &timings), 9, 131_073);
-    assert_refused(&file_of_timings(84, 2, &timings), 9, 131_073);
-}
-
-#[test]
-fn no_cells_from_timings_are_refused_with_1_or_2() {
-    assert_refused(&file_of_timings(83, 1, &[500]), 2, 0);
-    assert_refused(&file_of_timings(84, 1, &[500]), 1, 0);
-    assert_refused(&file_of_timings(0, 0, &vec![1; 65_536]), 2, 0);
 }
 
 #[test]
@@ -326,6 +238,23 @@ fn what_is_refused_at_once_does_not_change_with_what_follows() {
             }
         }
     }
+}
+
+/// What changed: a flux count other than 0 is 23 now. Every other file is read as it was.
+#[test]
+fn files_without_a_flux_section_are_read_as_they_were() {
+    let (mut without, mut with) = (0, 0);
+    for file in files() {
+        let new = read_cells(&file.bytes);
+        if new == Err(Refusal::flux_section()) {
+            with += 1;
+        } else {
+            without += 1;
+            let old = old_track_file::read_cells(&file.bytes);
+            assert_eq!(new, old.map(|old| old.cells), "{}", file.name);
+        }
+    }
+    assert!(without > 5_000 && with > 2_000, "{without} and {with}");
 }
 
 #[test]

@@ -60,7 +60,6 @@ pub const LAWS: &[Law] = &[
         "finding_list/proofs/SingleDensity",
         &["no-nsi", "no-nsd"],
     ),
-    ("10.8", "whole_file/proofs/Laws", &["as-separated"]),
     ("11.7", "listing/proofs/Laws", &["never-five"]),
     (
         "11.9",
@@ -121,6 +120,8 @@ pub const LAWS: &[Law] = &[
         &["chosen-check", "sbd-exactly"],
     ),
     ("17.14", "standard_track/proofs/Theorems", &["reads-back"]),
+    ("18.16", "conversion_laws/proofs/Theorems", &["converts"]),
+    ("18.17", "conversion_laws/proofs/Theorems", &["as-before"]),
     ("16.25", "disk_page/proofs/Parts", &["parts-are-page"]),
 ];
 
@@ -159,6 +160,9 @@ pub const EXCEPTIONS: &[(&str, &str)] = &[
     ("17.12", "a theorem of the definitions, for no code"),
     ("17.13", "a theorem of the definitions, for no code"),
     ("17.14", "a theorem of the definitions, for no code"),
+    ("18.15", "what was: only the theorems on it need it"),
+    ("18.16", "a theorem of the definitions, for no code"),
+    ("18.17", "a theorem of the definitions, for no code"),
 ];
 
 pub fn parsed(rule: &str) -> Number {

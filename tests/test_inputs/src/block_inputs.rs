@@ -247,7 +247,7 @@ impl BlockCase {
     /// The rooms to try for the timings.
     pub fn rooms(&self) -> Vec<usize> {
         match revolution_timings(&self.block, self.revolutions, self.revolution, usize::MAX) {
-            Ok((count, _)) => rooms_around(count),
+            Ok(read) => rooms_around(read.timings.len()),
             Err(_) => ANY_ROOMS.to_vec(),
         }
     }
@@ -443,10 +443,11 @@ mod tests {
                 for room in case.rooms() {
                     calls += 1;
                     match revolution_timings(&case.block, revolutions, revolution, room) {
-                        Ok((count, timings)) => {
+                        Ok(read) => {
                             accepted += 1;
-                            assert_eq!(count, timings.len());
-                            assert!((1..=room).contains(&count));
+                            assert!((1..=room).contains(&read.timings.len()));
+                            with_border_pulses += usize::from(read.border_pulses > 0);
+                            most_border_pulses = most_border_pulses.max(read.border_pulses);
                         }
                         Err(refusal) => refusals_seen[refusal.number as usize] += 1,
                     }
@@ -456,8 +457,6 @@ mod tests {
                         Ok(separation) => {
                             accepted_cells += 1;
                             assert_eq!(separation.bytes.len(), separation.cells.div_ceil(8));
-                            with_border_pulses += usize::from(separation.border_pulses > 0);
-                            most_border_pulses = most_border_pulses.max(separation.border_pulses);
                         }
                         Err(refusal) => refusals_of_cells[refusal.number as usize] += 1,
                     }

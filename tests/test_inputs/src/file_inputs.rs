@@ -1,15 +1,16 @@
 //! Track files (section 10 of the specification): whole ones that reach every finding,
 //! and files at and past each limit, cut, too long or changed, that reach every refusal
-//! of the program and try the order of the refusals.
+//! of the program and try the order of the refusals. Files with a flux section, as they were
+//! once read, are in `old_file_inputs`.
 
-mod border_files;
-mod made_tracks;
-mod random_files;
-mod refused_files;
+pub(crate) mod made_tracks;
+pub(crate) mod random_files;
+pub(crate) mod refused_files;
 
-use crate::flux_inputs::timings_of_cells;
+use made_tracks::MadeTrack;
 use second_program::cells;
 
+pub use made_tracks::ids_on;
 pub use random_files::{changed_file, file_of_any_bytes, mixed_file, odd_file};
 
 /// The parts of a track file. Each is free, so that a file can also be broken: a count
@@ -46,7 +47,7 @@ impl FilePlan {
         }
     }
 
-    /// A file of a place and timings.
+    /// An old file of a place and timings.
     pub fn of_timings(drive_track: u8, drive_side: u8, timings: &[u32]) -> FilePlan {
         FilePlan {
             flux_count: timings.len() as u32,
@@ -76,7 +77,7 @@ pub fn file_of_cells(drive_track: u8, drive_side: u8, track_cells: &[u8]) -> Vec
     FilePlan::of_cells(drive_track, drive_side, track_cells.len(), &packed).bytes()
 }
 
-/// The track file of a place and timings.
+/// The old track file of a place and timings.
 pub fn file_of_timings(drive_track: u8, drive_side: u8, timings: &[u32]) -> Vec<u8> {
     FilePlan::of_timings(drive_track, drive_side, timings).bytes()
 }
@@ -95,7 +96,7 @@ pub struct NamedFile {
     pub bytes: Vec<u8>,
 }
 
-fn named(name: impl Into<String>, bytes: Vec<u8>) -> NamedFile {
+pub(crate) fn named(name: impl Into<String>, bytes: Vec<u8>) -> NamedFile {
     NamedFile {
         name: name.into(),
         bytes,
@@ -104,45 +105,37 @@ fn named(name: impl Into<String>, bytes: Vec<u8>) -> NamedFile {
 
 /// The files of a group, in the order in which they are made.
 #[derive(Default)]
-struct Files(Vec<NamedFile>);
+pub(crate) struct Files(pub Vec<NamedFile>);
 
 impl Files {
-    fn add(&mut self, name: impl Into<String>, bytes: Vec<u8>) {
+    pub fn add(&mut self, name: impl Into<String>, bytes: Vec<u8>) {
         self.0.push(named(name, bytes));
     }
+}
 
-    /// A track as cells, one cell to an element, and again as timings.
-    fn add_track(&mut self, name: &str, drive_track: u8, drive_side: u8, track_cells: &[u8]) {
-        let timings = timings_of_cells(track_cells);
-        self.add(name, file_of_cells(drive_track, drive_side, track_cells));
-        self.add(
-            format!("{name}, as timings"),
-            file_of_timings(drive_track, drive_side, &timings),
-        );
-    }
+/// The files of tracks.
+fn files_of_tracks(tracks: Vec<MadeTrack>) -> Vec<NamedFile> {
+    let file_of =
+        |track: &MadeTrack| file_of_cells(track.drive_track, track.drive_side, &track.cells);
+    let named_file = |track: MadeTrack| named(track.name.clone(), file_of(&track));
+    tracks.into_iter().map(named_file).collect()
 }
 
 /// A group of made files: what they try, and what makes them.
 pub type FileGroup = (&'static str, fn() -> Vec<NamedFile>);
 
 /// All groups. The same files come each time.
-pub const GROUPS: [FileGroup; 20] = [
+pub const GROUPS: [FileGroup; 16] = [
     ("the listings of rule 11.10", made_tracks::known_listings),
     ("place counts", refused_files::place_counts),
     ("cell counts at their limit", refused_files::cell_counts),
-    ("flux counts at their limit", refused_files::flux_counts),
+    ("flux counts other than 0", refused_files::flux_counts),
     (
         "cells and timings, or neither",
         refused_files::two_counts_or_none,
     ),
     ("files cut at any byte", refused_files::cut_files),
     ("bytes left over", refused_files::left_over_bytes),
-    (
-        "timings at their limits",
-        refused_files::timings_at_their_limits,
-    ),
-    ("the separator's rows", refused_files::separator_rows),
-    ("cells in all at their limits", refused_files::cells_in_all),
     ("T and H", refused_files::drive_places),
     ("numbers of cells", made_tracks::numbers_of_cells),
     ("bits past the cells", made_tracks::bits_past_the_cells),
@@ -155,7 +148,6 @@ pub const GROUPS: [FileGroup; 20] = [
     ("mixed mistakes", random_files::mixed_files),
     ("changed bytes", random_files::changed_files),
     ("any bytes", random_files::files_of_any_bytes),
-    ("border pulses", border_files::border_files),
 ];
 
 /// The files of all groups, one group after the other; a group is made when its first
@@ -164,15 +156,10 @@ pub fn files() -> impl Iterator<Item = NamedFile> {
     GROUPS.into_iter().flat_map(|(_, make)| make())
 }
 
-/// What a file of timings prints that have no border pulse and give these cells.
+/// The listing of a track.
 #[cfg(test)]
-pub(crate) fn listing_without_border_pulses(
-    drive_track: u8,
-    drive_side: u8,
-    track_cells: &[u8],
-) -> Vec<u8> {
-    let file = file_of_cells(drive_track, drive_side, track_cells);
-    [&second_program::listing::listing(&file)[..], b"FAA 0\n"].concat()
+pub(crate) fn listing_of_track(drive_track: u8, drive_side: u8, track_cells: &[u8]) -> Vec<u8> {
+    second_program::listing::listing(&file_of_cells(drive_track, drive_side, track_cells))
 }
 
 #[cfg(test)]
@@ -222,7 +209,7 @@ mod tests {
             assert_eq!(mixed_file(seed), mixed_file(seed));
             assert_eq!(odd_file(seed), odd_file(seed));
         }
-        assert_eq!(refused_files::cells_in_all(), refused_files::cells_in_all());
+        assert_eq!(refused_files::flux_counts(), refused_files::flux_counts());
     }
 
     #[test]
@@ -238,10 +225,8 @@ mod tests {
     fn many_different_files_reach_every_finding_and_every_refusal_of_the_program() {
         let mut different = HashSet::new();
         let mut kinds_seen = [0; KINDS + 1];
-        let mut refusals_seen = [0; 16];
+        let mut refusals_seen = [0; 26];
         let mut most_findings = 0;
-        let mut without_border_pulses = 0;
-        let mut with_border_pulses = 0;
         for (group, make) in GROUPS {
             let mut names = HashSet::new();
             for file in make() {
@@ -251,11 +236,6 @@ mod tests {
                         most_findings = most_findings.max(track.findings.len());
                         for finding in &track.findings {
                             kinds_seen[finding.kind as usize] += 1;
-                        }
-                        match track.cells.border_pulses {
-                            None => {}
-                            Some(0) => without_border_pulses += 1,
-                            Some(_) => with_border_pulses += 1,
                         }
                     }
                     Err(refusal) => refusals_seen[refusal.number as usize] += 1,
@@ -269,17 +249,12 @@ mod tests {
         for (kind, &seen) in kinds_seen.iter().enumerate().skip(1) {
             assert!(seen >= 20, "kind {kind}: {seen}");
         }
-        // 3 and 6 give way to 15, 5 and 10 never arise, and 11 to 14 belong to other
-        // routines.
+        // 3 gives way to 15, 5 and 10 never arise, and the others belong to other routines.
         for (number, &seen) in refusals_seen.iter().enumerate() {
-            let arises = [1, 2, 4, 7, 8, 9, 15].contains(&number);
-            assert_eq!(seen > 0, arises, "refusal {number}: {seen}");
+            let arises = [1, 2, 4, 15, 23].contains(&number);
+            assert_eq!(seen >= 20, arises, "refusal {number}: {seen}");
         }
         assert!(most_findings > 11 * MOST_SECTORS);
         assert!(most_findings <= ROOM_FOR_FINDINGS);
-        assert!(
-            without_border_pulses > 200 && with_border_pulses > 200,
-            "{without_border_pulses} and {with_border_pulses} files"
-        );
     }
 }

@@ -1,5 +1,5 @@
-//! Inputs for the tests: tracks, flux timings, track files, track blocks and disks, sound
-//! and broken, made by hand or at random from a seed.
+//! Inputs for the tests: tracks, flux timings, track files of today and old ones, track blocks
+//! and disks, sound and broken, made by hand or at random from a seed.
 //!
 //! Nothing here says what a program should answer. Cells and check words are made by the
 //! second program, whose own tests, the comparison, the samples and the benchmarks use
@@ -12,6 +12,7 @@ pub mod disk_inputs;
 pub mod file_inputs;
 pub mod flux_inputs;
 pub mod image_tracks;
+pub mod old_file_inputs;
 pub mod random;
 pub mod read_pairs;
 pub mod single_density_flux;

@@ -1,9 +1,5 @@
 -- `block_listing::list_block` meets its contract. Assumes nothing.
 use Rattle.block_listing.proofs.Listed.{cells-written, refusal-written}
-use mathlib.Core.Path.{sym, _∙_, ap}
-use native.Mathlib.Omega.{arith}
-use Rattle.block_cells.proofs.BlockCells.{pulses-few}
-use Rattle.refusals.specs.RefusedCalls.{countedAnswer}
 use borrow.Author.Needs.{needs}
 use Rattle.block_listing.proofs.list_block.Statement.{statement}
 use Rattle.block_listing.proofs.list_block.Tie as tie
@@ -20,16 +16,11 @@ separate-revolution-requires c κs = search needs
 enum-known-separated : tie.Need-enum-known-separated
 enum-known-separated c = search needs
 
-slice-aggregate-list-flux-track : tie.Need-slice-aggregate-list-flux-track
-slice-aggregate-list-flux-track c = search needs
+slice-aggregate-list-track : tie.Need-slice-aggregate-list-track
+slice-aggregate-list-track c = search needs
 
-cast-list-flux-track : tie.Need-cast-list-flux-track
-cast-list-flux-track c =
-    let s = c .before .before .before .before .before .before .separate-revolution .ensures in
-    record { fits = omega (arith, s .1 .1 .0, pulses-few _ _ _ _ 0 (sym (s .0) ∙ ap countedAnswer (c .before .before .before .separated .given .1))) }
-
-list-flux-track-requires : tie.Need-list-flux-track-requires
-list-flux-track-requires c κs = search needs
+list-track-requires : tie.Need-list-track-requires
+list-track-requires c κs = search needs
 
 enum-known-separated-2 : tie.Need-enum-known-separated-2
 enum-known-separated-2 c = search needs
@@ -45,8 +36,9 @@ same-length c = search needs
 
 returns : tie.Need-returns
 returns c =
-    let s = c .before .before .before .before .before .before .before .before .before .before .separate-revolution .ensures in
-    cells-written _ _ _ _ _ (c .before .before .before .before .before .before .before .before .before .before .before .before .before .room-for-cells .ensures) (c .before .before .before .before .before .before .before .separated .given .1) (s .0) _ (s .1 .1 .0) (s .1 .0) (c .before .before .before .before .before .before .before .before .before .before .before .before .before .before .before .before .args .out .now) (c .before .before .list-flux-track .ensures)
+    let b = c .before .before .before .before .before .before in
+    let s = b .before .before .before .separate-revolution .ensures in
+    cells-written _ _ _ _ _ (b .before .before .before .before .before .before .room-for-cells .ensures) (b .separated .given .1) (s .0) (s .1 .0) (b .before .before .before .before .before .before .before .before .before .args .out .now) (c .before .before .list-track .ensures)
 
 same-length-2 : tie.Need-same-length-2
 same-length-2 c = search needs
@@ -64,9 +56,8 @@ list-block-spec =
     slice-aggregate-separate-revolution
     separate-revolution-requires
     enum-known-separated
-    slice-aggregate-list-flux-track
-    cast-list-flux-track
-    list-flux-track-requires
+    slice-aggregate-list-track
+    list-track-requires
     enum-known-separated-2
     number-requires
     refused-line-requires

@@ -7,9 +7,6 @@ use Rattle.file_listing.proofs.list_file.Tie as tie
 finish-requires : tie.Need-finish-requires
 finish-requires c κs = search needs
 
-border-pulses-requires : tie.Need-border-pulses-requires
-border-pulses-requires c κs = search needs
-
 list-read-requires : tie.Need-list-read-requires
 list-read-requires c κs = search needs
 
@@ -18,10 +15,9 @@ same-length c = search needs
 
 returns : tie.Need-returns
 returns c =
-    let counted = c .before .before .before .before .border-pulses .ensures in
-    let finish = c .before .before .before .before .before .finish .ensures in
-    told-file _ _ _ _ _ _ _ (finish .1) (counted .1) (c .before .before .list-read .ensures) _ _ (finish .0) (counted .0)
+    let finish = c .before .before .before .before .finish .ensures in
+    told-file _ _ _ _ _ _ (finish .1) (c .before .before .list-read .ensures) _ (finish .0)
 
 pub list-file-spec : {M : Type 1} → statement M
 list-file-spec =
-    tie.close (tie.spec finish-requires border-pulses-requires list-read-requires same-length returns)
+    tie.close (tie.spec finish-requires list-read-requires same-length returns)

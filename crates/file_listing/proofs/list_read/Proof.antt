@@ -8,14 +8,14 @@ use Rattle.file_listing.proofs.list_read.Tie as tie
 enum-known-read : tie.Need-enum-known-read
 enum-known-read c = search needs
 
-cast-list-cells : tie.Need-cast-list-cells
-cast-list-cells c = search needs
+cast-list-track : tie.Need-cast-list-track
+cast-list-track c = search needs
 
-cast-list-cells-2 : tie.Need-cast-list-cells-2
-cast-list-cells-2 c = search needs
+cast-list-track-2 : tie.Need-cast-list-track-2
+cast-list-track-2 c = search needs
 
-list-cells-requires : tie.Need-list-cells-requires
-list-cells-requires c κs = search needs
+list-track-requires : tie.Need-list-track-requires
+list-track-requires c κs = search needs
 
 enum-known-read-2 : tie.Need-enum-known-read-2
 enum-known-read-2 c = search needs
@@ -33,7 +33,7 @@ returns : tie.Need-returns
 returns c =
     let a = c .before .before .before .before .before .before .before .before .before .args in
     let v = c .before .before .before .before .before .read .given in
-    told-cells (now (a .out)) _ _ (now (a .cells)) (a .read) (a .pulses) _ _ _ (v .1) (c .before .before .list-cells .ensures)
+    told-cells (now (a .out)) _ _ (now (a .cells)) (a .read) _ _ _ (v .1) (c .before .before .list-track .ensures)
 
 same-length-2 : tie.Need-same-length-2
 same-length-2 c = search needs
@@ -42,16 +42,16 @@ returns-2 : tie.Need-returns-2
 returns-2 c =
     let a = c .before .before .before .before .before .before .before .before .before .before .args in
     let v = c .before .before .before .before .before .before .read2 .given in
-    told-refusal (now (a .out)) _ _ (now (a .cells)) (a .read) (a .pulses) (v .0 .0) _ (v .1) (c .before .before .before .number .ensures) (c .before .before .before .number .ok) (c .before .before .refused-line .ensures)
+    told-refusal (now (a .out)) _ _ (now (a .cells)) (a .read) (v .0 .0) _ (v .1) (c .before .before .before .number .ensures) (c .before .before .before .number .ok) (c .before .before .refused-line .ensures)
 
 pub list-read-spec : {M : Type 1} → statement M
 list-read-spec =
     tie.close
     (tie.spec
     enum-known-read
-    cast-list-cells
-    cast-list-cells-2
-    list-cells-requires
+    cast-list-track
+    cast-list-track-2
+    list-track-requires
     enum-known-read-2
     number-requires
     refused-line-requires

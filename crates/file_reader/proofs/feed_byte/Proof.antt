@@ -1,5 +1,5 @@
 -- `file_reader::feed_byte` meets its contract. Assumes nothing.
-use Rattle.file_reader.proofs.Bytes.{place-count-read, track-read, side-read, cell-count-read, packed-byte-read, flux-count-read, timing-read, left-over-cells, left-over-timings, still-no-file, still-stopped}
+use Rattle.file_reader.proofs.Bytes.{place-count-read, track-read, side-read, cell-count-read, packed-byte-read, flux-count-read, left-over-cells, still-no-file, still-stopped}
 use borrow.Author.Needs.{needs}
 use Rattle.file_reader.proofs.feed_byte.Statement.{statement}
 use Rattle.file_reader.proofs.feed_byte.Tie as tie
@@ -46,26 +46,14 @@ extend-requires-3 c κs = search needs
 in-flux-count-requires : tie.Need-in-flux-count-requires
 in-flux-count-requires c κs = search needs
 
-enum-known-reader-6 : tie.Need-enum-known-reader-6
-enum-known-reader-6 c = search needs
-
-extend-requires-4 : tie.Need-extend-requires-4
-extend-requires-4 c κs = search needs
-
-in-timing-requires : tie.Need-in-timing-requires
-in-timing-requires c κs = search needs
-
 enum-told-2 : tie.Need-enum-told-2
 enum-told-2 c = search needs
 
 enum-told-3 : tie.Need-enum-told-3
 enum-told-3 c = search needs
 
-enum-told-4 : tie.Need-enum-told-4
-enum-told-4 c = search needs
-
-enum-known-reader-7 : tie.Need-enum-known-reader-7
-enum-known-reader-7 c = search needs
+enum-known-reader-6 : tie.Need-enum-known-reader-6
+enum-known-reader-6 c = search needs
 
 returns : tie.Need-returns
 returns c = place-count-read _ _ _ (c .before .extend .ensures) (c .before .before .before .reader .given .1) (c .in-place-count .ensures)
@@ -88,23 +76,14 @@ returns-5 c = packed-byte-read _ _ _ (c .before .before .before .before .before 
 returns-6 : tie.Need-returns-6
 returns-6 c = flux-count-read _ _ _ (c .before .extend3 .ensures) (c .before .before .before .reader5 .given .1) (c .in-flux-count .ensures)
 
-same-length-2 : tie.Need-same-length-2
-same-length-2 c = search needs
-
 returns-7 : tie.Need-returns-7
-returns-7 c = timing-read _ _ _ (c .before .before .before .before .extend4 .ensures) (c .before .before .before .before .before .before .reader6 .given .1) (c .before .before .in-timing .ensures)
+returns-7 c = left-over-cells _ _ _ (c .enum-told2 .given .1)
 
 returns-8 : tie.Need-returns-8
-returns-8 c = left-over-cells _ _ _ (c .enum-told2 .given .1)
+returns-8 c = still-no-file _ _ _ (c .enum-told3 .given .1)
 
 returns-9 : tie.Need-returns-9
-returns-9 c = left-over-timings _ _ _ (c .enum-told3 .given .1)
-
-returns-10 : tie.Need-returns-10
-returns-10 c = still-no-file _ _ _ (c .enum-told4 .given .1)
-
-returns-11 : tie.Need-returns-11
-returns-11 c = still-stopped _ _ _ (c .before .reader7 .given .1)
+returns-9 c = still-stopped _ _ _ (c .before .reader6 .given .1)
 
 pub feed-byte-spec : {M : Type 1} → statement M
 feed-byte-spec =
@@ -124,13 +103,9 @@ feed-byte-spec =
     enum-known-reader-5
     extend-requires-3
     in-flux-count-requires
-    enum-known-reader-6
-    extend-requires-4
-    in-timing-requires
     enum-told-2
     enum-told-3
-    enum-told-4
-    enum-known-reader-7
+    enum-known-reader-6
     returns
     returns-2
     returns-3
@@ -138,9 +113,6 @@ feed-byte-spec =
     same-length
     returns-5
     returns-6
-    same-length-2
     returns-7
     returns-8
-    returns-9
-    returns-10
-    returns-11)
+    returns-9)

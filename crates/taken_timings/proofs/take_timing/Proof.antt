@@ -1,7 +1,5 @@
 -- `taken_timings::take_timing` meets its contract. Assumes nothing.
 use Rattle.taken_timings.proofs.Steps.{timing-in-range, timing-out-of-range, timing-after-one}
-use mathlib.Core.Path.{_∙_}
-use mir.Facts.{toZ-ofZ}
 use borrow.Author.Needs.{needs}
 use Rattle.taken_timings.proofs.take_timing.Statement.{statement}
 use Rattle.taken_timings.proofs.take_timing.Tie as tie
@@ -24,9 +22,6 @@ add-count-requires c κs = search needs
 add-count-requires-2 : tie.Need-add-count-requires-2
 add-count-requires-2 c κs = search needs
 
-add-pulse-requires : tie.Need-add-pulse-requires
-add-pulse-requires c κs = search needs
-
 enum-told : tie.Need-enum-told
 enum-told c = search needs
 
@@ -38,13 +33,12 @@ same-length c = search needs
 
 returns : tie.Need-returns
 returns c =
-    let s = c .before .before .before .before .before .before .before .before .before .before .before .before .before .step .ensures in
-    let e = toZ-ofZ (record { sfits = c .before .before .before .before .before .before .before .before .before .before .before .struct-told .given .1 .0 .1 }) ∙ s .1 .0 in
-    timing-in-range _ _ _ (c .before .before .before .before .before .before .before .before .before .before .before .before .before .before .before .taken .given .1) (s .0) (c .before .before .before .before .before .before .before .before .answer .given .1) (s .1 .1) e (c .before .before .add-count .ensures) (c .before .add-count2 .ensures) (c .add-pulse .ensures)
-    (c .before .before .before .before .before .put-cells .ensures)
+    let s = c .before .before .before .before .before .before .before .before .before .before .before .step .ensures in
+    timing-in-range _ _ _ (c .before .before .before .before .before .before .before .before .before .before .before .before .before .taken .given .1) (s .0) (c .before .before .before .before .before .before .before .answer .given .1) (s .1 .1) (c .before .add-count .ensures) (c .add-count2 .ensures)
+    (c .before .before .before .before .put-cells .ensures)
 
 returns-2 : tie.Need-returns-2
-returns-2 c = timing-out-of-range _ _ _ (c .before .before .before .before .before .before .before .taken .given .1) (c .before .before .before .before .before .step .ensures .0) (c .enum-told .given .1)
+returns-2 c = timing-out-of-range _ _ _ (c .before .before .before .before .before .before .taken .given .1) (c .before .before .before .before .step .ensures .0) (c .enum-told .given .1)
 
 returns-3 : tie.Need-returns-3
 returns-3 c = timing-after-one _ _ _ (c .before .taken2 .given .1)
@@ -59,7 +53,6 @@ take-timing-spec =
     put-cells-requires
     add-count-requires
     add-count-requires-2
-    add-pulse-requires
     enum-told
     enum-known-taken-2
     same-length

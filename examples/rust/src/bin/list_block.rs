@@ -16,14 +16,7 @@ fn main() -> io::Result<()> {
     let mut block = Vec::new();
     io::stdin().read_to_end(&mut block)?;
     let listing = match TrackBlock::new(&block, revolutions.into()).cells(revolution.into()) {
-        Ok(cells) => {
-            let mut listing = cells.track(track.into(), side.into()).listing();
-            // A track that is refused has no line of border pulses.
-            if !listing.starts_with("refused") {
-                listing += &format!("FAA {}\n", cells.border_pulses);
-            }
-            listing
-        }
+        Ok(cells) => cells.track(track.into(), side.into()).listing(),
         Err(refusal) => format!("refused {}\n", refusal.number()),
     };
     io::stdout().write_all(listing.as_bytes())

@@ -7,9 +7,6 @@ use std::error::Error;
 use std::io::{self, Write};
 use thikbromu::{Density, Refusal, Track, TrackFile};
 
-/// Where the file has its number of cells, which is 0 where it has timings instead.
-const CELL_COUNT: std::ops::Range<usize> = 6..10;
-
 fn listing_of(track: Track) -> Result<String, Refusal> {
     let read = track.in_density(Density::Single);
     let (sectors, findings) = (read.sector_count()?, read.findings()?);
@@ -23,12 +20,7 @@ fn listing_of(track: Track) -> Result<String, Refusal> {
 
 fn main() -> Result<(), Box<dyn Error>> {
     let file = TrackFile::read_from(io::stdin().lock())?;
-    let listing = match file.cells() {
-        // Timings have become cells of double density here. `separate_in_density` would make those of single density.
-        Ok(_) if file.bytes()[CELL_COUNT] == [0; 4] => return Err("a file of timings, not of cells".into()),
-        Ok(read) => listing_of(read.track()),
-        Err(refusal) => Err(refusal),
-    };
+    let listing = file.cells().and_then(|read| listing_of(read.track()));
     let listing = listing.unwrap_or_else(|refusal| format!("refused {}\n", refusal.number()));
     Ok(io::stdout().write_all(listing.as_bytes())?)
 }

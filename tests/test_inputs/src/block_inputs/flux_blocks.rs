@@ -151,7 +151,7 @@ pub(super) fn odd_tracks() -> Vec<BlockCase> {
 #[cfg(test)]
 mod tests {
     use super::*;
-    use crate::file_inputs::listing_without_border_pulses;
+    use crate::file_inputs::listing_of_track;
     use second_program::cells;
     use second_program::separator::separate;
     use second_program::track_block::{printed, revolution_cells, revolution_timings};
@@ -201,12 +201,12 @@ mod tests {
             for revolution in 0..3 {
                 assert_eq!(
                     printed(&block, 3, revolution, track, side),
-                    listing_without_border_pulses(track, side, &standard)
+                    listing_of_track(track, side, &standard)
                 );
                 // Elsewhere the sectors' places are printed, which lie two cells on.
                 assert_eq!(
                     printed(&block, 3, revolution, 80, 1),
-                    listing_without_border_pulses(80, 1, &turned)
+                    listing_of_track(80, 1, &turned)
                 );
                 let separation = revolution_cells(&block, 3, revolution.into(), 12_500).unwrap();
                 assert_eq!(
@@ -224,7 +224,7 @@ mod tests {
         let block = standard_track_block(6, 0, 0, 0xE5, 1).bytes();
         assert_eq!(
             printed(&block, 1, 0, 0, 0),
-            b"T00 H0 cells 100000 sectors 9 findings 0\nFAA 0\n"
+            b"T00 H0 cells 100000 sectors 9 findings 0\n"
         );
     }
 }

@@ -240,14 +240,14 @@ pub(super) fn odd_tracks() -> Vec<BlockCase> {
 #[cfg(test)]
 mod tests {
     use super::*;
-    use crate::file_inputs::listing_without_border_pulses;
+    use crate::file_inputs::listing_of_track;
     use second_program::cells;
     use second_program::track_block::{printed, revolution_cells, revolution_timings};
 
     /// The timings of a revolution of a plan.
     fn timings_of(plan: &BlockPlan, revolution: u32) -> Vec<u32> {
         let answer = revolution_timings(&plan.bytes(), plan.revolutions(), revolution, usize::MAX);
-        answer.unwrap().1
+        answer.unwrap().timings
     }
 
     #[test]
@@ -344,7 +344,7 @@ mod tests {
     #[test]
     fn between_sectors_the_index_brings_no_finding() {
         let track_cells = standard_track(5, 0, 0xE5);
-        let clean = "T05 H0 cells 100000 sectors 9 findings 0\nFAA 0\n";
+        let clean = "T05 H0 cells 100000 sectors 9 findings 0\n";
         for (index_cells, is_clean) in [(&BETWEEN_SECTORS[..], true), (&IN_A_SECTOR, false)] {
             for &index_cell in index_cells {
                 let sampling = Sampling {
@@ -357,7 +357,7 @@ mod tests {
                 let listed = printed(&block, 2, 1, 5, 0);
                 assert_eq!(listed == clean.as_bytes(), is_clean, "{index_cell}");
                 let whole = sampling.whole_revolution(&track_cells);
-                assert_eq!(listed, listing_without_border_pulses(5, 0, &whole));
+                assert_eq!(listed, listing_of_track(5, 0, &whole));
             }
         }
     }

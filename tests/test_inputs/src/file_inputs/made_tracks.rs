@@ -1,27 +1,48 @@
 //! Files of made tracks: those of rule 11.10, and tracks just inside and just outside the
 //! rules of the findings.
 
-use super::{FilePlan, Files, NamedFile};
+use super::{files_of_tracks, FilePlan, Files, NamedFile};
 use crate::track_builder::{
     filled, nine_sectors, standard_track, turn, SectorPlan, TrackBuilder, STANDARD_TRACK_CELLS,
 };
 use second_program::cells;
 
-/// The four tracks of rule 11.10 as cells, and again as timings.
-pub(super) fn known_listings() -> Vec<NamedFile> {
+/// A track and its place.
+pub(crate) struct MadeTrack {
+    /// What the track tries, in a few words.
+    pub name: String,
+    /// T.
+    pub drive_track: u8,
+    /// H.
+    pub drive_side: u8,
+    /// Its cells, one to an element.
+    pub cells: Vec<u8>,
+}
+
+fn made(name: impl Into<String>, place: (u8, u8), cells: Vec<u8>) -> MadeTrack {
+    MadeTrack {
+        name: name.into(),
+        drive_track: place.0,
+        drive_side: place.1,
+        cells,
+    }
+}
+
+/// The four tracks of rule 11.10.
+pub(crate) fn known_tracks() -> Vec<MadeTrack> {
     let every_second = [1, 0].repeat(STANDARD_TRACK_CELLS / 2);
     let zeros = vec![0; STANDARD_TRACK_CELLS];
     let standard = standard_track(0, 0, 0xE5);
-    let mut files = Files::default();
-    for (name, drive_track, track_cells) in [
-        ("all bytes AA at T 5", 5, &every_second),
-        ("all bytes AA at T 80", 80, &every_second),
-        ("the standard track at T 0", 0, &standard),
-        ("all zero cells at T 80", 80, &zeros),
-    ] {
-        files.add_track(name, drive_track, 0, track_cells);
-    }
-    files.0
+    vec![
+        made("all bytes AA at T 5", (5, 0), every_second.clone()),
+        made("all bytes AA at T 80", (80, 0), every_second),
+        made("the standard track at T 0", (0, 0), standard),
+        made("all zero cells at T 80", (80, 0), zeros),
+    ]
+}
+
+pub(super) fn known_listings() -> Vec<NamedFile> {
+    files_of_tracks(known_tracks())
 }
 
 /// 2 for fewer cells than 20,000; LGT and SHT; the most cells; and cells of one kind.
@@ -99,7 +120,7 @@ pub(super) fn bits_past_the_cells() -> Vec<NamedFile> {
 
 /// A track of n cells with so many IDs, each wrong in the bits of the check given, and
 /// without data.
-pub(super) fn ids_on(count: usize, n: usize, check_error: u16) -> Vec<u8> {
+pub fn ids_on(count: usize, n: usize, check_error: u16) -> Vec<u8> {
     let mut builder = TrackBuilder::new();
     for number in 0..count {
         builder.write_repeated(0x00, 12);
@@ -121,16 +142,17 @@ fn sectors_full_of_findings(count: usize, n: usize) -> Vec<u8> {
     filled(builder.cells().to_vec(), n)
 }
 
-/// 4, and as many findings as the program may have to print.
-pub(super) fn many_sectors() -> Vec<NamedFile> {
-    let mut files = Files::default();
+/// Tracks with up to 300 sectors, which are refused with 4 above 64, and with as many
+/// findings as the program may have to print.
+pub(crate) fn crowded_tracks() -> Vec<MadeTrack> {
+    let mut tracks = Vec::new();
     for count in [0, 1, 2, 8, 9, 10, 11, 63, 64, 65, 66, 100, 300] {
         for drive_track in [5, 80, 84] {
             for check_error in [0, 1] {
                 let track_cells = ids_on(count, 110_000, check_error);
                 let check = if check_error == 0 { "good" } else { "bad" };
                 let name = format!("{count} IDs with {check} checks at T {drive_track}");
-                files.add_track(&name, drive_track, 1, &track_cells);
+                tracks.push(made(name, (drive_track, 1), track_cells));
             }
         }
     }
@@ -138,10 +160,14 @@ pub(super) fn many_sectors() -> Vec<NamedFile> {
         for by in [0, 500, 100_000] {
             let track_cells = turn(&sectors_full_of_findings(count, 104_000), by);
             let name = format!("{count} sectors full of findings, turned by {by}");
-            files.add_track(&name, 83, 1, &track_cells);
+            tracks.push(made(name, (83, 1), track_cells));
         }
     }
-    files.0
+    tracks
+}
+
+pub(super) fn many_sectors() -> Vec<NamedFile> {
+    files_of_tracks(crowded_tracks())
 }
 
 /// A standard track at T 5 whose fourth sector is changed.
@@ -216,15 +242,12 @@ fn overwritten(place: usize, written: &[u8]) -> Vec<u8> {
 }
 
 /// Tracks just inside and just outside the rules of the findings.
-fn tracks_at_the_rules() -> Vec<(String, u8, Vec<u8>)> {
+pub(crate) fn tracks_at_the_rules() -> Vec<MadeTrack> {
     let mut tracks = Vec::new();
     for (what, change, values) in CHANGES {
         for &value in values {
-            tracks.push((
-                format!("{what} {value}"),
-                5,
-                one_odd_sector(|plan| change(plan, value)),
-            ));
+            let track_cells = one_odd_sector(|plan| change(plan, value));
+            tracks.push(made(format!("{what} {value}"), (5, 0), track_cells));
         }
     }
     // DOI and DBI: the data's end, its mark, and the ID round the index.
@@ -236,7 +259,7 @@ fn tracks_at_the_rules() -> Vec<(String, u8, Vec<u8>)> {
         for off in [-33, -17, -2, -1, 0, 1, 2, 17, 33] {
             let by = (STANDARD_TRACK_CELLS - place).wrapping_add_signed(off);
             let name = format!("the {what} {off} after the index");
-            tracks.push((name, 0, turn(&standard, by)));
+            tracks.push(made(name, (0, 0), turn(&standard, by)));
         }
     }
     // SID: a sync round each end of the ID and of the data.
@@ -251,7 +274,7 @@ fn tracks_at_the_rules() -> Vec<(String, u8, Vec<u8>)> {
         for off in [-2, -1, 0, 1, 2] {
             let name = format!("a sync {off} from the {what}");
             let at = place.wrapping_add_signed(off);
-            tracks.push((name, 0, overwritten(at, sync.cells())));
+            tracks.push(made(name, (0, 0), overwritten(at, sync.cells())));
         }
     }
     // SWS: an ID at the start and round the end of the data, also where the data goes
@@ -266,10 +289,10 @@ fn tracks_at_the_rules() -> Vec<(String, u8, Vec<u8>)> {
             STANDARD_TRACK_CELLS - place + 1,
         ] {
             let name = format!("an ID {} after the data mark, turned by {by}", place - q);
-            tracks.push((name, 0, turn(&track_cells, by)));
+            tracks.push(made(name, (0, 0), turn(&track_cells, by)));
         }
         let name = format!("an ID {} after the data mark", place - q);
-        tracks.push((name, 0, track_cells));
+        tracks.push(made(name, (0, 0), track_cells));
     }
     // MTV: distances of ones; NFA: runs of zeros, of which one goes over the index.
     let every_fourth = [1, 0, 0, 0].repeat(STANDARD_TRACK_CELLS / 4);
@@ -279,7 +302,7 @@ fn tracks_at_the_rules() -> Vec<(String, u8, Vec<u8>)> {
             *cell = 0;
         }
         track_cells[50_000 + distance] = 1;
-        tracks.push((format!("ones {distance} apart"), 5, track_cells));
+        tracks.push(made(format!("ones {distance} apart"), (5, 0), track_cells));
     }
     for (first, second) in [
         (998, 998),
@@ -297,7 +320,7 @@ fn tracks_at_the_rules() -> Vec<(String, u8, Vec<u8>)> {
             track_cells[(start + length) % STANDARD_TRACK_CELLS] = 1;
         }
         let name = format!("runs of {first} and {second} zeros");
-        tracks.push((name, 5, track_cells));
+        tracks.push(made(name, (5, 0), track_cells));
     }
     for ones in [
         vec![0],
@@ -310,16 +333,15 @@ fn tracks_at_the_rules() -> Vec<(String, u8, Vec<u8>)> {
         for &place in &ones {
             track_cells[place] = 1;
         }
-        tracks.push((format!("ones at {ones:?} alone"), 80, track_cells));
+        tracks.push(made(
+            format!("ones at {ones:?} alone"),
+            (80, 0),
+            track_cells,
+        ));
     }
     tracks
 }
 
-/// The tracks at the rules of findings as cells, and as timings.
 pub(super) fn findings_at_their_rules() -> Vec<NamedFile> {
-    let mut files = Files::default();
-    for (name, drive_track, track_cells) in tracks_at_the_rules() {
-        files.add_track(&name, drive_track, 0, &track_cells);
-    }
-    files.0
+    files_of_tracks(tracks_at_the_rules())
 }

@@ -1,9 +1,9 @@
 //! Files made at random, each by its seed: odd tracks, mixed mistakes, changed bytes,
 //! any bytes.
 
+use super::made_tracks::MadeTrack;
 use super::refused_files::{short_files, timings_of_count, LONGEST, TOO_LONG};
-use super::{file_of_cells, file_of_timings, named, FilePlan, NamedFile};
-use crate::flux_inputs::timings_of_cells;
+use super::{file_of_cells, named, FilePlan, NamedFile};
 use crate::random::Random;
 use crate::track_builder::{filled, odd_sector, odd_track, turn, TrackBuilder};
 
@@ -46,37 +46,31 @@ fn short_odd_track(random: &mut Random, drive_track: u8) -> Vec<u8> {
     turn(&track_cells, by)
 }
 
-/// The timings of cells, each some nanoseconds off: most keep their cells.
-fn shifted_timings(random: &mut Random, track_cells: &[u8]) -> Vec<u32> {
-    let most = [0, 100, 400, 700][random.below(4) as usize];
-    timings_of_cells(track_cells)
-        .into_iter()
-        .map(|timing| timing.saturating_add_signed(random.between(-most, most) as i32))
-        .collect()
-}
-
-/// A file of an odd track: short or of a real size, as cells or as timings.
-pub fn odd_file(seed: u64) -> NamedFile {
-    let mut random = Random::new(seed);
+/// A track at any place of a drive: one in eight of a real size, the others short.
+pub(crate) fn odd_made_track(random: &mut Random) -> MadeTrack {
     let drive_track = random.below(84) as u8;
     let drive_side = random.below(2) as u8;
     let real_size = random.one_in(8);
-    let track_cells = if real_size {
-        odd_track(&mut random, drive_track)
+    let cells = if real_size {
+        odd_track(random, drive_track)
     } else {
-        short_odd_track(&mut random, drive_track)
+        short_odd_track(random, drive_track)
     };
     let size = if real_size { "whole" } else { "short" };
-    if random.one_in(3) {
-        let timings = shifted_timings(&mut random, &track_cells);
-        return named(
-            format!("{size} odd track of seed {seed} as timings"),
-            file_of_timings(drive_track, drive_side, &timings),
-        );
+    MadeTrack {
+        name: format!("{size} odd track"),
+        drive_track,
+        drive_side,
+        cells,
     }
+}
+
+/// A file of an odd track.
+pub fn odd_file(seed: u64) -> NamedFile {
+    let track = odd_made_track(&mut Random::new(seed));
     named(
-        format!("{size} odd track of seed {seed}"),
-        file_of_cells(drive_track, drive_side, &track_cells),
+        format!("{} of seed {seed}", track.name),
+        file_of_cells(track.drive_track, track.drive_side, &track.cells),
     )
 }
 
@@ -93,7 +87,7 @@ fn odd_count(random: &mut Random) -> u32 {
 }
 
 /// A timing at a limit, near a half cell, or any.
-fn odd_timing(random: &mut Random) -> u32 {
+pub(crate) fn odd_timing(random: &mut Random) -> u32 {
     match random.below(8) {
         0 => [0, 1, LONGEST, TOO_LONG, u32::MAX][random.below(5) as usize],
         1 => random.next_number() as u32,

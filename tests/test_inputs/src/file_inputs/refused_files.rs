@@ -8,13 +8,16 @@ use crate::track_builder::standard_track;
 use second_program::cells;
 
 /// The longest timing that is in range: 5,000 cells where r is 0.
-pub(super) const LONGEST: u32 = 10_000_000;
+pub(crate) const LONGEST: u32 = 10_000_000;
 /// The shortest of the timings that are too long.
-pub(super) const TOO_LONG: u32 = 10_000_001;
+pub(crate) const TOO_LONG: u32 = 10_000_001;
 
-/// Four timings that make the fewest cells of a track, 20,000: the shortest file that
-/// is not refused.
-fn four_timings() -> Vec<u32> {
+/// Tracks and sides at and past their limits.
+pub(crate) const TRACKS: [u8; 14] = [0, 1, 9, 10, 79, 80, 82, 83, 84, 85, 100, 127, 128, 255];
+pub(crate) const SIDES: [u8; 7] = [0, 1, 2, 3, 127, 128, 255];
+
+/// Four timings that make the fewest cells of a track, 20,000.
+pub(crate) fn four_timings() -> Vec<u32> {
     vec![LONGEST; 4]
 }
 
@@ -24,7 +27,7 @@ fn fewest_cells() -> Vec<u8> {
 }
 
 /// 15 at once: place counts that are not 2, whatever follows.
-pub(super) fn place_counts() -> Vec<NamedFile> {
+pub(crate) fn place_counts() -> Vec<NamedFile> {
     let mut files = Files::default();
     // Also those whose lowest byte is 2, and 2 with its high byte first.
     for count in [0, 1, 3, 4, 0x102, 0x1_0002, 0x0200_0000, u32::MAX] {
@@ -53,7 +56,7 @@ pub(super) fn place_counts() -> Vec<NamedFile> {
 }
 
 /// 2 at once: cell counts at and above 131,072, whatever follows.
-pub(super) fn cell_counts() -> Vec<NamedFile> {
+pub(crate) fn cell_counts() -> Vec<NamedFile> {
     let mut files = Files::default();
     for count in [
         131_071,
@@ -93,12 +96,22 @@ pub(super) fn cell_counts() -> Vec<NamedFile> {
     files.0
 }
 
-/// 7 at once: flux counts at and above 65,536, whatever follows, after no cells and
-/// after some.
-pub(super) fn flux_counts() -> Vec<NamedFile> {
+/// 23 at once: flux counts other than 0, whatever follows, after no cells and after some. Of
+/// old files they are at the limit of 7.
+pub(crate) fn flux_counts() -> Vec<NamedFile> {
     let mut files = Files::default();
-    for count in [65_535, 65_536, 65_537, 0x1_0100, 1 << 24, 1 << 31, u32::MAX] {
-        for n in [0, 1, 8, 9, 20_000] {
+    for count in [
+        1,
+        1 << 8,
+        65_535,
+        65_536,
+        65_537,
+        0x1_0100,
+        1 << 24,
+        1 << 31,
+        u32::MAX,
+    ] {
+        for n in [0, 1, 8, 9, 20_000, 131_072] {
             for drive_track in [79, 84] {
                 let packed = vec![0xAA; cells::bytes_needed(n)];
                 let mut plan = FilePlan::of_cells(drive_track, 1, n, &packed);
@@ -131,9 +144,9 @@ pub(super) fn flux_counts() -> Vec<NamedFile> {
     files.0
 }
 
-/// 15 where cells and timings both stand in the file, or none of them does (rule 10.7). It
-/// goes before every refusal that is not given at once.
-pub(super) fn two_counts_or_none() -> Vec<NamedFile> {
+/// Cells and timings both in the file, which is 23 at once, or neither of them, which is 15
+/// (rule 10.7) and goes before every refusal that is not given at once.
+pub(crate) fn two_counts_or_none() -> Vec<NamedFile> {
     let mut files = Files::default();
     for n in [1, 8, 9, 19_999, 20_000, 131_072] {
         for timings in [
@@ -280,102 +293,8 @@ pub(super) fn left_over_bytes() -> Vec<NamedFile> {
     files.0
 }
 
-/// 8: timings in and out of their range at the first, a middle and the last place of
-/// lists that would be accepted, or refused with 1, 2 or 9. Each also with 15.
-pub(super) fn timings_at_their_limits() -> Vec<NamedFile> {
-    let mut files = Files::default();
-    for (list, timings) in [
-        ("one", vec![LONGEST]),
-        ("three of two cells", vec![4_000; 3]),
-        ("six of 5,000 cells", vec![LONGEST; 6]),
-        ("30 of 5,000 cells", vec![LONGEST; 30]),
-    ] {
-        for value in [
-            0,
-            1,
-            2,
-            999,
-            1_000,
-            1_001,
-            2_999,
-            3_000,
-            LONGEST - 1,
-            LONGEST,
-            TOO_LONG,
-            1 << 24,
-            1 << 31,
-            u32::MAX,
-        ] {
-            let mut indexes = vec![0, timings.len() / 2, timings.len() - 1];
-            indexes.dedup();
-            for index in indexes {
-                for drive_track in [5, 84] {
-                    let mut changed = timings.clone();
-                    changed[index] = value;
-                    let name = format!(
-                        "timings: {list}, number {index} being {value}, at T {drive_track}"
-                    );
-                    let file = file_of_timings(drive_track, 0, &changed);
-                    let mut longer = file.clone();
-                    longer.push(0);
-                    let shorter = cut(&file, file.len() - 1);
-                    files.add(name.clone(), file);
-                    files.add(format!("{name}, one byte more"), longer);
-                    files.add(format!("{name}, one byte missing"), shorter);
-                }
-            }
-        }
-    }
-    // The last of the most timings; and two that are out of range.
-    for value in [0, TOO_LONG] {
-        let mut most = vec![1_000; 65_536];
-        most[65_535] = value;
-        let name = format!("65,536 timings, the last being {value}");
-        files.add(name, file_of_timings(5, 0, &most));
-        most[3] = value;
-        let name = format!("65,536 timings, the fourth and the last being {value}");
-        files.add(name, file_of_timings(5, 0, &most));
-    }
-    files.0
-}
-
-/// The rows of rule 3.13, alone and after and before 20,000 cells that make the track long
-/// enough.
-pub(super) fn separator_rows() -> Vec<NamedFile> {
-    let mut files = Files::default();
-    for row in [
-        vec![4_900, 4_000],
-        vec![4_999],
-        vec![5_000, 5_000],
-        vec![5_001],
-        vec![500, 3_500],
-        vec![10_000_000],
-        // Where 5,001 left -500 instead of -499, 1,499 would make no cell.
-        vec![5_001, 1_499],
-        vec![5_001, 1_500],
-        vec![999, 501],
-        vec![999, 500],
-    ] {
-        let name = format!("timings {row:?}");
-        files.add(name.clone(), file_of_timings(5, 1, &row));
-        let mut after = four_timings();
-        after.extend(&row);
-        files.add(
-            format!("{name} after 20,000 cells"),
-            file_of_timings(5, 1, &after),
-        );
-        let mut before = row.clone();
-        before.extend(four_timings());
-        files.add(
-            format!("{name} before 20,000 cells"),
-            file_of_timings(5, 1, &before),
-        );
-    }
-    files.0
-}
-
 /// Timings without residuals that make so many cells in all.
-pub(super) fn timings_of_count(cells_in_all: u32) -> Vec<u32> {
+pub(crate) fn timings_of_count(cells_in_all: u32) -> Vec<u32> {
     let mut timings = vec![LONGEST; (cells_in_all / 5_000) as usize];
     let rest = cells_in_all % 5_000;
     if rest > 0 {
@@ -384,80 +303,20 @@ pub(super) fn timings_of_count(cells_in_all: u32) -> Vec<u32> {
     timings
 }
 
-/// 9: cells in all at and above 131,072; 2: below 20,000. Also followed by timings
-/// that make no cell, that make one, and that are out of range.
-pub(super) fn cells_in_all() -> Vec<NamedFile> {
-    let mut files = Files::default();
-    for count in [
-        1, 19_998, 19_999, 20_000, 131_071, 131_072, 131_073, 131_080, 262_144, 1_000_000,
-    ] {
-        for (what, added) in [
-            ("", vec![]),
-            (", then no cell", vec![999]),
-            (", then a cell", vec![1_000]),
-            (", then a timing 0", vec![0]),
-            (", then one too long", vec![TOO_LONG]),
-            (", then 30 of 5,000 cells and a timing 0", {
-                let mut added = vec![LONGEST; 30];
-                added.push(0);
-                added
-            }),
-        ] {
-            for drive_track in [80, 84] {
-                let mut timings = timings_of_count(count);
-                timings.extend(&added);
-                let name = format!("{count} cells in all at T {drive_track}{what}");
-                let file = file_of_timings(drive_track, 0, &timings);
-                let shorter = cut(&file, file.len() - 1);
-                files.add(name.clone(), file);
-                files.add(format!("{name}, one byte missing"), shorter);
-            }
-        }
-    }
-    // The most timings: no cell at all; as many cells as fit, and one and two more; the
-    // most cells that can be.
-    for (timing, last) in [
-        (1, 1),
-        (4_000, 3_999),
-        (4_000, 4_000),
-        (4_000, 6_000),
-        (4_000, 8_000),
-        (LONGEST, LONGEST),
-    ] {
-        let mut timings = vec![timing; 65_536];
-        timings[65_535] = last;
-        let name = format!("65,535 timings {timing} and one {last}");
-        files.add(name, file_of_timings(80, 0, &timings));
-    }
-    files.0
-}
-
-/// 1, and that it goes after 8 and 9 and before 2 and 4; T and H of the header.
+/// 1, and that it goes before 2 and 4; T and H of the header.
 pub(super) fn drive_places() -> Vec<NamedFile> {
     let mut files = Files::default();
     let standard = standard_track(0, 0, 0xE5);
-    for drive_track in [0, 1, 9, 10, 79, 80, 82, 83, 84, 85, 100, 127, 128, 255] {
-        for drive_side in [0, 1, 2, 3, 127, 128, 255] {
-            let place = format!("T {drive_track}, H {drive_side}");
+    for drive_track in TRACKS {
+        for drive_side in SIDES {
             for (what, track_cells) in [
                 ("20,000 cells", fewest_cells()),
                 ("19,999 cells", vec![1; 19_999]),
                 ("65 sectors", ids_on(65, 25_000, 0)),
             ] {
                 files.add(
-                    format!("{place}, {what}"),
+                    format!("T {drive_track}, H {drive_side}, {what}"),
                     file_of_cells(drive_track, drive_side, &track_cells),
-                );
-            }
-            for (what, timings) in [
-                ("20,000 cells from timings", four_timings()),
-                ("no cells from a timing", vec![500]),
-                ("too many cells from timings", vec![LONGEST; 27]),
-                ("a timing 0", vec![0]),
-            ] {
-                files.add(
-                    format!("{place}, {what}"),
-                    file_of_timings(drive_track, drive_side, &timings),
                 );
             }
         }

@@ -1,0 +1,3 @@
+pub mod SameAnswer
+pub mod NewAnswer
+pub mod Theorems

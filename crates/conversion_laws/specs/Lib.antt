@@ -1,0 +1,2 @@
+pub mod OldListing
+pub mod Claims

@@ -1,0 +1,5 @@
+pub mod Writing
+pub mod Ending
+pub mod Accepted
+pub mod Reading
+pub mod Whole

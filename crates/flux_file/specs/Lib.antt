@@ -1,0 +1,2 @@
+pub mod FluxFile
+pub mod Portions
