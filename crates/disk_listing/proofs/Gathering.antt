@@ -24,7 +24,7 @@ use Rattle.disk_listing.specs.declared.Disk.{Disk}
 use Rattle.disk_listing.specs.declared.File.{File}
 use Rattle.disk_listing.specs.declared.File.the-variants.{Track, Unreadable}
 use Rattle.disk_listing.specs.declared.File.the-variants.{Refused as Refuses}
-use Rattle.disk_listing.specs.DiskOfFiles.{Outcome, outcomeOf, OneFile, told, tracksOf, findingsOf, TakenFile, leftOut, notRead, Files}
+use Rattle.disk_listing.specs.DiskOfFiles.{Outcome, outcomeOf, OneFile, told, tracksOf, findingsOf, TakenFile, leftOut, notRead, Files, AllFiles}
 use Rattle.disk_listing.specs.DiskOfFiles.Outcome.{brings, unreadable}
 use Rattle.disk_listing.specs.DiskOfFiles.OneFile.{not-opened, opened}
 use Rattle.disk_listing.specs.DiskOfFiles.Files.{none, one-more}
@@ -114,7 +114,7 @@ added list vs at {after} e h =
     rw (e, sets-eq vs list at h) (take-at (take at list ++ vs) (drop (at + length vs) list) (at + length vs) front)
 
 -- one file more
-module _ {disk : Disk} {tracks findings : List ℕ} {most : ℕ} (before : Gathered disk tracks findings most) {file : File} {after later : List ℕ}
+module _ {disk : Disk} {tracks findings : List ℕ} {next : ℕ} (before : Gathered disk tracks findings next) {file : File} {after later : List ℕ}
     (taken : TakenFile file tracks after (disk .tracks) findings later (disk .findings)) (few : disk .tracks ≤ 504) where
   three : (o : Outcome) → length (tracksOf o) ≤ 3
   unfolding tracksOf trackNumbers
@@ -123,21 +123,21 @@ module _ {disk : Disk} {tracks findings : List ℕ} {most : ℕ} (before : Gathe
   three unreadable = omega arith
 
   -- what with_file asks
-  small : (o : Outcome) → length (findingsOf o) ≤ 3604 → most < 0xFFFF_FFFF_FFFF_FFFF → Small disk (told o)
+  small : (o : Outcome) → length (findingsOf o) ≤ 3604 → next < 0xFFFF_FFFF_FFFF_FFFF → Small disk (told o)
   unfolding Small told findingsOf findingNumbers
   small (brings (gives found)) h m = (few, omega (arith, h, length-numbers (found .findings), before .few-findings, few))
   small (brings (refused number value)) h m = omega (arith, before .few-left)
   small unreadable h m = (omega (arith, before .few-left), omega (arith, before .few-unread))
 
-  pub small-after : most < 0xFFFF_FFFF_FFFF_FFFF → Small disk file
+  pub small-after : next < 0xFFFF_FFFF_FFFF_FFFF → Small disk file
   small-after m = subst (Small disk) (sym (taken .file-is)) (small (taken .outcome) (taken .few) m)
 
   -- the counts, by what the file brings
-  record Counts (o : Outcome) (next : Disk) : Type 0 where
-    pub tracks-is : next .tracks ≡ disk .tracks + length (tracksOf o)
-    pub findings-is : next .findings ≡ disk .findings + length (findingsOf o)
-    pub left-is : next .left ≡ disk .left + leftOut o
-    pub unread-is : next .unreadable ≡ disk .unreadable + notRead o
+  record Counts (o : Outcome) (later-disk : Disk) : Type 0 where
+    pub tracks-is : later-disk .tracks ≡ disk .tracks + length (tracksOf o)
+    pub findings-is : later-disk .findings ≡ disk .findings + length (findingsOf o)
+    pub left-is : later-disk .left ≡ disk .left + leftOut o
+    pub unread-is : later-disk .unreadable ≡ disk .unreadable + notRead o
     pub rises : 3 * length (findingsOf o) ≤ 3604 * length (tracksOf o)
     pub at-most : (leftOut o ≤ 1) × (notRead o ≤ 1)
 
@@ -151,15 +151,15 @@ module _ {disk : Disk} {tracks findings : List ℕ} {most : ℕ} (before : Gathe
   counts unreadable h =
       record { tracks-is = omega arith; findings-is = omega arith; left-is = refl; unread-is = refl; rises = omega arith; at-most = (omega arith, omega arith) }
 
-  pub one-file-more : {next : Disk} → length tracks ≡ 507 → length findings ≡ 609076 → next ≡ withFile disk file → Gathered next after later (most + 1)
-  one-file-more {next} long-tracks long-findings e =
+  pub one-file-more : {then : Disk} → length tracks ≡ 507 → length findings ≡ 609076 → then ≡ withFile disk file → Gathered then after later (next + 1)
+  one-file-more {then} long-tracks long-findings e =
       let o = taken .outcome in
-      let is : next ≡ withFile disk (told o) = e ∙ ap (withFile disk) (taken .file-is) in
-      let c : Counts o next = subst (Counts o) (sym is) (counts o (taken .few)) in
+      let is : then ≡ withFile disk (told o) = e ∙ ap (withFile disk) (taken .file-is) in
+      let c : Counts o then = subst (Counts o) (sym is) (counts o (taken .few)) in
       let t = three o in
-      let a : take (next .tracks) after ≡ take (disk .tracks) tracks ++ tracksOf o =
+      let a : take (then .tracks) after ≡ take (disk .tracks) tracks ++ tracksOf o =
       rw (c .tracks-is) (added tracks (tracksOf o) (disk .tracks) (taken .tracks-are) (omega (arith, long-tracks, few))) in
-      let b : take (next .findings) later ≡ take (disk .findings) findings ++ findingsOf o =
+      let b : take (then .findings) later ≡ take (disk .findings) findings ++ findingsOf o =
       rw (c .findings-is) (added findings (findingsOf o) (disk .findings) (taken .findings-are) (omega (arith, long-findings, few, before .few-findings, taken .few))) in
       record {
         files = rw (a, b, c .left-is, c .unread-is) (one-more (before .files) (taken .one-file));
@@ -199,11 +199,20 @@ module _ (disk : Disk) {file : File} where
   with-unreadable e = rw e
 
 -- no file yet
-pub no-files : (tracks findings : List ℕ) (most : ℕ) → Gathered (record { tracks = 0; findings = 0; left = 0; unreadable = 0 }) tracks findings most
-no-files tracks findings most =
+pub no-files : (tracks findings : List ℕ) → Gathered (record { tracks = 0; findings = 0; left = 0; unreadable = 0 }) tracks findings 1
+no-files tracks findings =
     record { files = none; few-tracks = omega arith; few-findings = omega arith; few-left = omega arith; few-unread = omega arith }
 
--- the end
-pub gathered : {disk : Disk} {tracks findings : List ℕ} {most : ℕ} → Gathered disk tracks findings most
-    → ((disk .tracks ≤ 507) × (disk .findings ≤ 609076)) × Files (take (disk .tracks) tracks) (take (disk .findings) findings) (disk .left) (disk .unreadable)
-gathered g = ((g .few-tracks, omega (arith, g .few-tracks, g .few-findings)), g .files)
+-- the end: no argument is left, or there are too many tracks
+pub gathered : (words : ℕ) {disk : Disk} {tracks findings : List ℕ} {next : ℕ} → Gathered disk tracks findings next → length tracks ≡ 507
+    → (disk .tracks ≤ 504 → words ≤ next)
+    → ((disk .tracks ≤ 507) × (disk .findings ≤ 609076))
+    × AllFiles words (take (disk .tracks) tracks) (take (disk .findings) findings) (disk .left) (disk .unreadable)
+gathered words {disk} {tracks} {next = next} g long all = (
+  (g .few-tracks, omega (arith, g .few-tracks, g .few-findings)),
+  record {
+    next = next;
+    files = g .files;
+    all = λ h. all (omega (arith, h, length-take-le (disk .tracks) tracks (omega (arith, g .few-tracks, long))));
+  },
+)

@@ -1,6 +1,6 @@
 -- Section 13 of the specification, rules 13.41 to 13.45: the tracks and findings that disk_listing makes a page of. Reads are as track_input has
--- them. The main property: the two lists are made of what each file brought, in the order of the files (`Files`). Which files these are, and that
--- each is the next argument, is seen in the code of `next_file`. Assumes nothing.
+-- them. The main property: the two lists are made of what each file brought, in the order of the files, and no file is passed over (`AllFiles`).
+-- Which files these are, and that each is the next argument, is seen in the code of `next_file`. Assumes nothing.
 use Prim.Native.Nat.{ℕ, _+_, _≤_}
 use mathlib.Core.Path.{_≡_}
 use mathlib.Core.List.{List, [], _++_}
@@ -13,6 +13,10 @@ use Rattle.track_file.specs.Portions.{startOf, wholeOf}
 use Rattle.track_input.specs.Reading.{OneRead, portionsOf, AllReads}
 use Rattle.track_input.specs.declared.Input.{Input}
 use Rattle.track_input.specs.declared.Input.the-variants.{Open, Ended, Failed}
+use Rattle.disk_page.specs.Page.{pageAnswer}
+use Rattle.disk_listing.specs.declared.Printed.{Printed}
+use Rattle.disk_listing.specs.declared.Printed.the-variants.{Whole, NotTaken}
+use Rattle.disk_listing.specs.declared.Printed.the-variants.{Refused as PageRefused}
 use Rattle.disk_listing.specs.declared.File.{File}
 use Rattle.disk_listing.specs.declared.File.the-variants.{Track, Refused, Unreadable}
 
@@ -67,8 +71,28 @@ unfoldable pub notRead : Outcome → ℕ
 notRead (brings answer) = 0
 notRead unreadable = 1
 
--- 13.41, 13.43, 13.45: files, one after another: the two lists that they make, how many are left out, and how many of these cannot be read
-pub data Files : (tracks findings : List ℕ) → (left unread : ℕ) → Type 0 where
-  none : Files [] [] 0 0
-  one-more : {tracks findings : List ℕ} {left unread : ℕ} {outcome : Outcome} → Files tracks findings left unread → OneFile outcome
-      → Files (tracks ++ tracksOf outcome) (findings ++ findingsOf outcome) (left + leftOut outcome) (unread + notRead outcome)
+-- 13.41, 13.43, 13.45: files, one after another: the two lists that they make, how many are left out, how many of these cannot be read, and the
+-- number of the argument after them. The first argument is number 1
+pub data Files : (tracks findings : List ℕ) → (left unread next : ℕ) → Type 0 where
+  none : Files [] [] 0 0 1
+  one-more : {tracks findings : List ℕ} {left unread next : ℕ} {outcome : Outcome} → Files tracks findings left unread next → OneFile outcome
+      → Files (tracks ++ tracksOf outcome) (findings ++ findingsOf outcome) (left + leftOut outcome) (unread + notRead outcome) (next + 1)
+
+-- 13.41, 13.46: all files of a call of so many words, the program's name among them: none is passed over, but for those after more tracks than
+-- a page can have
+pub record AllFiles (words : ℕ) (tracks findings : List ℕ) (left unread : ℕ) : Type 0 where
+  pub next : ℕ
+  pub files : Files tracks findings left unread next
+  pub all : length tracks ≤ 504 → words ≤ next
+
+-- 13.41: there is a number of words of which these are all files
+pub record FilesTaken (tracks findings : List ℕ) (left unread : ℕ) : Type 0 where
+  pub words : ℕ
+  pub files : AllFiles words tracks findings left unread
+
+-- 13.41, 13.46, 13.47: how the page of these tracks and findings came to be printed: whole, with as many bytes as it has; refused, with this number; or
+-- a part of it was not taken
+pub data PagePrinted (tracks findings : List ℕ) : Printed → Type 0 where
+  whole : {total : ℕ} → pageAnswer tracks findings ≡ gives total → PagePrinted tracks findings (Whole total)
+  page-refused : {number value : ℕ} → pageAnswer tracks findings ≡ refused number value → PagePrinted tracks findings (PageRefused number)
+  not-taken : PagePrinted tracks findings NotTaken

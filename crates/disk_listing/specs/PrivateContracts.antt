@@ -22,10 +22,10 @@ Small disk (Track count) = (disk .tracks ≤ 504) × (disk .findings + 4 * count
 Small disk (Refused number) = disk .left ≤ 0xFFFF_FFFF_FFFF_FFFE
 Small disk Unreadable = (disk .left ≤ 0xFFFF_FFFF_FFFF_FFFE) × (disk .unreadable ≤ 0xFFFF_FFFF_FFFF_FFFE)
 
--- of at most so many files the tracks and findings stand at the front of the two lists
-pub record Gathered (disk : Disk) (tracks findings : List ℕ) (most : ℕ) : Type 0 where
-  pub files : Files (take (disk .tracks) tracks) (take (disk .findings) findings) (disk .left) (disk .unreadable)
+-- of the files before argument `next` the tracks and findings stand at the front of the two lists
+pub record Gathered (disk : Disk) (tracks findings : List ℕ) (next : ℕ) : Type 0 where
+  pub files : Files (take (disk .tracks) tracks) (take (disk .findings) findings) (disk .left) (disk .unreadable) next
   pub few-tracks : disk .tracks ≤ 507
   pub few-findings : 3 * disk .findings ≤ 3604 * disk .tracks
-  pub few-left : disk .left ≤ most
-  pub few-unread : disk .unreadable ≤ most
+  pub few-left : disk .left ≤ next
+  pub few-unread : disk .unreadable ≤ next

@@ -12,7 +12,7 @@ use track_input::Input;
 ghost use mathlib.Core.Path.{_≡_};
 ghost use Prim.Native.Nat.{_+_, _<_, _≤_};
 ghost use lib.ListN.{length, take};
-ghost use Rattle.disk_listing.specs.DiskOfFiles.{TakenFile, Files};
+ghost use Rattle.disk_listing.specs.DiskOfFiles.{TakenFile, AllFiles, FilesTaken, PagePrinted};
 ghost use Rattle.disk_listing.specs.PrivateContracts.{withFile, Small, Gathered};
 
 // Room for one track more than a page can have. With so many the page is refused, and the files after them are not read.
@@ -38,9 +38,9 @@ struct Disk {
     unreadable: usize,
 }
 
-// How the page came to be printed.
+// How the page came to be printed: whole, with so many bytes.
 enum Printed {
-    Whole,
+    Whole(usize),
     Refused(u32),
     NotTaken,
 }
@@ -181,9 +181,24 @@ fn gather(
 ) -> Disk
     requires { ⌜ (length (now tracks) ≡ 507) × (length (now findings) ≡ 609076) × (length (now cells) ≡ 16384) ⌝ }
     ensures few { λ r. ⌜ (r .tracks ≤ 507) × (r .findings ≤ 609076) ⌝ }
-    ensures files { λ r. ⌜ Files (take (r .tracks) (now (tracks .exit))) (take (r .findings) (now (findings .exit))) (r .left) (r .unreadable) ⌝ }
+    ensures files { λ r. ⌜ FilesTaken (take (r .tracks) (now (tracks .exit))) (take (r .findings) (now (findings .exit))) (r .left) (r .unreadable) ⌝ }
 {
-    let words = os::arg_count();
+    gather_words(os::arg_count(), name, portion, cells, tracks, findings)
+}
+
+// The same where there are so many words, of which the first is the program's name.
+fn gather_words(
+    words: usize,
+    name: &mut [u8],
+    portion: &mut [u8],
+    cells: &mut [u8],
+    tracks: &mut [u32],
+    findings: &mut [u32],
+) -> Disk
+    requires { ⌜ (length (now tracks) ≡ 507) × (length (now findings) ≡ 609076) × (length (now cells) ≡ 16384) ⌝ }
+    ensures few { λ r. ⌜ (r .tracks ≤ 507) × (r .findings ≤ 609076) ⌝ }
+    ensures files { λ r. ⌜ AllFiles words (take (r .tracks) (now (tracks .exit))) (take (r .findings) (now (findings .exit))) (r .left) (r .unreadable) ⌝ }
+{
     let mut disk = Disk {
         tracks: 0,
         findings: 0,
@@ -202,22 +217,29 @@ fn gather(
 }
 
 // Prints the page part by part, since there is no room for all of it. The first part is refused where the page is.
-fn print_page(tracks: &[u32], findings: &[u32], out: &mut [u8]) -> Printed {
+fn print_page(tracks: &[u32], findings: &[u32], out: &mut [u8]) -> Printed
+    requires { ⌜ length (now out) ≡ 72080 ⌝ }
+    ensures { λ r. ⌜ PagePrinted (now (tracks .entry)) (now (findings .entry)) r ⌝ }
+{
+    let mut total: usize = 0;
     let mut part: usize = 0;
     while part < 169 {
         let answer = disk_page::page_part(tracks, findings, part, out);
         match answer {
             Counted::Refused(refusal) => return Printed::Refused(refusal.number()),
             Counted::Count(length) => {
-                let count = basis::smaller(length, out.len());
-                if !io::write_all(STDOUT_FILENO, &out[..count]) {
+                if out.len() < length {
                     return Printed::NotTaken;
                 }
+                if !io::write_all(STDOUT_FILENO, &out[..length]) {
+                    return Printed::NotTaken;
+                }
+                total += length;
             }
         }
         part += 1;
     }
-    Printed::Whole
+    Printed::Whole(total)
 }
 
 // The last line on standard error, where there is something to tell.
@@ -230,7 +252,7 @@ fn tell_disk(disk: Disk, printed: Printed) {
                 b"disk_listing: standard output did not take the page\n",
             );
         }
-        Printed::Whole => {
+        Printed::Whole(_) => {
             if disk.left > 0 {
                 io::write_all(STDERR_FILENO, b"files left out: ");
                 io::print_decimal(STDERR_FILENO, disk.left as u64);
@@ -251,7 +273,7 @@ fn list_files(
     portion: &mut [u8],
     out: &mut [u8],
 )
-    requires { ⌜ (length (now tracks) ≡ 507) × (length (now findings) ≡ 609076) × (length (now cells) ≡ 16384) ⌝ }
+    requires { ⌜ (length (now tracks) ≡ 507) × (length (now findings) ≡ 609076) × (length (now cells) ≡ 16384) × (length (now out) ≡ 72080) ⌝ }
 {
     let disk = gather(name, portion, cells, tracks, findings);
     let printed = print_page(&tracks[..disk.tracks], &findings[..disk.findings], out);
