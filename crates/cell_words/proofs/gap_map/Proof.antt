@@ -1,0 +1,102 @@
+-- `cell_words::gap_map` meets its contract: each turn makes a word more. Assumes nothing.
+use Prim.Native.Nat.{ℕ, _-_, _*_, _≤_}
+use mathlib.Core.Path.{_≡_, refl, _∙_}
+use mathlib.Core.Bool.{Bool}
+use native.Mathlib.Omega.{arith}
+use lib.ListN.{length, length-set}
+use Rattle.cell_words.specs.Words.{Holds}
+use Rattle.cell_words.specs.Tests.{gapFrom}
+use Rattle.cell_words.proofs.Words.{holds-none, holds-more, holds-at, holds-next}
+use borrow.Author.Needs.{needs}
+use Rattle.cell_words.proofs.gap_map.Statement.{statement}
+use Rattle.cell_words.proofs.gap_map.Tie as tie
+
+abbrev Inv-loop : tie.InvT-loop
+Inv-loop words alone map₀ w₀ map w = (w ≤ 2067) × (length map ≡ length map₀) × ((s t : ℕ → Bool) → Holds s words 2068 → Holds t alone 2067 → length map₀ ≡ 2068 → Holds (gapFrom s t) map w)
+
+abbrev μ-loop : tie.MeasureT-loop
+μ-loop words alone map₀ w₀ map w = 2067 - w
+
+loop-holds : tie.Need-loop-holds Inv-loop μ-loop
+loop-holds c = (search needs, refl, λ s t h g n. holds-none _ _)
+
+sub-loop : tie.Need-sub-loop Inv-loop μ-loop
+sub-loop c = search needs
+
+mul-gap-word : tie.Need-mul-gap-word Inv-loop μ-loop
+mul-gap-word c = search needs
+
+element-copy-out-gap-word : tie.Need-element-copy-out-gap-word Inv-loop μ-loop
+element-copy-out-gap-word c = search needs
+
+add-gap-word : tie.Need-add-gap-word Inv-loop μ-loop
+add-gap-word c = search needs
+
+mul-gap-word-2 : tie.Need-mul-gap-word-2 Inv-loop μ-loop
+mul-gap-word-2 c = search needs
+
+element-copy-out-gap-word-2 : tie.Need-element-copy-out-gap-word-2 Inv-loop μ-loop
+element-copy-out-gap-word-2 c = search needs
+
+mul-gap-word-3 : tie.Need-mul-gap-word-3 Inv-loop μ-loop
+mul-gap-word-3 c = search needs
+
+element-copy-out-gap-word-3 : tie.Need-element-copy-out-gap-word-3 Inv-loop μ-loop
+element-copy-out-gap-word-3 c = search needs
+
+gap-word-requires : tie.Need-gap-word-requires Inv-loop μ-loop
+gap-word-requires c κs = search needs
+
+mul-map : tie.Need-mul-map Inv-loop μ-loop
+mul-map c = search needs
+
+element-write-map : tie.Need-element-write-map Inv-loop μ-loop
+element-write-map c = search needs
+
+add-w : tie.Need-add-w Inv-loop μ-loop
+add-w c = search needs
+
+loop-less : tie.Need-loop-less Inv-loop μ-loop
+loop-less c = search needs
+
+loop-again : tie.Need-loop-again Inv-loop μ-loop
+loop-again c =
+    let l = c .before .before .before .before .before in
+    let x = l .before .args .words .now in
+    let y = l .before .args .alone .now in
+    let w = l .loop .w in (
+      search needs,
+      simp length-set (l .loop .inv .1),
+      λ s t h g n.
+          holds-more (gapFrom s t) (l .loop .map) w _ (l .loop .inv .2 s t h g n) (omega arith)
+          (c .gap-word .ensures s t (64 * w) (holds-at s x 2068 w h (search needs)) (holds-next s x 2068 w h (search needs)) (holds-at t y 2067 w g (search needs))),
+    )
+
+returns : tie.Need-returns Inv-loop μ-loop
+returns c s t h g n =
+    let l = c .before .loop in
+    let e : l .w ≡ 2067 = omega (arith, c .loop-test .left) in
+    (l .inv .1 ∙ n, rw (← e) (l .inv .2 s t h g n))
+
+pub gap-map-spec : {M : Type 1} → statement M
+gap-map-spec =
+    tie.close
+    (tie.spec
+    Inv-loop
+    μ-loop
+    loop-holds
+    sub-loop
+    mul-gap-word
+    element-copy-out-gap-word
+    add-gap-word
+    mul-gap-word-2
+    element-copy-out-gap-word-2
+    mul-gap-word-3
+    element-copy-out-gap-word-3
+    gap-word-requires
+    mul-map
+    element-write-map
+    add-w
+    loop-less
+    loop-again
+    returns)

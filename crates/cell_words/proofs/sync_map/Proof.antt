@@ -1,0 +1,114 @@
+-- `cell_words::sync_map` meets its contract: each turn makes a word more. Assumes nothing.
+use Prim.Native.Nat.{ℕ, _-_, _*_, _≤_}
+use mathlib.Core.Path.{_≡_, refl, _∙_}
+use mathlib.Core.Bool.{Bool}
+use native.Mathlib.Omega.{arith}
+use lib.ListN.{length, length-set}
+use Rattle.cell_words.specs.Words.{Holds}
+use Rattle.cell_words.specs.Tests.{syncFrom}
+use Rattle.cell_words.proofs.Words.{holds-none, holds-more, holds-at, holds-next}
+use borrow.Author.Needs.{needs}
+use Rattle.cell_words.proofs.sync_map.Statement.{statement}
+use Rattle.cell_words.proofs.sync_map.Tie as tie
+
+abbrev Inv-loop : tie.InvT-loop
+Inv-loop words sevens map₀ w₀ map w = (w ≤ 2065) × (length map ≡ length map₀) × ((s t : ℕ → Bool) → Holds s words 2068 → Holds t sevens 2066 → length map₀ ≡ 2068 → Holds (syncFrom s t) map w)
+
+abbrev μ-loop : tie.MeasureT-loop
+μ-loop words sevens map₀ w₀ map w = 2065 - w
+
+loop-holds : tie.Need-loop-holds Inv-loop μ-loop
+loop-holds c = (search needs, refl, λ s t h g n. holds-none _ _)
+
+sub-loop : tie.Need-sub-loop Inv-loop μ-loop
+sub-loop c = search needs
+
+mul-sync-word : tie.Need-mul-sync-word Inv-loop μ-loop
+mul-sync-word c = search needs
+
+element-copy-out-sync-word : tie.Need-element-copy-out-sync-word Inv-loop μ-loop
+element-copy-out-sync-word c = search needs
+
+add-sync-word : tie.Need-add-sync-word Inv-loop μ-loop
+add-sync-word c = search needs
+
+mul-sync-word-2 : tie.Need-mul-sync-word-2 Inv-loop μ-loop
+mul-sync-word-2 c = search needs
+
+element-copy-out-sync-word-2 : tie.Need-element-copy-out-sync-word-2 Inv-loop μ-loop
+element-copy-out-sync-word-2 c = search needs
+
+mul-sync-word-3 : tie.Need-mul-sync-word-3 Inv-loop μ-loop
+mul-sync-word-3 c = search needs
+
+element-copy-out-sync-word-3 : tie.Need-element-copy-out-sync-word-3 Inv-loop μ-loop
+element-copy-out-sync-word-3 c = search needs
+
+add-sync-word-2 : tie.Need-add-sync-word-2 Inv-loop μ-loop
+add-sync-word-2 c = search needs
+
+mul-sync-word-4 : tie.Need-mul-sync-word-4 Inv-loop μ-loop
+mul-sync-word-4 c = search needs
+
+element-copy-out-sync-word-4 : tie.Need-element-copy-out-sync-word-4 Inv-loop μ-loop
+element-copy-out-sync-word-4 c = search needs
+
+sync-word-requires : tie.Need-sync-word-requires Inv-loop μ-loop
+sync-word-requires c κs = search needs
+
+mul-map : tie.Need-mul-map Inv-loop μ-loop
+mul-map c = search needs
+
+element-write-map : tie.Need-element-write-map Inv-loop μ-loop
+element-write-map c = search needs
+
+add-w : tie.Need-add-w Inv-loop μ-loop
+add-w c = search needs
+
+loop-less : tie.Need-loop-less Inv-loop μ-loop
+loop-less c = search needs
+
+loop-again : tie.Need-loop-again Inv-loop μ-loop
+loop-again c =
+    let l = c .before .before .before .before .before .before in
+    let x = l .before .args .words .now in
+    let y = l .before .args .sevens .now in
+    let w = l .loop .w in (
+      search needs,
+      simp length-set (l .loop .inv .1),
+      λ s t h g n.
+          holds-more (syncFrom s t) (l .loop .map) w _ (l .loop .inv .2 s t h g n) (omega arith)
+          (c .sync-word .ensures s t (64 * w) (holds-at s x 2068 w h (search needs)) (holds-next s x 2068 w h (search needs)) (holds-at t y 2066 w g (search needs)) (holds-next t y 2066 w g (search needs))),
+    )
+
+returns : tie.Need-returns Inv-loop μ-loop
+returns c s t h g n =
+    let l = c .before .loop in
+    let e : l .w ≡ 2065 = omega (arith, c .loop-test .left) in
+    (l .inv .1 ∙ n, rw (← e) (l .inv .2 s t h g n))
+
+pub sync-map-spec : {M : Type 1} → statement M
+sync-map-spec =
+    tie.close
+    (tie.spec
+    Inv-loop
+    μ-loop
+    loop-holds
+    sub-loop
+    mul-sync-word
+    element-copy-out-sync-word
+    add-sync-word
+    mul-sync-word-2
+    element-copy-out-sync-word-2
+    mul-sync-word-3
+    element-copy-out-sync-word-3
+    add-sync-word-2
+    mul-sync-word-4
+    element-copy-out-sync-word-4
+    sync-word-requires
+    mul-map
+    element-write-map
+    add-w
+    loop-less
+    loop-again
+    returns)

@@ -1,0 +1,93 @@
+-- `cell_words::thrice_map` meets its contract: each turn makes a word more. Assumes nothing.
+use Prim.Native.Nat.{ℕ, _-_, _*_, _≤_}
+use mathlib.Core.Path.{_≡_, refl, _∙_}
+use mathlib.Core.Bool.{Bool}
+use native.Mathlib.Omega.{arith}
+use lib.ListN.{length, length-set}
+use Rattle.cell_words.specs.Words.{Holds}
+use Rattle.cell_words.specs.Tests.{thriceAt}
+use Rattle.cell_words.proofs.Words.{holds-none, holds-more, holds-at, holds-next}
+use borrow.Author.Needs.{needs}
+use Rattle.cell_words.proofs.thrice_map.Statement.{statement}
+use Rattle.cell_words.proofs.thrice_map.Tie as tie
+
+abbrev Inv-loop : tie.InvT-loop
+Inv-loop syncs map₀ w₀ map w = (w ≤ 2064) × (length map ≡ length map₀) × ((t : ℕ → Bool) → Holds t syncs 2065 → length map₀ ≡ 2068 → Holds (thriceAt t) map w)
+
+abbrev μ-loop : tie.MeasureT-loop
+μ-loop syncs map₀ w₀ map w = 2064 - w
+
+loop-holds : tie.Need-loop-holds Inv-loop μ-loop
+loop-holds c = (search needs, refl, λ t h n. holds-none _ _)
+
+sub-loop : tie.Need-sub-loop Inv-loop μ-loop
+sub-loop c = search needs
+
+mul-thrice-word : tie.Need-mul-thrice-word Inv-loop μ-loop
+mul-thrice-word c = search needs
+
+element-copy-out-thrice-word : tie.Need-element-copy-out-thrice-word Inv-loop μ-loop
+element-copy-out-thrice-word c = search needs
+
+add-thrice-word : tie.Need-add-thrice-word Inv-loop μ-loop
+add-thrice-word c = search needs
+
+mul-thrice-word-2 : tie.Need-mul-thrice-word-2 Inv-loop μ-loop
+mul-thrice-word-2 c = search needs
+
+element-copy-out-thrice-word-2 : tie.Need-element-copy-out-thrice-word-2 Inv-loop μ-loop
+element-copy-out-thrice-word-2 c = search needs
+
+thrice-word-requires : tie.Need-thrice-word-requires Inv-loop μ-loop
+thrice-word-requires c κs = search needs
+
+mul-map : tie.Need-mul-map Inv-loop μ-loop
+mul-map c = search needs
+
+element-write-map : tie.Need-element-write-map Inv-loop μ-loop
+element-write-map c = search needs
+
+add-w : tie.Need-add-w Inv-loop μ-loop
+add-w c = search needs
+
+loop-less : tie.Need-loop-less Inv-loop μ-loop
+loop-less c = search needs
+
+loop-again : tie.Need-loop-again Inv-loop μ-loop
+loop-again c =
+    let l = c .before .before .before .before in
+    let x = l .before .args .syncs .now in
+    let w = l .loop .w in (
+      search needs,
+      simp length-set (l .loop .inv .1),
+      λ t h n.
+          holds-more (thriceAt t) (l .loop .map) w _ (l .loop .inv .2 t h n) (omega arith)
+          (c .thrice-word .ensures t (64 * w) (holds-at t x 2065 w h (search needs)) (holds-next t x 2065 w h (search needs))),
+    )
+
+returns : tie.Need-returns Inv-loop μ-loop
+returns c t h n =
+    let l = c .before .loop in
+    let e : l .w ≡ 2064 = omega (arith, c .loop-test .left) in
+    (l .inv .1 ∙ n, rw (← e) (l .inv .2 t h n))
+
+pub thrice-map-spec : {M : Type 1} → statement M
+thrice-map-spec =
+    tie.close
+    (tie.spec
+    Inv-loop
+    μ-loop
+    loop-holds
+    sub-loop
+    mul-thrice-word
+    element-copy-out-thrice-word
+    add-thrice-word
+    mul-thrice-word-2
+    element-copy-out-thrice-word-2
+    thrice-word-requires
+    mul-map
+    element-write-map
+    add-w
+    loop-less
+    loop-again
+    returns)
