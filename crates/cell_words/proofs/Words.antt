@@ -212,6 +212,15 @@ holds-more t words i v h l e w g = go (ℕ-discrete w i)
     go (yes s) = rw s (getD-set-same words i v 0 l ∙ e)
     go (no s) = getD-set-other words i w v 0 s ∙ h w (omega arith)
 
+-- one word more, of which only the first m count
+pub holds-up-to : (t : ℕ → Bool) (words : List ℕ) (m i v : ℕ) → Holds t words (min i m) → i < length words → (i < m → v ≡ mask t 64 (64 * i)) → Holds t (set words i v) (min (i + 1) m)
+unfolding Holds
+holds-up-to t words m i v h l e w g = go (ℕ-discrete w i)
+  where
+    go : Dec (w ≡ i) → getD (set words i v) w 0 ≡ mask t 64 (64 * w)
+    go (yes s) = rw s (getD-set-same words i v 0 l ∙ e (omega arith))
+    go (no s) = getD-set-other words i w v 0 s ∙ h w (omega arith)
+
 -- A word that holds a test at the 64 places from p, and what is made of such words: a proof follows the code's expression.
 pub record Is (t : ℕ → Bool) (p x : ℕ) : Type 0 where
   pub is : x ≡ mask t 64 p
@@ -270,3 +279,8 @@ part-few s k x h =
 pub holds-same : (s t : ℕ → Bool) → ((q : ℕ) → s q ≡ t q) → (words : List ℕ) (m : ℕ) → Holds s words m → Holds t words m
 unfolding Holds
 holds-same s t e words m h w l = h w l ∙ mask-same s t 64 (64 * w) (64 * w) (λ i b. e (64 * w + i))
+
+-- fewer words
+pub holds-less : (t : ℕ → Bool) (words : List ℕ) (m k : ℕ) → Holds t words m → k ≤ m → Holds t words k
+unfolding Holds
+holds-less t words m k h l w g = h w (omega arith)

@@ -7,6 +7,14 @@ use lib.Dec.{eqb}
 unfoldable pub oneAt : (ℕ → ℕ) → ℕ → Bool
 oneAt f q = eqb (f q) 1
 
+-- t fails at q
+unfoldable pub notAt : (ℕ → Bool) → ℕ → Bool
+notAt t q = not (t q)
+
+-- t passes at q and k places on
+unfoldable pub bothAt : ℕ → (ℕ → Bool) → ℕ → Bool
+bothAt k t q = t q && t (q + k)
+
 -- t passes at q and at neither of the next two places: of ones, the cells 100
 unfoldable pub aloneAt : (ℕ → Bool) → ℕ → Bool
 aloneAt t q = t q && not (t (q + 1) || t (q + 2))

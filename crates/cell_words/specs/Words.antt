@@ -22,7 +22,7 @@ mask t k p = word (digit t) k p
 unfoldable pub Holds : (ℕ → Bool) → List ℕ → ℕ → Type 0
 Holds t words m = (w : ℕ) → w < m → getD words w 0 ≡ mask t 64 (64 * w)
 
--- a map as it is lent: an array of 2,068 words, of which the first m hold a test. Its length is said here since a contract does not learn it from
+-- a map as it is lent: an array of 2,116 words, of which the first m hold a test. Its length is said here since a contract does not learn it from
 -- the type
 abbrev pub MapOf : (ℕ → Bool) → List ℕ → ℕ → Type 0
-MapOf t words m = (length words ≡ 2068) × Holds t words m
+MapOf t words m = (length words ≡ 2116) × Holds t words m

@@ -8,15 +8,15 @@ ghost use lib.ListN.{length, getD};
 ghost use Rattle.basis.specs.Search.{least, count};
 ghost use Rattle.cells.specs.CellsAndBytes.{cellAt, cell, word};
 ghost use Rattle.cell_words.specs.Words.{mask, Holds, MapOf};
-ghost use Rattle.cell_words.specs.Tests.{oneAt, aloneAt, sevenFrom, syncFrom, gapFrom, thriceAt, syncTest};
+ghost use Rattle.cell_words.specs.Tests.{oneAt, notAt, bothAt, aloneAt, sevenFrom, syncFrom, gapFrom, thriceAt, syncTest};
 
 use basis::smaller;
 
-// The words of a map: enough for a track of 131,072 cells, and for 1,280 places past its end.
-pub const WORDS: usize = 2068;
+// The words of a map: enough for a track of 131,072 cells, and for 4,352 places past its end.
+pub const WORDS: usize = 2116;
 
 // The places of a map.
-const PLACES: usize = 132352;
+const PLACES: usize = 135424;
 
 // The 64 cells from p of a track of n cells, counted on past n.
 pub fn word_from(bytes: &[u8], n: usize, p: usize) -> u64
@@ -36,7 +36,7 @@ pub fn word_from(bytes: &[u8], n: usize, p: usize) -> u64
 
 // The map of the ones of a track, which goes on round it.
 pub fn load(bytes: &[u8], n: usize, words: &mut [u64; WORDS])
-    ensures { λ _. ⌜ (length (now (words .entry)) ≡ 2068 → MapOf (oneAt (cell (now (bytes .entry)) n)) (now (words .exit)) 2068) ⌝ }
+    ensures { λ _. ⌜ (length (now (words .entry)) ≡ 2116 → MapOf (oneAt (cell (now (bytes .entry)) n)) (now (words .exit)) 2116) ⌝ }
 {
     let mut w: usize = 0;
     while w < WORDS {
@@ -47,7 +47,7 @@ pub fn load(bytes: &[u8], n: usize, words: &mut [u64; WORDS])
 
 // The map of the places where a test passes, and not at the next two. Each map that is made of others has a word less than they have.
 pub fn alone_map(words: &[u64; WORDS], map: &mut [u64; WORDS])
-    ensures { λ _. ⌜ ((t : ℕ → Bool) → Holds t (now (words .entry)) 2068 → length (now (map .entry)) ≡ 2068 → MapOf (aloneAt t) (now (map .exit)) 2067) ⌝ }
+    ensures { λ _. ⌜ ((t : ℕ → Bool) → Holds t (now (words .entry)) 2116 → length (now (map .entry)) ≡ 2116 → MapOf (aloneAt t) (now (map .exit)) 2115) ⌝ }
 {
     let mut w: usize = 0;
     while w < WORDS - 1 {
@@ -56,9 +56,44 @@ pub fn alone_map(words: &[u64; WORDS], map: &mut [u64; WORDS])
     }
 }
 
+// The map of the places where a test fails.
+pub fn not_map(words: &[u64; WORDS], map: &mut [u64; WORDS])
+    ensures { λ _. ⌜ ((t : ℕ → Bool) → Holds t (now (words .entry)) 2116 → length (now (map .entry)) ≡ 2116 → MapOf (notAt t) (now (map .exit)) 2116) ⌝ }
+{
+    let mut w: usize = 0;
+    while w < WORDS {
+        map[w] = !words[w];
+        w += 1;
+    }
+}
+
+// The map of the places where a test passes, and k places on too, for a k from 1 to 63. Of m + 1 words it has m.
+pub fn both_map(words: &[u64; WORDS], k: usize, map: &mut [u64; WORDS])
+    ensures { λ _. ⌜ ((t : ℕ → Bool) (m : ℕ) → Holds t (now (words .entry)) (m + 1) → m < 2116 → 1 ≤ k → k < 64 → length (now (map .entry)) ≡ 2116 → MapOf (bothAt k t) (now (map .exit)) m) ⌝ }
+{
+    if k == 0 {
+        return;
+    }
+    if 63 < k {
+        return;
+    }
+    both_by(words, k, map);
+}
+
+fn both_by(words: &[u64; WORDS], k: usize, map: &mut [u64; WORDS])
+    requires { ⌜ (1 ≤ k) × (k < 64) ⌝ }
+    ensures { λ _. ⌜ ((t : ℕ → Bool) (m : ℕ) → Holds t (now (words .entry)) (m + 1) → m < 2116 → length (now (map .entry)) ≡ 2116 → MapOf (bothAt k t) (now (map .exit)) m) ⌝ }
+{
+    let mut w: usize = 0;
+    while w < WORDS - 1 {
+        map[w] = both_word(words[w], words[w + 1], k);
+        w += 1;
+    }
+}
+
 // The map of the ones whose next one is too near or too far in double density.
 pub fn gap_map(words: &[u64; WORDS], alone: &[u64; WORDS], map: &mut [u64; WORDS])
-    ensures { λ _. ⌜ ((s t : ℕ → Bool) → Holds s (now (words .entry)) 2068 → Holds t (now (alone .entry)) 2067 → length (now (map .entry)) ≡ 2068 → MapOf (gapFrom s t) (now (map .exit)) 2067) ⌝ }
+    ensures { λ _. ⌜ ((s t : ℕ → Bool) → Holds s (now (words .entry)) 2116 → Holds t (now (alone .entry)) 2115 → length (now (map .entry)) ≡ 2116 → MapOf (gapFrom s t) (now (map .exit)) 2115) ⌝ }
 {
     let mut w: usize = 0;
     while w < WORDS - 1 {
@@ -69,7 +104,7 @@ pub fn gap_map(words: &[u64; WORDS], alone: &[u64; WORDS], map: &mut [u64; WORDS
 
 // The map of the places where three syncs follow each other.
 pub fn mark_map(bytes: &[u8], n: usize, map: &mut [u64; WORDS])
-    ensures { λ _. ⌜ (length (now (map .entry)) ≡ 2068 → MapOf (thriceAt (syncTest (cell (now (bytes .entry)) n))) (now (map .exit)) 2064) ⌝ }
+    ensures { λ _. ⌜ (length (now (map .entry)) ≡ 2116 → MapOf (thriceAt (syncTest (cell (now (bytes .entry)) n))) (now (map .exit)) 2112) ⌝ }
 {
     let mut words = [0u64; WORDS];
     let mut alone = [0u64; WORDS];
@@ -83,7 +118,7 @@ pub fn mark_map(bytes: &[u8], n: usize, map: &mut [u64; WORDS])
 
 // The map of 1000100, out of the ones and the map of 100.
 fn seven_map(words: &[u64; WORDS], alone: &[u64; WORDS], map: &mut [u64; WORDS])
-    ensures { λ _. ⌜ ((s t : ℕ → Bool) → Holds s (now (words .entry)) 2068 → Holds t (now (alone .entry)) 2067 → length (now (map .entry)) ≡ 2068 → MapOf (sevenFrom s t) (now (map .exit)) 2066) ⌝ }
+    ensures { λ _. ⌜ ((s t : ℕ → Bool) → Holds s (now (words .entry)) 2116 → Holds t (now (alone .entry)) 2115 → length (now (map .entry)) ≡ 2116 → MapOf (sevenFrom s t) (now (map .exit)) 2114) ⌝ }
 {
     let mut w: usize = 0;
     while w < WORDS - 2 {
@@ -94,7 +129,7 @@ fn seven_map(words: &[u64; WORDS], alone: &[u64; WORDS], map: &mut [u64; WORDS])
 
 // The map of 4489, out of the ones and the map of 1000100.
 fn sync_map(words: &[u64; WORDS], sevens: &[u64; WORDS], map: &mut [u64; WORDS])
-    ensures { λ _. ⌜ ((s t : ℕ → Bool) → Holds s (now (words .entry)) 2068 → Holds t (now (sevens .entry)) 2066 → length (now (map .entry)) ≡ 2068 → MapOf (syncFrom s t) (now (map .exit)) 2065) ⌝ }
+    ensures { λ _. ⌜ ((s t : ℕ → Bool) → Holds s (now (words .entry)) 2116 → Holds t (now (sevens .entry)) 2114 → length (now (map .entry)) ≡ 2116 → MapOf (syncFrom s t) (now (map .exit)) 2113) ⌝ }
 {
     let mut w: usize = 0;
     while w < WORDS - 3 {
@@ -105,7 +140,7 @@ fn sync_map(words: &[u64; WORDS], sevens: &[u64; WORDS], map: &mut [u64; WORDS])
 
 // The map of the places where a test passes three times, 16 places from one to the next.
 fn thrice_map(syncs: &[u64; WORDS], map: &mut [u64; WORDS])
-    ensures { λ _. ⌜ ((t : ℕ → Bool) → Holds t (now (syncs .entry)) 2065 → length (now (map .entry)) ≡ 2068 → MapOf (thriceAt t) (now (map .exit)) 2064) ⌝ }
+    ensures { λ _. ⌜ ((t : ℕ → Bool) → Holds t (now (syncs .entry)) 2113 → length (now (map .entry)) ≡ 2116 → MapOf (thriceAt t) (now (map .exit)) 2112) ⌝ }
 {
     let mut w: usize = 0;
     while w < WORDS - 4 {
@@ -139,7 +174,7 @@ pub fn count_first(x: u64, k: usize) -> usize
 
 // The least place from `from` and before `to` at which the test of a map passes. Where there is none, the greater of the two.
 pub fn least_in(map: &[u64; WORDS], from: usize, to: usize) -> usize
-    ensures { λ r. ⌜ ((t : ℕ → Bool) (m : ℕ) → Holds t (now (map .entry)) m → to ≤ 64 * m → m ≤ 2068 → r ≡ least t (to - from) from) ⌝ }
+    ensures { λ r. ⌜ ((t : ℕ → Bool) (m : ℕ) → Holds t (now (map .entry)) m → to ≤ 64 * m → m ≤ 2116 → r ≡ least t (to - from) from) ⌝ }
 {
     let end = smaller(to, PLACES);
     if end <= from {
@@ -150,7 +185,7 @@ pub fn least_in(map: &[u64; WORDS], from: usize, to: usize) -> usize
 
 // How many places from `from` and before `to` pass the test of a map.
 pub fn count_in(map: &[u64; WORDS], from: usize, to: usize) -> usize
-    ensures { λ r. ⌜ ((t : ℕ → Bool) (m : ℕ) → Holds t (now (map .entry)) m → to ≤ 64 * m → m ≤ 2068 → r ≡ count t (to - from) from) ⌝ }
+    ensures { λ r. ⌜ ((t : ℕ → Bool) (m : ℕ) → Holds t (now (map .entry)) m → to ≤ 64 * m → m ≤ 2116 → r ≡ count t (to - from) from) ⌝ }
 {
     let end = smaller(to, PLACES);
     if end <= from {
@@ -161,8 +196,8 @@ pub fn count_in(map: &[u64; WORDS], from: usize, to: usize) -> usize
 
 // As least_in, where there is a place to look at: the rest of the first word, and then word by word.
 fn least_before(map: &[u64; WORDS], from: usize, to: usize) -> usize
-    requires { ⌜ (from < to) × (to ≤ 132352) ⌝ }
-    ensures { λ r. ⌜ ((t : ℕ → Bool) (m : ℕ) → Holds t (now (map .entry)) m → to ≤ 64 * m → m ≤ 2068 → r ≡ least t (to - from) from) ⌝ }
+    requires { ⌜ (from < to) × (to ≤ 135424) ⌝ }
+    ensures { λ r. ⌜ ((t : ℕ → Bool) (m : ℕ) → Holds t (now (map .entry)) m → to ≤ 64 * m → m ≤ 2116 → r ≡ least t (to - from) from) ⌝ }
 {
     let mut w = from / 64;
     let first = map[w] << (from % 64);
@@ -182,8 +217,8 @@ fn least_before(map: &[u64; WORDS], from: usize, to: usize) -> usize
 
 // As count_in, where there is a place to look at: the first word, whole words, and what is left of the last.
 fn count_before(map: &[u64; WORDS], from: usize, to: usize) -> usize
-    requires { ⌜ (from < to) × (to ≤ 132352) ⌝ }
-    ensures { λ r. ⌜ ((t : ℕ → Bool) (m : ℕ) → Holds t (now (map .entry)) m → to ≤ 64 * m → m ≤ 2068 → r ≡ count t (to - from) from) ⌝ }
+    requires { ⌜ (from < to) × (to ≤ 135424) ⌝ }
+    ensures { λ r. ⌜ ((t : ℕ → Bool) (m : ℕ) → Holds t (now (map .entry)) m → to ≤ 64 * m → m ≤ 2116 → r ≡ count t (to - from) from) ⌝ }
 {
     let a = from / 64;
     let b = to / 64;
@@ -201,8 +236,8 @@ fn count_before(map: &[u64; WORDS], from: usize, to: usize) -> usize
 
 // How many places of the words from a and before b pass.
 fn count_words(map: &[u64; WORDS], a: usize, b: usize) -> usize
-    requires { ⌜ (a ≤ b) × (b ≤ 2068) ⌝ }
-    ensures { λ r. ⌜ (r ≤ 132352) × ((t : ℕ → Bool) (m : ℕ) → Holds t (now (map .entry)) m → b ≤ m → r ≡ count t (64 * (b - a)) (64 * a)) ⌝ }
+    requires { ⌜ (a ≤ b) × (b ≤ 2116) ⌝ }
+    ensures { λ r. ⌜ (r ≤ 135424) × ((t : ℕ → Bool) (m : ℕ) → Holds t (now (map .entry)) m → b ≤ m → r ≡ count t (64 * (b - a)) (64 * a)) ⌝ }
 {
     let mut found: usize = 0;
     let mut w = a;
@@ -287,6 +322,13 @@ fn alone_word(x: u64, y: u64) -> u64
     let x1 = on(x, y, 1);
     let x2 = on(x, y, 2);
     x & !(x1 | x2)
+}
+
+fn both_word(x: u64, y: u64, k: usize) -> u64
+    requires { ⌜ (1 ≤ k) × (k < 64) ⌝ }
+    ensures { λ r. ⌜ ((t : ℕ → Bool) (p : ℕ) → x ≡ mask t 64 p → y ≡ mask t 64 (p + 64) → r ≡ mask (bothAt k t) 64 p) ⌝ }
+{
+    x & on(x, y, k)
 }
 
 fn seven_word(x: u64, y: u64, a: u64, b: u64) -> u64

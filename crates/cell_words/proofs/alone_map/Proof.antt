@@ -12,10 +12,10 @@ use Rattle.cell_words.proofs.alone_map.Statement.{statement}
 use Rattle.cell_words.proofs.alone_map.Tie as tie
 
 abbrev Inv-loop : tie.InvT-loop
-Inv-loop words map₀ w₀ map w = (w ≤ 2067) × (length map ≡ length map₀) × ((t : ℕ → Bool) → Holds t words 2068 → length map₀ ≡ 2068 → Holds (aloneAt t) map w)
+Inv-loop words map₀ w₀ map w = (w ≤ 2115) × (length map ≡ length map₀) × ((t : ℕ → Bool) → Holds t words 2116 → length map₀ ≡ 2116 → Holds (aloneAt t) map w)
 
 abbrev μ-loop : tie.MeasureT-loop
-μ-loop words map₀ w₀ map w = 2067 - w
+μ-loop words map₀ w₀ map w = 2115 - w
 
 loop-holds : tie.Need-loop-holds Inv-loop μ-loop
 loop-holds c = (search needs, refl, λ t h n. holds-none _ _)
@@ -62,13 +62,13 @@ loop-again c =
       simp length-set (l .loop .inv .1),
       λ t h n.
           holds-more (aloneAt t) (l .loop .map) w _ (l .loop .inv .2 t h n) (omega arith)
-          (c .alone-word .ensures t (64 * w) (holds-at t x 2068 w h (search needs)) (holds-next t x 2068 w h (search needs))),
+          (c .alone-word .ensures t (64 * w) (holds-at t x 2116 w h (search needs)) (holds-next t x 2116 w h (search needs))),
     )
 
 returns : tie.Need-returns Inv-loop μ-loop
 returns c t h n =
     let l = c .before .loop in
-    let e : l .w ≡ 2067 = omega (arith, c .loop-test .left) in
+    let e : l .w ≡ 2115 = omega (arith, c .loop-test .left) in
     (l .inv .1 ∙ n, rw (← e) (l .inv .2 t h n))
 
 pub alone-map-spec : {M : Type 1} → statement M

@@ -12,10 +12,10 @@ use Rattle.cell_words.proofs.gap_map.Statement.{statement}
 use Rattle.cell_words.proofs.gap_map.Tie as tie
 
 abbrev Inv-loop : tie.InvT-loop
-Inv-loop words alone map₀ w₀ map w = (w ≤ 2067) × (length map ≡ length map₀) × ((s t : ℕ → Bool) → Holds s words 2068 → Holds t alone 2067 → length map₀ ≡ 2068 → Holds (gapFrom s t) map w)
+Inv-loop words alone map₀ w₀ map w = (w ≤ 2115) × (length map ≡ length map₀) × ((s t : ℕ → Bool) → Holds s words 2116 → Holds t alone 2115 → length map₀ ≡ 2116 → Holds (gapFrom s t) map w)
 
 abbrev μ-loop : tie.MeasureT-loop
-μ-loop words alone map₀ w₀ map w = 2067 - w
+μ-loop words alone map₀ w₀ map w = 2115 - w
 
 loop-holds : tie.Need-loop-holds Inv-loop μ-loop
 loop-holds c = (search needs, refl, λ s t h g n. holds-none _ _)
@@ -69,13 +69,13 @@ loop-again c =
       simp length-set (l .loop .inv .1),
       λ s t h g n.
           holds-more (gapFrom s t) (l .loop .map) w _ (l .loop .inv .2 s t h g n) (omega arith)
-          (c .gap-word .ensures s t (64 * w) (holds-at s x 2068 w h (search needs)) (holds-next s x 2068 w h (search needs)) (holds-at t y 2067 w g (search needs))),
+          (c .gap-word .ensures s t (64 * w) (holds-at s x 2116 w h (search needs)) (holds-next s x 2116 w h (search needs)) (holds-at t y 2115 w g (search needs))),
     )
 
 returns : tie.Need-returns Inv-loop μ-loop
 returns c s t h g n =
     let l = c .before .loop in
-    let e : l .w ≡ 2067 = omega (arith, c .loop-test .left) in
+    let e : l .w ≡ 2115 = omega (arith, c .loop-test .left) in
     (l .inv .1 ∙ n, rw (← e) (l .inv .2 s t h g n))
 
 pub gap-map-spec : {M : Type 1} → statement M

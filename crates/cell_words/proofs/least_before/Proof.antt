@@ -13,11 +13,11 @@ use Rattle.cell_words.proofs.least_before.Tie as tie
 
 abbrev Inv-loop : tie.InvT-loop
 Inv-loop map from to w₀ first w =
-    (w ≤ 2068) × (from ≤ 64 * w)
+    (w ≤ 2116) × (from ≤ 64 * w)
     × ((t : ℕ → Bool) (m : ℕ) → Holds t map m → to ≤ 64 * m → least t (64 * m - from) from ≡ least t (64 * m - 64 * w) (64 * w))
 
 abbrev μ-loop : tie.MeasureT-loop
-μ-loop map from to w₀ first w = 2068 - w
+μ-loop map from to w₀ first w = 2116 - w
 
 mul-first : tie.Need-mul-first Inv-loop μ-loop
 mul-first c = search needs

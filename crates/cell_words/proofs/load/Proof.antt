@@ -13,10 +13,10 @@ use Rattle.cell_words.proofs.load.Statement.{statement}
 use Rattle.cell_words.proofs.load.Tie as tie
 
 abbrev Inv-loop : tie.InvT-loop
-Inv-loop bytes n words₀ w₀ words w = (w ≤ 2068) × (length words ≡ length words₀) × (length words₀ ≡ 2068 → Holds (oneAt (cell bytes n)) words w)
+Inv-loop bytes n words₀ w₀ words w = (w ≤ 2116) × (length words ≡ length words₀) × (length words₀ ≡ 2116 → Holds (oneAt (cell bytes n)) words w)
 
 abbrev μ-loop : tie.MeasureT-loop
-μ-loop bytes n words₀ w₀ words w = 2068 - w
+μ-loop bytes n words₀ w₀ words w = 2116 - w
 
 loop-holds : tie.Need-loop-holds Inv-loop μ-loop
 loop-holds c = (search needs, refl, λ n. holds-none _ _)
@@ -53,7 +53,7 @@ loop-again c =
 returns : tie.Need-returns Inv-loop μ-loop
 returns c n =
     let l = c .before .loop in
-    let e : l .w ≡ 2068 = omega (arith, c .loop-test .left) in
+    let e : l .w ≡ 2116 = omega (arith, c .loop-test .left) in
     (l .inv .1 ∙ n, rw (← e) (l .inv .2 n))
 
 pub load-spec : {M : Type 1} → statement M

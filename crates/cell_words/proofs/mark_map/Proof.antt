@@ -27,9 +27,9 @@ unfolding syncTest
 returns c n =
     let a = c .before .before .before .before .before .before .before .before .before .before .before .before .before .before .before .before .before .args in
     let o = oneAt (cell (a .bytes .now) (a .n)) in
-    let w = c .before .before .before .before .before .before .before .before .before .before .before .before .before .before .load .ensures (length-replicate {A = ℕ} 2068 0) in
-    let p = c .before .before .before .before .before .before .before .before .before .before .before .alone-map .ensures o (w .1) (length-replicate {A = ℕ} 2068 0) in
-    let v = c .before .before .before .before .before .before .before .seven-map .ensures o (aloneAt o) (w .1) (p .1) (length-replicate {A = ℕ} 2068 0) in
+    let w = c .before .before .before .before .before .before .before .before .before .before .before .before .before .before .load .ensures (length-replicate {A = ℕ} 2116 0) in
+    let p = c .before .before .before .before .before .before .before .before .before .before .before .alone-map .ensures o (w .1) (length-replicate {A = ℕ} 2116 0) in
+    let v = c .before .before .before .before .before .before .before .seven-map .ensures o (aloneAt o) (w .1) (p .1) (length-replicate {A = ℕ} 2116 0) in
     let y = c .before .before .before .sync-map .ensures o (sevenFrom o (aloneAt o)) (w .1) (v .1) (p .0) in
     c .thrice-map .ensures (syncFrom o (sevenFrom o (aloneAt o))) (y .1) n
 

@@ -12,10 +12,10 @@ use Rattle.cell_words.proofs.thrice_map.Statement.{statement}
 use Rattle.cell_words.proofs.thrice_map.Tie as tie
 
 abbrev Inv-loop : tie.InvT-loop
-Inv-loop syncs map₀ w₀ map w = (w ≤ 2064) × (length map ≡ length map₀) × ((t : ℕ → Bool) → Holds t syncs 2065 → length map₀ ≡ 2068 → Holds (thriceAt t) map w)
+Inv-loop syncs map₀ w₀ map w = (w ≤ 2112) × (length map ≡ length map₀) × ((t : ℕ → Bool) → Holds t syncs 2113 → length map₀ ≡ 2116 → Holds (thriceAt t) map w)
 
 abbrev μ-loop : tie.MeasureT-loop
-μ-loop syncs map₀ w₀ map w = 2064 - w
+μ-loop syncs map₀ w₀ map w = 2112 - w
 
 loop-holds : tie.Need-loop-holds Inv-loop μ-loop
 loop-holds c = (search needs, refl, λ t h n. holds-none _ _)
@@ -62,13 +62,13 @@ loop-again c =
       simp length-set (l .loop .inv .1),
       λ t h n.
           holds-more (thriceAt t) (l .loop .map) w _ (l .loop .inv .2 t h n) (omega arith)
-          (c .thrice-word .ensures t (64 * w) (holds-at t x 2065 w h (search needs)) (holds-next t x 2065 w h (search needs))),
+          (c .thrice-word .ensures t (64 * w) (holds-at t x 2113 w h (search needs)) (holds-next t x 2113 w h (search needs))),
     )
 
 returns : tie.Need-returns Inv-loop μ-loop
 returns c t h n =
     let l = c .before .loop in
-    let e : l .w ≡ 2064 = omega (arith, c .loop-test .left) in
+    let e : l .w ≡ 2112 = omega (arith, c .loop-test .left) in
     (l .inv .1 ∙ n, rw (← e) (l .inv .2 t h n))
 
 pub thrice-map-spec : {M : Type 1} → statement M

@@ -1,9 +1,9 @@
--- `cell_patterns::find_gaps` meets its contract: each density with its numbers. Assumes nothing.
+-- `cell_patterns::gaps_by_cells` meets its contract: each density with its numbers. Assumes nothing.
 use mathlib.Core.Path.{refl}
 use Rattle.layouts.specs.Layouts.{doubleDensity, singleDensity}
 use borrow.Author.Needs.{needs}
-use Rattle.cell_patterns.proofs.find_gaps.Statement.{statement}
-use Rattle.cell_patterns.proofs.find_gaps.Tie as tie
+use Rattle.cell_patterns.proofs.gaps_by_cells.Statement.{statement}
+use Rattle.cell_patterns.proofs.gaps_by_cells.Tie as tie
 
 enum-told : tie.Need-enum-told
 enum-told c = search needs
@@ -25,5 +25,5 @@ returns-2 : tie.Need-returns-2
 unfolding doubleDensity
 returns-2 c = rw (c .before .enum-told2 .given .1) (c .gaps-between2 .ensures doubleDensity refl refl)
 
-pub find-gaps-spec : {M : Type 1} → statement M
-find-gaps-spec = tie.close (tie.spec enum-told gaps-between-requires enum-told-2 gaps-between-requires-2 returns returns-2)
+pub gaps-by-cells-spec : {M : Type 1} → statement M
+gaps-by-cells-spec = tie.close (tie.spec enum-told gaps-between-requires enum-told-2 gaps-between-requires-2 returns returns-2)
