@@ -6,7 +6,7 @@ use layouts::layout_of;
 ghost use mathlib.Core.Path.{_≡_};
 ghost use mathlib.Core.Bool.{true, cond, _&&_};
 ghost use mathlib.Core.List.{[]};
-ghost use Prim.Native.Nat.{_+_, _-_, _*_, _<_, _≤_};
+ghost use Prim.Native.Nat.{_+_, _-_, _*_, _%_, _<_, _≤_};
 ghost use lib.Dec.{ltb, leb};
 ghost use Rattle.basis.specs.Lists.{joined};
 ghost use Rattle.basis.specs.Search.{least};
@@ -316,18 +316,28 @@ fn check_good(layout: Layout, bytes: &[u8], n: usize, p: usize, k: usize) -> boo
         == check_bytes(bytes, n, p + layout.mark_length + BYTE_LENGTH * k)
 }
 
-// The check word of the k bytes from p on, where it was `start` before them.
+// The check word of the k bytes from p on, where it was `start` before them. They are decoded four at a turn.
 fn check_word(start: u16, bytes: &[u8], n: usize, p: usize, k: usize) -> u16
     requires { ⌜ (p ≤ 200048) × (k ≤ 1025) ⌝ }
     ensures { λ r. ⌜ r ≡ checkWordFrom start (bytesFrom (cell (now (bytes .entry)) n) p k) ⌝ }
 {
-    let mut word = start;
+    let mut decoded = [0u8; 1028];
     let mut i: usize = 0;
     while i < k {
-        word = crc::step(word, mfm::byte_on(bytes, n, p + BYTE_LENGTH * i));
-        i += 1;
+        let four = mfm::data_cells(cell_words::word_from(bytes, n, p + BYTE_LENGTH * i));
+        decoded[i] = low_byte(four >> 24);
+        decoded[i + 1] = low_byte(four >> 16);
+        decoded[i + 2] = low_byte(four >> 8);
+        decoded[i + 3] = low_byte(four);
+        i += 4;
     }
-    word
+    crc::check_word_from(start, &decoded[..k])
+}
+
+fn low_byte(x: u64) -> u8
+    ensures { λ r. ⌜ r ≡ x % 256 ⌝ }
+{
+    (x % 256) as u8
 }
 
 // The two check bytes from p on, as a word.
