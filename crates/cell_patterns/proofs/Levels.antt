@@ -11,7 +11,8 @@ use lib.Dec.{ltb, leb}
 use Rattle.basis.specs.Search.{least, most}
 use Rattle.basis.proofs.Bools.{and-left, and-right, fails}
 use Rattle.basis.proofs.Search.{least-low, least-high, least-before, least-found, least-le, most-above}
-use Rattle.cell_words.specs.Words.{Holds}
+use lib.ListN.{length}
+use Rattle.cell_words.specs.Words.{Holds, MapOf}
 use Rattle.cell_words.specs.Tests.{oneAt, notAt, bothAt}
 use Rattle.cell_words.proofs.Words.{holds-less}
 use Rattle.cell_patterns.specs.Cells.{isOne, zerosFrom, longestRun, runFrom, longestStart}
@@ -146,30 +147,31 @@ module _ (f : ℕ → ℕ) (n : ℕ) where
 pub record Bisected (f : ℕ → ℕ) (n : ℕ) (zeros : List ℕ) (start longest high : ℕ) : Type 0 where
   pub test : ℕ → Bool
   pub level : Level f n longest test
-  pub map : Holds test zeros (2053 + (high - longest))
+  pub long : length zeros ≡ 2116
+  pub map : Holds test zeros (n / 64 + 5 + (high - longest))
   pub start-is : start ≡ least test n 0
   pub inside : start < n
   pub none : high < 64 → (q : ℕ) → q < n → zerosFrom f n q < high
 
 module _ (f : ℕ → ℕ) (n : ℕ) (h : 128 ≤ n) where
-  pub bisected-first : (zeros : List ℕ) (start : ℕ) → Holds (notAt (oneAt f)) zeros 2116 → start ≡ least (notAt (oneAt f)) n 0 → start < n → Bisected f n zeros start 1 64
-  bisected-first zeros start m e l =
-      record { test = notAt (oneAt f); level = level-one f n (omega arith); map = m; start-is = e; inside = l; none = λ g. absurd (omega arith) }
+  pub bisected-first : (zeros : List ℕ) (start : ℕ) → length zeros ≡ 2116 → Holds (notAt (oneAt f)) zeros (n / 64 + 68) → start ≡ least (notAt (oneAt f)) n 0 → start < n → Bisected f n zeros start 1 64
+  bisected-first zeros start long m e l =
+      record { test = notAt (oneAt f); level = level-one f n (omega arith); long = long; map = holds-less (notAt (oneAt f)) zeros (n / 64 + 68) (n / 64 + 5 + 63) m (omega arith); start-is = e; inside = l; none = λ g. absurd (omega arith) }
 
   pub bisected-more : (zeros zeros′ : List ℕ) (start longest high step at : ℕ) (b : Bool) → Bisected f n zeros start longest high
       → 1 ≤ step → step ≤ longest → step < high - longest → high ≤ 64 → b ≡ ltb at n
-      → ((t : ℕ → Bool) (m : ℕ) → Holds t zeros (m + 1) → m < 2116 → n ≤ 64 * m
-      → (at ≡ least (bothAt step t) n 0) × (at < n → Holds (bothAt step t) zeros′ m) × (n ≤ at → zeros′ ≡ zeros))
+      → ((t : ℕ → Bool) → Holds t zeros (n / 64 + 4 + (high - longest) + 1) → n / 64 + 4 + (high - longest) < 2116 → n ≤ 64 * (n / 64 + 4 + (high - longest)) → length zeros ≡ 2116
+      → (at ≡ least (bothAt step t) n 0) × (at < n → MapOf (bothAt step t) zeros′ (n / 64 + 4 + (high - longest))) × (n ≤ at → zeros′ ≡ zeros))
       → n ≤ 131072
       → Bisected f n zeros′ (cond b at start) (cond b (longest + step) longest) (cond b high (longest + step))
   bisected-more zeros zeros′ start longest high step at b o one low up few eb made most =
       go b eb
     where
       m : ℕ
-      m = 2052 + (high - longest)
+      m = n / 64 + 4 + (high - longest)
 
-      told : (at ≡ least (bothAt step (o .test)) n 0) × (at < n → Holds (bothAt step (o .test)) zeros′ m) × (n ≤ at → zeros′ ≡ zeros)
-      told = let e : 2053 + (high - longest) ≡ m + 1 = omega arith in made (o .test) m (rw e at (o .map)) (omega arith) (omega arith)
+      told : (at ≡ least (bothAt step (o .test)) n 0) × (at < n → MapOf (bothAt step (o .test)) zeros′ m) × (n ≤ at → zeros′ ≡ zeros)
+      told = made (o .test) (holds-less (o .test) zeros (n / 64 + 5 + (high - longest)) (n / 64 + 4 + (high - longest) + 1) (o .map) (omega arith)) (omega arith) (omega arith) (o .long)
 
       level : Level f n (longest + step) (bothAt step (o .test))
       level = level-more f n longest step (o .test) (o .level) low (omega arith)
@@ -180,7 +182,8 @@ module _ (f : ℕ → ℕ) (n : ℕ) (h : 128 ≤ n) where
           record {
             test = bothAt step (o .test);
             level = level;
-            map = holds-less (bothAt step (o .test)) zeros′ m (2053 + (high - (longest + step))) (told .1 l) (omega arith);
+            long = told .1 l .0;
+            map = holds-less (bothAt step (o .test)) zeros′ m (n / 64 + 5 + (high - (longest + step))) (told .1 l .1) (omega arith);
             start-is = told .0;
             inside = l;
             none = o .none;
@@ -190,7 +193,8 @@ module _ (f : ℕ → ℕ) (n : ℕ) (h : 128 ≤ n) where
           record {
             test = o .test;
             level = o .level;
-            map = rw (told .2 l) (holds-less (o .test) zeros (2053 + (high - longest)) (2053 + (longest + step - longest)) (o .map) (omega arith));
+            long = rw (told .2 l) (o .long);
+            map = rw (told .2 l) (holds-less (o .test) zeros (n / 64 + 5 + (high - longest)) (n / 64 + 5 + (longest + step - longest)) (o .map) (omega arith));
             start-is = o .start-is;
             inside = o .inside;
             none = λ g q d. none-so-long f n (longest + step) (bothAt step (o .test)) level (omega (arith, told .0)) q d;

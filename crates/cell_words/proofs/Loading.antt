@@ -60,3 +60,9 @@ module _ (bytes : List ℕ) (n at p x : ℕ) where
 
   pub word-at-place : ((q : ℕ) → cell bytes n (at + q) ≡ cell bytes n (p + q)) → x ≡ wordAt bytes n at 64 → x ≡ word (cell bytes n) 64 p
   word-at-place same e = e ∙ word-is bytes n 64 0 at (omega arith) ∙ word-moved same
+
+-- a word that lies whole on the track
+pub eight-at : (bytes : List ℕ) (n w x : ℕ) → 64 * w + 64 ≤ n → x ≡ word (cellAt bytes) 64 (8 * (8 * w)) → x ≡ word (cell bytes n) 64 (64 * w)
+eight-at bytes n w x h e =
+    let g : 8 * (8 * w) ≡ 64 * w = omega arith in
+    e ∙ ap (word (cellAt bytes) 64) g ∙ sym (word-same (cell bytes n) (cellAt bytes) 64 (64 * w) (64 * w) (λ j l. cell-low bytes n (64 * w + j) (omega arith)))

@@ -212,15 +212,6 @@ holds-more t words i v h l e w g = go (ℕ-discrete w i)
     go (yes s) = rw s (getD-set-same words i v 0 l ∙ e)
     go (no s) = getD-set-other words i w v 0 s ∙ h w (omega arith)
 
--- one word more, of which only the first m count
-pub holds-up-to : (t : ℕ → Bool) (words : List ℕ) (m i v : ℕ) → Holds t words (min i m) → i < length words → (i < m → v ≡ mask t 64 (64 * i)) → Holds t (set words i v) (min (i + 1) m)
-unfolding Holds
-holds-up-to t words m i v h l e w g = go (ℕ-discrete w i)
-  where
-    go : Dec (w ≡ i) → getD (set words i v) w 0 ≡ mask t 64 (64 * w)
-    go (yes s) = rw s (getD-set-same words i v 0 l ∙ e (omega arith))
-    go (no s) = getD-set-other words i w v 0 s ∙ h w (omega arith)
-
 -- A word that holds a test at the 64 places from p, and what is made of such words: a proof follows the code's expression.
 pub record Is (t : ℕ → Bool) (p x : ℕ) : Type 0 where
   pub is : x ≡ mask t 64 p
@@ -284,3 +275,23 @@ holds-same s t e words m h w l = h w l ∙ mask-same s t 64 (64 * w) (64 * w) (�
 pub holds-less : (t : ℕ → Bool) (words : List ℕ) (m k : ℕ) → Holds t words m → k ≤ m → Holds t words k
 unfolding Holds
 holds-less t words m k h l w g = h w (omega arith)
+
+-- a list that is changed only before w
+pub Rest : List ℕ → List ℕ → ℕ → Type 0
+Rest words words₀ w = (j : ℕ) → w ≤ j → getD words j 0 ≡ getD words₀ j 0
+
+pub rest-none : (words : List ℕ) → Rest words words 0
+unfolding Rest
+rest-none words j h = refl
+
+pub rest-more : (words words₀ : List ℕ) (w v : ℕ) → Rest words words₀ w → Rest (set words w v) words₀ (w + 1)
+unfolding Rest
+rest-more words words₀ w v h j l = getD-set-other words w j v 0 (λ e. omega arith) ∙ h j (omega arith)
+
+pub rest-at : (t : ℕ → Bool) (words words₀ : List ℕ) (m w : ℕ) → Rest words words₀ w → Holds t words₀ m → w < m → getD words w 0 ≡ mask t 64 (64 * w)
+unfolding Rest
+rest-at t words words₀ m w h g l = h w (omega arith) ∙ holds-at t words₀ m w g l
+
+pub rest-next : (t : ℕ → Bool) (words words₀ : List ℕ) (m w : ℕ) → Rest words words₀ w → Holds t words₀ m → w + 1 < m → getD words (w + 1) 0 ≡ mask t 64 (64 * w + 64)
+unfolding Rest
+rest-next t words words₀ m w h g l = h (w + 1) (omega arith) ∙ holds-next t words₀ m w g l

@@ -34,42 +34,64 @@ pub fn word_from(bytes: &[u8], n: usize, p: usize) -> u64
     cells::word_at(bytes, n, at, 64)
 }
 
-// The map of the ones of a track, which goes on round it.
-pub fn load(bytes: &[u8], n: usize, words: &mut [u64; WORDS])
-    ensures { λ _. ⌜ (length (now (words .entry)) ≡ 2116 → MapOf (oneAt (cell (now (bytes .entry)) n)) (now (words .exit)) 2116) ⌝ }
+// The first m words of the map of a track's ones, which goes on round it.
+pub fn load(bytes: &[u8], n: usize, words: &mut [u64; WORDS], m: usize)
+    ensures { λ _. ⌜ (length (now (words .entry)) ≡ 2116 → m ≤ 2116 → MapOf (oneAt (cell (now (bytes .entry)) n)) (now (words .exit)) m) ⌝ }
 {
+    let end = smaller(m, WORDS);
+    let whole = smaller(smaller(n / 64, bytes.len() / 8), end);
     let mut w: usize = 0;
-    while w < WORDS {
+    while w < whole {
+        words[w] = eight_bytes(bytes, 8 * w);
+        w += 1;
+    }
+    while w < end {
         words[w] = word_from(bytes, n, 64 * w);
         w += 1;
     }
 }
 
-// The map of the places where a test passes, and not at the next two. Each map that is made of others has a word less than they have.
-pub fn alone_map(words: &[u64; WORDS], map: &mut [u64; WORDS])
-    ensures { λ _. ⌜ ((t : ℕ → Bool) → Holds t (now (words .entry)) 2116 → length (now (map .entry)) ≡ 2116 → MapOf (aloneAt t) (now (map .exit)) 2115) ⌝ }
-{
-    let mut w: usize = 0;
-    while w < WORDS - 1 {
-        map[w] = alone_word(words[w], words[w + 1]);
-        w += 1;
-    }
-}
+// The functions below make the first m words of a map out of one word more of others, or change a map in place.
 
 // The map of the places where a test fails.
-pub fn not_map(words: &[u64; WORDS], map: &mut [u64; WORDS])
-    ensures { λ _. ⌜ ((t : ℕ → Bool) → Holds t (now (words .entry)) 2116 → length (now (map .entry)) ≡ 2116 → MapOf (notAt t) (now (map .exit)) 2116) ⌝ }
+pub fn not_map(words: &[u64; WORDS], map: &mut [u64; WORDS], m: usize)
+    ensures { λ _. ⌜ ((t : ℕ → Bool) → Holds t (now (words .entry)) m → m ≤ 2116 → length (now (map .entry)) ≡ 2116 → MapOf (notAt t) (now (map .exit)) m) ⌝ }
 {
+    let end = smaller(m, WORDS);
     let mut w: usize = 0;
-    while w < WORDS {
+    while w < end {
         map[w] = !words[w];
         w += 1;
     }
 }
 
-// The map of the places where a test passes, and k places on too, for a k from 1 to 63. Of m + 1 words it has m.
-pub fn both_map(words: &[u64; WORDS], k: usize, map: &mut [u64; WORDS])
-    ensures { λ _. ⌜ ((t : ℕ → Bool) (m : ℕ) → Holds t (now (words .entry)) (m + 1) → m < 2116 → 1 ≤ k → k < 64 → length (now (map .entry)) ≡ 2116 → MapOf (bothAt k t) (now (map .exit)) m) ⌝ }
+// The map of the places where a test passes, and not at the next two.
+pub fn alone_map(words: &[u64; WORDS], map: &mut [u64; WORDS], m: usize)
+    ensures { λ _. ⌜ ((t : ℕ → Bool) → Holds t (now (words .entry)) (m + 1) → m < 2116 → length (now (map .entry)) ≡ 2116 → MapOf (aloneAt t) (now (map .exit)) m) ⌝ }
+{
+    let end = smaller(m, WORDS - 1);
+    let mut w: usize = 0;
+    while w < end {
+        map[w] = alone_word(words[w], words[w + 1]);
+        w += 1;
+    }
+}
+
+// Out of the map of 100, that of the ones whose next one is too near or too far in double density.
+pub fn gap_map(words: &[u64; WORDS], map: &mut [u64; WORDS], m: usize)
+    ensures { λ _. ⌜ ((s t : ℕ → Bool) → Holds s (now (words .entry)) (m + 1) → Holds t (now (map .entry)) m → m < 2116 → length (now (map .entry)) ≡ 2116 → MapOf (gapFrom s t) (now (map .exit)) m) ⌝ }
+{
+    let end = smaller(m, WORDS - 1);
+    let mut w: usize = 0;
+    while w < end {
+        map[w] = gap_word(words[w], words[w + 1], map[w]);
+        w += 1;
+    }
+}
+
+// Leaves in a map the places from which its test passes k places on too, for a k from 1 to 63.
+pub fn both_map(map: &mut [u64; WORDS], k: usize, m: usize)
+    ensures { λ _. ⌜ ((t : ℕ → Bool) → Holds t (now (map .entry)) (m + 1) → m < 2116 → 1 ≤ k → k < 64 → length (now (map .entry)) ≡ 2116 → MapOf (bothAt k t) (now (map .exit)) m) ⌝ }
 {
     if k == 0 {
         return;
@@ -77,74 +99,100 @@ pub fn both_map(words: &[u64; WORDS], k: usize, map: &mut [u64; WORDS])
     if 63 < k {
         return;
     }
-    both_by(words, k, map);
+    both_by(map, k, m);
 }
 
-fn both_by(words: &[u64; WORDS], k: usize, map: &mut [u64; WORDS])
-    requires { ⌜ (1 ≤ k) × (k < 64) ⌝ }
-    ensures { λ _. ⌜ ((t : ℕ → Bool) (m : ℕ) → Holds t (now (words .entry)) (m + 1) → m < 2116 → length (now (map .entry)) ≡ 2116 → MapOf (bothAt k t) (now (map .exit)) m) ⌝ }
+// The least place before `to` at which the test of a map passes, and k places on too; `to` where there is none.
+pub fn least_both(map: &[u64; WORDS], k: usize, to: usize) -> usize
+    ensures { λ r. ⌜ ((t : ℕ → Bool) (m : ℕ) → Holds t (now (map .entry)) (m + 1) → to ≤ 64 * m → m < 2116 → 1 ≤ k → k < 64 → r ≡ least (bothAt k t) to 0) ⌝ }
 {
-    let mut w: usize = 0;
-    while w < WORDS - 1 {
-        map[w] = both_word(words[w], words[w + 1], k);
-        w += 1;
+    if k == 0 {
+        return to;
     }
-}
-
-// The map of the ones whose next one is too near or too far in double density.
-pub fn gap_map(words: &[u64; WORDS], alone: &[u64; WORDS], map: &mut [u64; WORDS])
-    ensures { λ _. ⌜ ((s t : ℕ → Bool) → Holds s (now (words .entry)) 2116 → Holds t (now (alone .entry)) 2115 → length (now (map .entry)) ≡ 2116 → MapOf (gapFrom s t) (now (map .exit)) 2115) ⌝ }
-{
-    let mut w: usize = 0;
-    while w < WORDS - 1 {
-        map[w] = gap_word(words[w], words[w + 1], alone[w]);
-        w += 1;
+    if 63 < k {
+        return to;
     }
+    if to == 0 {
+        return 0;
+    }
+    if PLACES - 64 < to {
+        return to;
+    }
+    least_by(map, k, to)
 }
 
 // The map of the places where three syncs follow each other.
-pub fn mark_map(bytes: &[u8], n: usize, map: &mut [u64; WORDS])
-    ensures { λ _. ⌜ (length (now (map .entry)) ≡ 2116 → MapOf (thriceAt (syncTest (cell (now (bytes .entry)) n))) (now (map .exit)) 2112) ⌝ }
+pub fn mark_map(bytes: &[u8], n: usize, map: &mut [u64; WORDS], m: usize)
+    ensures { λ _. ⌜ (length (now (map .entry)) ≡ 2116 → m ≤ 2112 → MapOf (thriceAt (syncTest (cell (now (bytes .entry)) n))) (now (map .exit)) m) ⌝ }
 {
+    let count = smaller(m, WORDS - 4);
     let mut words = [0u64; WORDS];
-    let mut alone = [0u64; WORDS];
-    let mut sevens = [0u64; WORDS];
-    load(bytes, n, &mut words);
-    alone_map(&words, &mut alone);
-    seven_map(&words, &alone, &mut sevens);
-    sync_map(&words, &sevens, &mut alone);
-    thrice_map(&alone, map);
+    load(bytes, n, &mut words, count + 4);
+    alone_map(&words, map, count + 3);
+    seven_map(&words, map, count + 2);
+    sync_map(&words, map, count + 1);
+    thrice_map(map, count);
 }
 
-// The map of 1000100, out of the ones and the map of 100.
-fn seven_map(words: &[u64; WORDS], alone: &[u64; WORDS], map: &mut [u64; WORDS])
-    ensures { λ _. ⌜ ((s t : ℕ → Bool) → Holds s (now (words .entry)) 2116 → Holds t (now (alone .entry)) 2115 → length (now (map .entry)) ≡ 2116 → MapOf (sevenFrom s t) (now (map .exit)) 2114) ⌝ }
+fn both_by(map: &mut [u64; WORDS], k: usize, m: usize)
+    requires { ⌜ (1 ≤ k) × (k < 64) ⌝ }
+    ensures { λ _. ⌜ ((t : ℕ → Bool) → Holds t (now (map .entry)) (m + 1) → m < 2116 → length (now (map .entry)) ≡ 2116 → MapOf (bothAt k t) (now (map .exit)) m) ⌝ }
 {
+    let end = smaller(m, WORDS - 1);
     let mut w: usize = 0;
-    while w < WORDS - 2 {
-        map[w] = seven_word(words[w], words[w + 1], alone[w], alone[w + 1]);
+    while w < end {
+        map[w] = both_word(map[w], map[w + 1], k);
         w += 1;
     }
 }
 
-// The map of 4489, out of the ones and the map of 1000100.
-fn sync_map(words: &[u64; WORDS], sevens: &[u64; WORDS], map: &mut [u64; WORDS])
-    ensures { λ _. ⌜ ((s t : ℕ → Bool) → Holds s (now (words .entry)) 2116 → Holds t (now (sevens .entry)) 2114 → length (now (map .entry)) ≡ 2116 → MapOf (syncFrom s t) (now (map .exit)) 2113) ⌝ }
+fn least_by(map: &[u64; WORDS], k: usize, to: usize) -> usize
+    requires { ⌜ (1 ≤ k) × (k < 64) × (0 < to) × (to ≤ 135360) ⌝ }
+    ensures { λ r. ⌜ ((t : ℕ → Bool) (m : ℕ) → Holds t (now (map .entry)) (m + 1) → to ≤ 64 * m → m < 2116 → r ≡ least (bothAt k t) to 0) ⌝ }
 {
     let mut w: usize = 0;
-    while w < WORDS - 3 {
-        map[w] = sync_word(words[w], words[w + 1], sevens[w], sevens[w + 1]);
+    while 64 * w < to {
+        let x = both_word(map[w], map[w + 1], k);
+        if x != 0 {
+            return smaller(to, 64 * w + zeros_before(x));
+        }
+        w += 1;
+    }
+    to
+}
+
+// Out of the map of 100, that of 1000100.
+fn seven_map(words: &[u64; WORDS], map: &mut [u64; WORDS], m: usize)
+    ensures { λ _. ⌜ ((s t : ℕ → Bool) → Holds s (now (words .entry)) (m + 1) → Holds t (now (map .entry)) (m + 1) → m < 2116 → length (now (map .entry)) ≡ 2116 → MapOf (sevenFrom s t) (now (map .exit)) m) ⌝ }
+{
+    let end = smaller(m, WORDS - 1);
+    let mut w: usize = 0;
+    while w < end {
+        map[w] = seven_word(words[w], words[w + 1], map[w], map[w + 1]);
         w += 1;
     }
 }
 
-// The map of the places where a test passes three times, 16 places from one to the next.
-fn thrice_map(syncs: &[u64; WORDS], map: &mut [u64; WORDS])
-    ensures { λ _. ⌜ ((t : ℕ → Bool) → Holds t (now (syncs .entry)) 2113 → length (now (map .entry)) ≡ 2116 → MapOf (thriceAt t) (now (map .exit)) 2112) ⌝ }
+// Out of the map of 1000100, that of 4489.
+fn sync_map(words: &[u64; WORDS], map: &mut [u64; WORDS], m: usize)
+    ensures { λ _. ⌜ ((s t : ℕ → Bool) → Holds s (now (words .entry)) (m + 1) → Holds t (now (map .entry)) (m + 1) → m < 2116 → length (now (map .entry)) ≡ 2116 → MapOf (syncFrom s t) (now (map .exit)) m) ⌝ }
 {
+    let end = smaller(m, WORDS - 1);
     let mut w: usize = 0;
-    while w < WORDS - 4 {
-        map[w] = thrice_word(syncs[w], syncs[w + 1]);
+    while w < end {
+        map[w] = sync_word(words[w], words[w + 1], map[w], map[w + 1]);
+        w += 1;
+    }
+}
+
+// Leaves in a map the places from which its test passes three times, 16 places from one to the next.
+fn thrice_map(map: &mut [u64; WORDS], m: usize)
+    ensures { λ _. ⌜ ((t : ℕ → Bool) → Holds t (now (map .entry)) (m + 1) → m < 2116 → length (now (map .entry)) ≡ 2116 → MapOf (thriceAt t) (now (map .exit)) m) ⌝ }
+{
+    let end = smaller(m, WORDS - 1);
+    let mut w: usize = 0;
+    while w < end {
+        map[w] = thrice_word(map[w], map[w + 1]);
         w += 1;
     }
 }

@@ -6,7 +6,7 @@ use layouts::layout_of;
 ghost use mathlib.Core.Path.{_≡_};
 ghost use mathlib.Core.Bool.{true, cond, _&&_};
 ghost use mathlib.Core.List.{[]};
-ghost use Prim.Native.Nat.{_+_, _-_, _*_, _%_, _<_, _≤_};
+ghost use Prim.Native.Nat.{_+_, _-_, _*_, _/_, _%_, _<_, _≤_};
 ghost use lib.Dec.{ltb, leb};
 ghost use Rattle.basis.specs.Lists.{joined};
 ghost use Rattle.basis.specs.Search.{least};
@@ -112,17 +112,18 @@ fn list(layout: Layout, bytes: &[u8], n: usize) -> Sectors
 
 // Makes the map of the marks of double density. In single density marks are looked for as words.
 fn find_marks(layout: Layout, bytes: &[u8], n: usize, marks: &mut [u64; WORDS])
-    ensures { λ _. ⌜ (length (now (marks .entry)) ≡ 2116 → MarkMap layout (cell (now (bytes .entry)) n) (now (marks .exit))) ⌝ }
+    requires { ⌜ n ≤ 131072 ⌝ }
+    ensures { λ _. ⌜ (length (now (marks .entry)) ≡ 2116 → MarkMap layout (cell (now (bytes .entry)) n) n (now (marks .exit))) ⌝ }
 {
     if layout.density == SINGLE_DENSITY {
         return;
     }
-    cell_words::mark_map(bytes, n, marks);
+    cell_words::mark_map(bytes, n, marks, n / 64 + 64);
 }
 
 // The sectors of a track, in one pass from ID mark to ID mark.
 fn list_by(layout: Layout, bytes: &[u8], n: usize, marks: &[u64; WORDS]) -> Sectors
-    requires { ⌜ Sound layout × (n ≤ 131072) × MarkMap layout (cell (now bytes) n) (now marks) ⌝ }
+    requires { ⌜ Sound layout × (n ≤ 131072) × MarkMap layout (cell (now bytes) n) n (now marks) ⌝ }
     ensures { λ r. ⌜ r ≡ kept (sectorsOf layout (now (bytes .entry)) n) ⌝ }
 {
     let mut sectors = no_sectors();
@@ -143,7 +144,7 @@ fn add_at(
     marks: &[u64; WORDS],
     p: usize,
 ) -> Sectors
-    requires { ⌜ Sound layout × (p < 131072) × (sectors ≡ kept (joined (sectorsAt layout (cell (now bytes) n)) p)) × (idMarkAt layout (cell (now bytes) n) p ≡ true) × MarkMap layout (cell (now bytes) n) (now marks) ⌝ }
+    requires { ⌜ Sound layout × (p < 131072) × (sectors ≡ kept (joined (sectorsAt layout (cell (now bytes) n)) p)) × (idMarkAt layout (cell (now bytes) n) p ≡ true) × MarkMap layout (cell (now bytes) n) n (now marks) × (p ≤ n) ⌝ }
     ensures { λ r. ⌜ r ≡ kept (joined (sectorsAt layout (cell (now (bytes .entry)) n)) (p + 1)) ⌝ }
 {
     let at = sectors.count;
@@ -193,7 +194,7 @@ pub fn no_sector() -> Sector
 
 // The record of the ID mark at p.
 fn sector_at(layout: Layout, bytes: &[u8], n: usize, marks: &[u64; WORDS], p: usize) -> Sector
-    requires { ⌜ Sound layout × (p < 131072) × MarkMap layout (cell (now bytes) n) (now marks) ⌝ }
+    requires { ⌜ Sound layout × (p < 131072) × MarkMap layout (cell (now bytes) n) n (now marks) × (p ≤ n) ⌝ }
     ensures { λ r. ⌜ r ≡ sectorAt layout (cell (now (bytes .entry)) n) p ⌝ }
 {
     let mark = mfm::byte_on(bytes, n, p + layout.byte_place);
@@ -236,7 +237,7 @@ fn id_byte(mark: usize, bytes: &[u8], n: usize, p: usize, i: usize) -> u8
 
 // Where the data mark of the ID mark at p stands; one past the reach where there is none.
 fn find_data(layout: Layout, bytes: &[u8], n: usize, marks: &[u64; WORDS], p: usize) -> usize
-    requires { ⌜ Sound layout × (p < 131072) × MarkMap layout (cell (now bytes) n) (now marks) ⌝ }
+    requires { ⌜ Sound layout × (p < 131072) × MarkMap layout (cell (now bytes) n) n (now marks) × (p ≤ n) ⌝ }
     ensures { λ r. ⌜ (r ≡ leastData layout (cell (now (bytes .entry)) n) p) × (r ≤ p + 785) ⌝ }
 {
     let from = p + layout.id_length;
@@ -363,7 +364,7 @@ fn find_id_mark(
     from: usize,
     to: usize,
 ) -> usize
-    requires { ⌜ (from ≤ to) × (to ≤ 132000) × MarkMap layout (cell (now bytes) n) (now marks) ⌝ }
+    requires { ⌜ (from ≤ to) × (to ≤ n + 1000) × MarkMap layout (cell (now bytes) n) n (now marks) ⌝ }
     ensures { λ r. ⌜ r ≡ least (idMarkAt layout (cell (now (bytes .entry)) n)) (to - from) from ⌝ }
 {
     if layout.density == SINGLE_DENSITY {
@@ -382,7 +383,7 @@ fn find_data_mark(
     from: usize,
     to: usize,
 ) -> usize
-    requires { ⌜ (from ≤ to) × (to ≤ 132000) × MarkMap layout (cell (now bytes) n) (now marks) ⌝ }
+    requires { ⌜ (from ≤ to) × (to ≤ n + 1000) × MarkMap layout (cell (now bytes) n) n (now marks) ⌝ }
     ensures { λ r. ⌜ r ≡ least (dataMarkAt layout (cell (now (bytes .entry)) n)) (to - from) from ⌝ }
 {
     if layout.density == SINGLE_DENSITY {
@@ -410,7 +411,7 @@ fn find_mark(
     from: usize,
     to: usize,
 ) -> usize
-    requires { ⌜ (from ≤ to) × (to ≤ 132000) × Holds (markAt (cell (now bytes) n)) (now marks) 2112 ⌝ }
+    requires { ⌜ (from ≤ to) × (to ≤ n + 1000) × Holds (markAt (cell (now bytes) n)) (now marks) (n / 64 + 64) × (n ≤ 131072) ⌝ }
     ensures { λ r. ⌜ r ≡ least (markOf (cell (now (bytes .entry)) n) low high) (to - from) from ⌝ }
 {
     let mut p = cell_words::least_in(marks, from, to);

@@ -20,7 +20,7 @@ least-in-requires : tie.Need-least-in-requires Inv-loop μ-loop
 least-in-requires c κs = search needs
 
 loop-holds : tie.Need-loop-holds Inv-loop μ-loop
-loop-holds c = sought-next _ _ _ _ _ _ _ (c .before .before .pre .0) (c .least-in .ensures _ 2112 (c .before .before .pre .2) (search needs) (search needs)) refl
+loop-holds c = sought-next _ _ _ _ _ _ _ (c .before .before .pre .0) (c .least-in .ensures _ _ (c .before .before .pre .2) (search needs) (search needs)) refl
 
 has-byte-requires : tie.Need-has-byte-requires Inv-loop μ-loop
 has-byte-requires c κs = search needs
@@ -43,7 +43,7 @@ loop-less c =
     let l = c .before .before .before .before in
     let a = l .before .before .before .args in
     let h = c .before .before .before .loop-test .taken in
-    omega (arith, h, c .least-in2 .ensures (markAt (cell (a .bytes .now) (a .n))) 2112 (l .before .before .before .pre .2) (search needs) (search needs), least-low (markAt (cell (a .bytes .now) (a .n))) (a .to - (l .loop .p + 1)) (l .loop .p + 1))
+    omega (arith, h, c .least-in2 .ensures (markAt (cell (a .bytes .now) (a .n))) _ (l .before .before .before .pre .2) (search needs) (search needs), least-low (markAt (cell (a .bytes .now) (a .n))) (a .to - (l .loop .p + 1)) (l .loop .p + 1))
 
 loop-again : tie.Need-loop-again Inv-loop μ-loop
 loop-again c =
@@ -52,7 +52,7 @@ loop-again c =
     let inv = l .loop .inv in
     let h = c .before .before .before .loop-test .taken in
     let s = least-step _ _ _ h (mark-of _ _ _ _ _ (inv .on h) (c .before .before .has-byte .ensures) ∙ c .before .if1 .left) in
-    sought-next _ _ _ _ _ (l .loop .p + 1) _ (omega arith) (c .least-in2 .ensures (markAt (cell (a .bytes .now) (a .n))) 2112 (l .before .before .before .pre .2) (search needs) (search needs)) (sym s ∙ inv .same)
+    sought-next _ _ _ _ _ (l .loop .p + 1) _ (omega arith) (c .least-in2 .ensures (markAt (cell (a .bytes .now) (a .n))) _ (l .before .before .before .pre .2) (search needs) (search needs)) (sym s ∙ inv .same)
 
 returns-2 : tie.Need-returns-2 Inv-loop μ-loop
 returns-2 c =

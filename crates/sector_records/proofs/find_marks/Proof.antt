@@ -10,16 +10,19 @@ use Rattle.sector_records.proofs.find_marks.Statement.{statement}
 use Rattle.sector_records.proofs.find_marks.Tie as tie
 
 returns : tie.Need-returns
-returns c l other = absurd (other (c .if1 .taken))
+returns c l = (search needs, λ other. absurd (other (c .if1 .taken)))
+
+add-mark-map : tie.Need-add-mark-map
+add-mark-map c = search needs
 
 mark-map-requires : tie.Need-mark-map-requires
 mark-map-requires c κs = search needs
 
 returns-2 : tie.Need-returns-2
-returns-2 c l other =
+returns-2 c l =
     let a = c .before .before .before .before .before .args in
     let f = cell (a .bytes .now) (a .n) in
-    holds-same (thriceAt (syncTest f)) (markAt f) (marks-are f (cell-lt (a .bytes .now) (a .n))) _ 2112 (c .mark-map .ensures l .1)
+    (search needs, λ other. holds-same (thriceAt (syncTest f)) (markAt f) (marks-are f (cell-lt (a .bytes .now) (a .n))) _ _ (c .mark-map .ensures l (search needs) .1))
 
 pub find-marks-spec : {M : Type 1} → statement M
-find-marks-spec = tie.close (tie.spec returns mark-map-requires returns-2)
+find-marks-spec = tie.close (tie.spec returns add-mark-map mark-map-requires returns-2)

@@ -35,7 +35,7 @@ add-at-requires : tie.Need-add-at-requires Inv-loop μ-loop
 add-at-requires c κs =
     let l = c .before in
     let h : l .loop .p < 131072 = omega (arith, c .loop-test .taken, l .before .before .before .before .pre .1) in
-    (l .before .before .before .before .pre .0, h, l .loop .inv .are, l .loop .inv .on (c .loop-test .taken), l .before .before .before .before .pre .2)
+    (l .before .before .before .before .pre .0, h, l .loop .inv .are, l .loop .inv .on (c .loop-test .taken), l .before .before .before .before .pre .2, omega (arith, c .loop-test .taken))
 
 add-find-id-mark : tie.Need-add-find-id-mark Inv-loop μ-loop
 add-find-id-mark c = search needs

@@ -1,6 +1,4 @@
 -- `cell_patterns::by_words::gaps_of_double` meets its contract. Assumes nothing.
-use Prim.Native.Nat.{ℕ}
-use lib.ListN.{length-replicate}
 use Rattle.cell_words.specs.Tests.{oneAt, aloneAt, gapFrom}
 use Rattle.cell_words.proofs.Words.{holds-same}
 use Rattle.layouts.specs.Layouts.{doubleDensity}
@@ -17,11 +15,11 @@ gap-map-requires : tie.Need-gap-map-requires
 gap-map-requires c κs = search needs
 
 returns : tie.Need-returns
-returns c f n h m l =
+returns c f n h m b l =
     let o = oneAt f in
-    let a = c .before .before .before .alone-map .ensures o m (length-replicate {A = ℕ} 2116 0) in
-    let g = c .gap-map .ensures o (aloneAt o) m (a .1) l in
-    holds-same (gapFrom o (aloneAt o)) (violation doubleDensity f n) (λ q. double-is f n q h) _ 2115 (g .1)
+    let a = c .before .before .alone-map .ensures o m b l in
+    let g = c .gap-map .ensures o (aloneAt o) m (a .1) b (a .0) in
+    (g .0, holds-same (gapFrom o (aloneAt o)) (violation doubleDensity f n) (λ q. double-is f n q h) _ _ (g .1))
 
 pub gaps-of-double-spec : {M : Type 1} → statement M
 gaps-of-double-spec = tie.close (tie.spec alone-map-requires gap-map-requires returns)

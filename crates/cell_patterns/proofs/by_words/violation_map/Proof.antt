@@ -21,12 +21,12 @@ gaps-of-double-requires : tie.Need-gaps-of-double-requires
 gaps-of-double-requires c κs = search needs
 
 returns : tie.Need-returns
-returns c f n h m l =
-    rw (c .before .before .enum-told .given .1)
-    (holds-same (aloneAt (oneAt f)) (violation singleDensity f n) (λ q. single-is f n q h) _ 2115 (c .alone-map .ensures (oneAt f) m l .1))
+returns c f n h m b l =
+    let g = c .alone-map .ensures (oneAt f) m b l in
+    rw (c .before .before .enum-told .given .1) (g .0, holds-same (aloneAt (oneAt f)) (violation singleDensity f n) (λ q. single-is f n q h) _ _ (g .1))
 
 returns-2 : tie.Need-returns-2
-returns-2 c f n h m l = rw (c .before .before .enum-told2 .given .1) (c .gaps-of-double .ensures f n h m l)
+returns-2 c f n h m b l = rw (c .before .before .enum-told2 .given .1) (c .gaps-of-double .ensures f n h m b l)
 
 pub violation-map-spec : {M : Type 1} → statement M
 violation-map-spec =
