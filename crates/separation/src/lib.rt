@@ -63,7 +63,8 @@ pub fn count_border_pulses(timings: &[u32]) -> Counted
     if first < given {
         return Counted::Refused(Refusal::TimingOutOfRange(first));
     }
-    let counts = count_cells(DOUBLE_HALF_WINDOW, timings);
+    let mut room = [0u8; MOST_CELL_BYTES];
+    let counts = fill(DOUBLE_HALF_WINDOW, timings, &mut room);
     Counted::Count(counts.border_pulses)
 }
 
