@@ -5,7 +5,7 @@ use second_program::findings::Finding;
 use second_program::refusal::Refusal;
 
 /// The words of the longest track, and of 18,432 cells more: a data mark 784 cells past its end may begin 1,024 bytes of data.
-const WORDS: usize = 2_048 + 288 + 2;
+const WORDS: usize = 2_048 + 288 + 4;
 
 type Map = [u64; WORDS];
 

@@ -86,8 +86,10 @@ module _ (f : ℕ → ℕ) (n : ℕ) where
       (λ e. le-leb (j + k) (zerosFrom f n p) (zeros-among (j + k) p b (λ q l g. among q l g (decLe (p + j) q) (at p (and-left (t p) (t (p + k)) e)) (at (p + k) (and-right (t p) (t (p + k)) e)))))
       (λ e.
       let z = leb-true (j + k) (zerosFrom f n p) e in
-      rw (passes p (zeros-among j p (omega arith) (λ q l g. none-among (j + k) p q z l (omega arith))),
-      passes (p + k) (zeros-among j (p + k) (omega arith) (λ q l g. none-among (j + k) p q z (omega arith) (omega arith)))))
+      rw (
+        passes p (zeros-among j p (omega arith) (λ q l g. none-among (j + k) p q z l (omega arith))),
+        passes (p + k) (zeros-among j (p + k) (omega arith) (λ q l g. none-among (j + k) p q z (omega arith) (omega arith))),
+      ))
     where
       at : (q : ℕ) → t q ≡ true → j ≤ zerosFrom f n q
       at q e = leb-true j (zerosFrom f n q) (sym (lv q) ∙ e)

@@ -148,7 +148,6 @@ module _ (f : ℕ → ℕ) (bit : (i : ℕ) → f i < 2) where
       let a = forth p (eqb-true (word f 16 p) 0x4489 h) in
       rw (seven-is (p + 1), seven-is (p + 8), eq-eqb (word f 7 (p + 1)) 0x44 (a .0), eq-eqb (word f 7 (p + 8)) 0x44 (a .1), none-is p (a .2), some-is (p + 15) (a .3)))
 
-
 syncs-are : (f : ℕ → ℕ) (q : ℕ) → syncFrom (oneAt f) (sevenFrom (oneAt f) (aloneAt (oneAt f))) q ≡ syncTest f q
 unfolding syncTest
 syncs-are f q = refl

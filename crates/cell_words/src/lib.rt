@@ -9,7 +9,6 @@ ghost use Rattle.basis.specs.Search.{least, count};
 ghost use Rattle.cells.specs.CellsAndBytes.{cellAt, cell, word};
 ghost use Rattle.cell_words.specs.Words.{mask, Holds, MapOf};
 ghost use Rattle.cell_words.specs.Tests.{oneAt, notAt, bothAt, aloneAt, sevenFrom, syncFrom, gapFrom, thriceAt, syncTest};
-
 use basis::smaller;
 
 // The words of a map: enough for a track of 131,072 cells, and for 4,352 places past its end.
@@ -18,8 +17,24 @@ pub const WORDS: usize = 2116;
 // The places of a map.
 const PLACES: usize = 135424;
 
-// The 64 cells from p of a track of n cells, counted on past n.
+// The 64 cells from p of a track of n cells, counted on past n. Where they lie on the track and nine bytes hold them they are loaded at once; all
+// else is a function of its own, so that the compiler puts these few lines into the loops that ask.
 pub fn word_from(bytes: &[u8], n: usize, p: usize) -> u64
+    ensures { λ r. ⌜ r ≡ word (cell (now (bytes .entry)) n) 64 p ⌝ }
+{
+    if p < n {
+        if 64 <= n - p {
+            let k = p / 8;
+            if k + 8 < bytes.len() {
+                return nine_bytes(bytes, k, p % 8);
+            }
+        }
+    }
+    word_round(bytes, n, p)
+}
+
+// The same for any place, which is first moved before the track's end.
+fn word_round(bytes: &[u8], n: usize, p: usize) -> u64
     ensures { λ r. ⌜ r ≡ word (cell (now (bytes .entry)) n) 64 p ⌝ }
 {
     let at = place_on(n, p);

@@ -54,7 +54,14 @@ fn after_bytes(table: &[u64; 256], word: u16, bytes: &[u8]) -> u16
     let mut so_far = word;
     let mut i: usize = 0;
     while 4 <= bytes.len() - i {
-        so_far = after_four(table, so_far, bytes[i], bytes[i + 1], bytes[i + 2], bytes[i + 3]);
+        so_far = after_four(
+            table,
+            so_far,
+            bytes[i],
+            bytes[i + 1],
+            bytes[i + 2],
+            bytes[i + 3],
+        );
         i += 4;
     }
     after_rest(so_far, bytes, i)
@@ -82,7 +89,8 @@ fn after_four(table: &[u64; 256], word: u16, a: u8, b: u8, c: u8, d: u8) -> u16
 {
     let first = (word / 256) ^ wide(a);
     let second = (word % 256) ^ wide(b);
-    (entry(table, first, 3) ^ entry(table, second, 2)) ^ (entry(table, wide(c), 1) ^ entry(table, wide(d), 0))
+    (entry(table, first, 3) ^ entry(table, second, 2))
+        ^ (entry(table, wide(c), 1) ^ entry(table, wide(d), 0))
 }
 
 // The check word whose high byte is `high` and whose low byte is 0, after a zero byte and `more` others.

@@ -390,15 +390,7 @@ fn find_data_mark(
         let data = cells::find_word(bytes, n, DATA_WORD, WORD_CELLS, from, to);
         return cells::find_word(bytes, n, DELETED_DATA_WORD, WORD_CELLS, from, data);
     }
-    find_mark(
-        bytes,
-        n,
-        marks,
-        FIRST_DATA_MARK,
-        LAST_DATA_MARK,
-        from,
-        to,
-    )
+    find_mark(bytes, n, marks, FIRST_DATA_MARK, LAST_DATA_MARK, from, to)
 }
 
 // The least place from `from` and before `to` of a mark of double density whose byte lies from `low` to `high`; `to` where there is none.

@@ -122,7 +122,14 @@ returns c =
     let a = s .before .args in
     eight-bytes-are (a .bytes .now) (λ i. omega (arith, s .shared-slice-known .given i)) (a .k) _
     (rw (
-      c .before .before .before .before .before .before .before .before .before .before .before .before .before .before .wide .ensures .0, c .before .before .before .before .before .before .before .before .before .before .before .before .wide2 .ensures .0, c .before .before .before .before .before .before .before .before .before .before .wide3 .ensures .0, c .before .before .before .before .before .before .before .before .wide4 .ensures .0, c .before .before .before .before .before .before .wide5 .ensures .0, c .before .before .before .before .wide6 .ensures .0, c .before .before .wide7 .ensures .0, c .wide8 .ensures .0,
+      c .before .before .before .before .before .before .before .before .before .before .before .before .before .before .wide .ensures .0,
+      c .before .before .before .before .before .before .before .before .before .before .before .before .wide2 .ensures .0,
+      c .before .before .before .before .before .before .before .before .before .before .wide3 .ensures .0,
+      c .before .before .before .before .before .before .before .before .wide4 .ensures .0,
+      c .before .before .before .before .before .before .wide5 .ensures .0,
+      c .before .before .before .before .wide6 .ensures .0,
+      c .before .before .wide7 .ensures .0,
+      c .wide8 .ensures .0,
     ))
 
 pub eight-bytes-spec : {M : Type 1} → statement M
