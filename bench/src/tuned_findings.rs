@@ -44,7 +44,9 @@ fn check_mark(mark: u8) -> u16 {
 /// The 32 data bits of 64 cells.
 fn data_bits(cells: u64) -> u32 {
     let mut x = cells & 0x5555_5555_5555_5555;
-    for (shift, mask) in [(1, 0x3333_3333_3333_3333), (2, 0x0F0F_0F0F_0F0F_0F0F), (4, 0x00FF_00FF_00FF_00FF), (8, 0x0000_FFFF_0000_FFFF), (16, 0xFFFF_FFFF)] {
+    for (shift, mask) in
+        [(1, 0x3333_3333_3333_3333), (2, 0x0F0F_0F0F_0F0F_0F0F), (4, 0x00FF_00FF_00FF_00FF), (8, 0x0000_FFFF_0000_FFFF), (16, 0xFFFF_FFFF)]
+    {
         x = (x | x >> shift) & mask;
     }
     x as u32
@@ -117,7 +119,8 @@ fn sector(cells: &Map, syncs: &Map, place: usize, data_marks: &[(usize, u8)]) ->
     if let Some(&(data, data_mark)) = data_marks.first().filter(|found| found.0 <= place + 784) {
         let length = 128 << (sector.id[3] % 4);
         let check_place = data + 64 + 16 * length;
-        let word = (data + 64..check_place).step_by(64).fold(check_mark(data_mark), |word, at| check_four(word, data_bits(from(cells, at))));
+        let word =
+            (data + 64..check_place).step_by(64).fold(check_mark(data_mark), |word, at| check_four(word, data_bits(from(cells, at))));
         sector.data_good = word == (data_bits(from(cells, check_place)) >> 16) as u16;
         (sector.data, sector.data_mark, sector.end) = (data, data_mark, check_place + 32);
         sector.syncs += count(syncs, data + 64, check_place + 17);
@@ -244,7 +247,9 @@ pub fn findings(track: u32, side: u32, packed: &[u8], n: usize, list: &mut [Find
                 16 => (has_data && s.data < n && s.end > n, s.end.wrapping_sub(n)),
                 17 => (has_data && s.data >= n, s.data.wrapping_sub(n)),
                 18 => {
-                    let starts_in = |other: &Sector| other.place != s.place && other.data_mark != 0 && (within(other, s.place) || within(other, s.place + n));
+                    let starts_in = |other: &Sector| {
+                        other.place != s.place && other.data_mark != 0 && (within(other, s.place) || within(other, s.place + n))
+                    };
                     (sectors.iter().any(starts_in), usize::from(number))
                 }
                 _ => (s.syncs > 0, s.syncs),

@@ -1,4 +1,4 @@
--- Searches and counts over a range of places, word by word. Assumes nothing.
+-- Counting and searching over places that begin and end anywhere in a map. Assumes nothing.
 use Prim.Native.Nat.{ℕ, zero, suc, _+_, _-_, _*_, _/_, _%_, _^_, _<_, _≤_, min}
 use mathlib.Core.Path.{_≡_, refl, sym, ap, _∙_}
 use mathlib.Core.Bool.{Bool, true, false, cond}
@@ -12,14 +12,14 @@ use Rattle.basis.proofs.Search.{least-low, least-longer, least-step, least-end,
 use Rattle.cell_words.specs.Words.{digit, mask}
 use Rattle.cell_words.proofs.Words.{digit-lt, mask-lt, word-rest, count-split, leading-mask}
 
--- a count in two
+-- a range cut in two
 pub count-join : (t : ℕ → Bool) (from m to : ℕ) → from ≤ m → m ≤ to → count t (m - from) from + count t (to - m) m ≡ count t (to - from) from
 count-join t from m to h l =
     let e : to - from ≡ m - from + (to - m) = omega arith in
     let g : from + (m - from) ≡ m = omega arith in
     sym (ap (λ (k : ℕ). count t k from) e ∙ count-split t (m - from) (to - m) from ∙ ap (λ (q : ℕ). count t (m - from) from + count t (to - m) q) g)
 
--- one word more
+-- a whole word after others
 pub count-more : (t : ℕ → Bool) (a w found r : ℕ) → a ≤ w → found ≡ count t (64 * (w - a)) (64 * a) → r ≡ count t 64 (64 * w + 0)
     → found + r ≡ count t (64 * (w + 1 - a)) (64 * a)
 count-more t a w found r h e g =
@@ -27,7 +27,7 @@ count-more t a w found r h e g =
     let q : 64 * a + 64 * (w - a) ≡ 64 * w + 0 = omega arith in
     rw (e, g, k) (sym (count-split t (64 * (w - a)) 64 (64 * a) ∙ ap (λ (p : ℕ). count t (64 * (w - a)) (64 * a) + count t 64 p) q))
 
--- the least place of a shorter range
+-- cutting a range off bounds its least place
 pub least-min : (t : ℕ → Bool) (k m p : ℕ) → k ≤ m → least t k p ≡ min (p + k) (least t m p)
 unfolding least
 least-min t zero m p h = rw (add-zero p) (sym (min-eq-left (least-low t m p)))
@@ -38,14 +38,14 @@ least-min t (suc k) (suc m) p h = go (t p) (least-min t k m (p + 1) (omega arith
     go true more = let l : p ≤ p + suc k = omega arith in sym (min-eq-right l)
     go false more = let e : p + 1 + k ≡ p + suc k = omega arith in rw (← e) more
 
--- what is found before `to`, of what is found before a later end
+-- so the code may search to the end of a word and cut afterwards
 pub least-before-to : (t : ℕ → Bool) (from to end : ℕ) → from ≤ to → to ≤ end → least t (to - from) from ≡ min to (least t (end - from) from)
 least-before-to t from to end h l =
     let e : from + (to - from) ≡ to = omega arith in
     let g : to - from ≤ end - from = omega arith in
     rw e at (least-min t (to - from) (end - from) from g)
 
--- k places, with one that passes, and without
+-- k places decide a longer search, or leave it to what comes after them
 pub least-hits : (t : ℕ → Bool) (p k z end : ℕ) → p + z ≡ least t k p → z < k → p + k ≤ end → p + z ≡ least t (end - p) p
 least-hits t p k z end e l h = e ∙ sym (least-longer t k (end - p) p (omega arith) (omega arith))
 
@@ -62,7 +62,7 @@ least-misses t (suc k) p end e h = go (t p) refl e (least-misses t k (p + 1) end
         let q : p + 1 + k ≡ p + suc k = omega arith in
         least-step t p end (omega arith) s ∙ rw q at (more (omega arith) (omega arith))
 
--- the zeros above a word that is shifted up
+-- shifting a number up within more bits keeps the zeros before it
 leading-shift : (k s m : ℕ) → 0 < m → m < 2 ^ k → leadingZeros (k + s) (m * 2 ^ s) ≡ leadingZeros k m
 leading-shift k s m pos h =
     let top = leading-top k m pos h in
@@ -80,7 +80,7 @@ module _ (t : ℕ → Bool) (p s x : ℕ) (e : x ≡ mask t 64 p) (h : s < 64) w
   unfolding mask
   rest-is = rw e (word-rest (digit t) (digit-lt t) s p (omega arith))
 
-  -- the first place that passes, from place s of a word on
+  -- what is left of a word after s places: it has the least place, or none
   pub rest-hits : (end : ℕ) → (rest ≡ 0 → ⊥) → p + 64 ≤ end → p + s + leadingZeros 64 rest ≡ least t (end - (p + s)) (p + s)
   rest-hits end some l = go (eq-zero-or-pos m)
     where
@@ -114,7 +114,7 @@ module _ (t : ℕ → Bool) (p s x : ℕ) (e : x ≡ mask t 64 p) (h : s < 64) w
           let big : 1 * 2 ^ s ≤ m * 2 ^ s = mul-le-mul-right (2 ^ s) pos in
           absurd (omega (arith, rest-is))
 
--- a count over the words of a range: within one word, and its first word, those between, and its last
+-- the cases of `count_before`: one word, several that end with the range, and a last one that does not
 module _ (t : ℕ → Bool) (from to : ℕ) where
   pub count-none : to ≤ from → 0 ≡ count t (to - from) from
   count-none h = sym (count-end t to from h)
@@ -143,7 +143,7 @@ module _ (t : ℕ → Bool) (from to : ℕ) where
         let y : d ≡ count t (to - 64 * (to / 64)) (64 * (to / 64)) = e ∙ ap (λ (q : ℕ). count t (to % 64) q) g ∙ ap (λ (j : ℕ). count t j (64 * (to / 64))) k in
         rw (count-whole, y) (count-join t from (64 * (to / 64)) to (omega arith) (omega arith))
 
--- a search over the words of a range, of which there are l: what is found in the first word, in a later one, and nowhere
+-- the cases of `least_before`, over l words: a hit in the first word, a hit later, and none
 module _ (t : ℕ → Bool) (from to l : ℕ) (h : from < to) (g : to ≤ 64 * l) where
   is-least : (r : ℕ) → r ≡ min to (least t (64 * l - from) from) → r ≡ least t (to - from) from
   is-least r e = e ∙ sym (least-before-to t from to (64 * l) (omega arith) g)

@@ -14,7 +14,7 @@ use Rattle.cell_words.specs.Words.{digit, mask}
 use Rattle.cell_words.specs.Tests.{oneAt, aloneAt, sevenFrom, syncFrom, thriceAt, syncTest}
 use Rattle.cell_words.proofs.Words.{word-ones, mask-same}
 
--- a rule of bools, computed at both
+-- a rule of a truth value holds where it holds of both
 both : (Bool → Bool) → Bool
 both g = g true && g false
 
@@ -42,7 +42,7 @@ same-is true false h = absurd h
 same-is false true h = absurd h
 same-is false false h = refl
 
--- seven cells as a number
+-- seven truth values read as a binary number
 number : Bool → Bool → Bool → Bool → Bool → Bool → Bool → ℕ
 number a b c d e f g = 2 * (2 * (2 * (2 * (2 * (2 * (2 * 0 + cond a 1 0) + cond b 1 0) + cond c 1 0) + cond d 1 0) + cond e 1 0) + cond f 1 0) + cond g 1 0
 
@@ -85,7 +85,7 @@ module _ (f : ℕ → ℕ) (bit : (i : ℕ) → f i < 2) where
       (seven-rule (oneAt f q) (oneAt f (q + 1)) (oneAt f (q + 2)) (oneAt f (q + 3)) (oneAt f (q + 4)) (oneAt f (q + 5)) (oneAt f (q + 6))
       ∙ ap (λ (x : ℕ). eqb x 0x44) (rw (add-zero q) at (as-number (oneAt f) q) ∙ sym (word-ones f bit 7 q)))
 
-  -- 4489 is 0, 1000100 twice, and 1
+  -- the sixteen cells of a sync, cut into 1, 7, 7 and 1
   module _ (p : ℕ) where
     parts : word f 16 p ≡ f p * 2 ^ 15 + (word f 7 (p + 1) * 2 ^ 8 + (word f 7 (p + 8) * 2 ^ 1 + f (p + 15)))
     parts =

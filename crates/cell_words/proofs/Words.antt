@@ -1,4 +1,4 @@
--- What the operations on words do to the tests that they hold. Assumes nothing.
+-- Words as masks of tests: each operation of the code is an equation of masks. Assumes nothing.
 use Prim.Native.Nat.{ℕ, zero, suc, _+_, _-_, _*_, _/_, _%_, _^_, _<_, _≤_, min, max}
 use mathlib.Core.Path.{_≡_, refl, sym, ap, _∙_}
 use mathlib.Core.Bool.{Bool, true, false, not, cond, _&&_, _||_}
@@ -34,12 +34,12 @@ pub mask-lt : (t : ℕ → Bool) (k p : ℕ) → mask t k p < 2 ^ k
 unfolding mask
 mask-lt t k p = word-lt (digit t) (digit-lt t) k p
 
--- masks of tests that agree
+-- two tests that pass at the same places have one mask
 pub mask-same : (s t : ℕ → Bool) (k p q : ℕ) → ((i : ℕ) → i < k → s (p + i) ≡ t (q + i)) → mask s k p ≡ mask t k q
 unfolding mask digit
 mask-same s t k p q h = word-same (digit s) (digit t) k p q (λ i l. ap (λ (b : Bool). cond b 1 0) (h i l))
 
--- a number's last digit taken off
+-- a digit put behind a number, and taken off again
 half : (u : ℕ) (a : Bool) → (2 * u + cond a 1 0) / 2 ≡ u
 half u true = omega arith
 half u false = omega arith
@@ -68,7 +68,7 @@ pair-or a b u v =
     go false true w = omega arith
     go false false w = omega arith
 
--- x & y, x | y, !x
+-- and, or, not
 pub mask-and : (s t : ℕ → Bool) (k p : ℕ) → bitAnd (mask s k p) (mask t k p) ≡ mask (λ q. s q && t q) k p
 unfolding mask digit word
 mask-and s t zero p = refl
@@ -90,7 +90,7 @@ mask-not t (suc k) p = go (t (p + k)) (2 ^ suc k) (2 ^ k) (mask t k p) (mask (λ
     go true z y u v e l g = omega arith
     go false z y u v e l g = omega arith
 
--- k cells on: the last cells of one word, and the first of the next
+-- two words of cells that follow each other hold each word between them
 module _ (f : ℕ → ℕ) (bit : (i : ℕ) → f i < 2) where
   left-part : (k j p : ℕ) → word f (k + j) p * 2 ^ k % 2 ^ (j + k) ≡ word f j (p + k) * 2 ^ k
   left-part k j p =
@@ -119,7 +119,7 @@ module _ (f : ℕ → ℕ) (bit : (i : ℕ) → f i < 2) where
       ∙ or-shifted (word f (64 - k) (p + k)) k (word f k (p + 64)) (word-lt f bit k (p + 64))
       ∙ sym w
 
-  -- the cells of a word from its place k on, at its high end, and its first k cells
+  -- a word without its first k cells, shifted to the top; and these k cells alone
   pub word-rest : (k p : ℕ) → k ≤ 64 → word f 64 p * 2 ^ k % 2 ^ 64 ≡ word f (64 - k) (p + k) * 2 ^ k
   word-rest k p h =
       let e : k + (64 - k) ≡ 64 = omega arith in
@@ -132,7 +132,7 @@ module _ (f : ℕ → ℕ) (bit : (i : ℕ) → f i < 2) where
 pub mask-later : (t : ℕ → Bool) (k p : ℕ) → mask (λ q. t (q + k)) 64 p ≡ mask t 64 (p + k)
 mask-later t k p = sym (mask-same t (λ q. t (q + k)) 64 (p + k) p (λ i l. let e : p + k + i ≡ p + i + k = omega arith in ap t e))
 
--- the test k places on
+-- the same of masks
 pub mask-on : (t : ℕ → Bool) (k p : ℕ) → k ≤ 64
     → bitOr (mask t 64 p * 2 ^ k % 2 ^ 64) (mask t 64 (p + 64) / 2 ^ (64 - k)) ≡ mask (λ q. t (q + k)) 64 p
 unfolding mask
@@ -140,7 +140,7 @@ mask-on t k p h =
     word-over (digit t) (digit-lt t) 64 k p h h
     ∙ mask-same t (λ q. t (q + k)) 64 (p + k) p (λ i l. let e : p + k + i ≡ p + i + k = omega arith in ap t e)
 
--- how many places pass
+-- the ones of a mask are the places that pass
 pub count-split : (t : ℕ → Bool) (a b p : ℕ) → count t (a + b) p ≡ count t a p + count t b (p + a)
 unfolding count
 count-split t zero b p = rw (zero-add b, add-zero p) (sym (zero-add (count t b p)))
@@ -163,7 +163,7 @@ ones-mask t (suc k) p =
     ones-step m ∙ ap (λ (x : ℕ). m % 2 + ones x) (half (mask t k p) (t (p + k)))
     ∙ rw (last (mask t k p) (t (p + k)), ones-mask t k p) (omega (arith, count-last t k p))
 
--- the first place that passes
+-- the zeros before its first one lead to the least place that passes
 leading-more : (k m : ℕ) → m < 2 ^ k → leadingZeros (suc k) m ≡ suc (leadingZeros k m)
 leading-more k m h =
     let s = leading-length k m h in
@@ -189,7 +189,7 @@ leading-mask t (suc k) p = go (t p) refl (leading-mask t k (p + 1))
         let m : mask t (suc k) p ≡ mask t k (p + 1) = mask-front t k p false e ∙ omega arith in
         rw m (omega (arith, more, leading-more k (mask t k (p + 1)) (mask-lt t k (p + 1))))
 
--- cells are the places of their ones
+-- a word of cells is the mask of its ones
 pub word-ones : (f : ℕ → ℕ) → ((i : ℕ) → f i < 2) → (k p : ℕ) → word f k p ≡ mask (oneAt f) k p
 unfolding mask digit oneAt
 word-ones f bit k p = word-same f (digit (oneAt f)) k p p (λ i l. one (f (p + i)) (bit (p + i)))
@@ -199,7 +199,7 @@ word-ones f bit k p = word-same f (digit (oneAt f)) k p p (λ i l. one (f (p + i
     one (suc zero) h = refl
     one (suc (suc x)) h = absurd (omega arith)
 
--- one word more
+-- a map with a word more
 pub holds-none : (t : ℕ → Bool) (words : List ℕ) → Holds t words 0
 unfolding Holds
 holds-none t words w h = absurd (omega arith)
@@ -212,7 +212,7 @@ holds-more t words i v h l e w g = go (ℕ-discrete w i)
     go (yes s) = rw s (getD-set-same words i v 0 l ∙ e)
     go (no s) = getD-set-other words i w v 0 s ∙ h w (omega arith)
 
--- A word that holds a test at the 64 places from p, and what is made of such words: a proof follows the code's expression.
+-- `Is t p x`: x is the mask of t from p on. With the operators below a proof is written like the code's own expression.
 pub record Is (t : ℕ → Bool) (p x : ℕ) : Type 0 where
   pub is : x ≡ mask t 64 p
 
@@ -229,7 +229,7 @@ pub on-by : {t : ℕ → Bool} {p x y : ℕ} (k : ℕ) → k ≤ 64 → Is t p x
 on-by {t} {p} {x} {y} k h e g =
     record { is = rw (e .is, g .is) (mask-on t k p h) }
 
--- a word of a list, and the one after it
+-- two neighbours of a map
 pub holds-at : (t : ℕ → Bool) (words : List ℕ) (m w : ℕ) → Holds t words m → w < m → getD words w 0 ≡ mask t 64 (64 * w)
 unfolding Holds
 holds-at t words m w h l = h w l
@@ -238,7 +238,7 @@ pub holds-next : (t : ℕ → Bool) (words : List ℕ) (m w : ℕ) → Holds t w
 unfolding Holds
 holds-next t words m w h l = let e : 64 * (w + 1) ≡ 64 * w + 64 = omega arith in h (w + 1) l ∙ ap (mask t 64) e
 
--- a part of a word: k places from its place s
+-- the k bits of a word from bit s on
 pub mask-part : (t : ℕ → Bool) (p s k : ℕ) → s + k ≤ 64 → mask t 64 p * 2 ^ s % 2 ^ 64 / 2 ^ (64 - k) ≡ mask t k (p + s)
 unfolding mask
 mask-part t p s k h =
@@ -266,7 +266,7 @@ part-few s k x h =
     let l : x * 2 ^ s % 2 ^ 64 < 2 ^ (k + (64 - k)) = rw e (mod-lt (x * 2 ^ s) (pow-pos 64)) in
     ones-le k (x * 2 ^ s % 2 ^ 64 / 2 ^ (64 - k)) (shr-lt k (64 - k) l)
 
--- tests that agree
+-- a map of one test is that of any test that passes where it does
 pub holds-same : (s t : ℕ → Bool) → ((q : ℕ) → s q ≡ t q) → (words : List ℕ) (m : ℕ) → Holds s words m → Holds t words m
 unfolding Holds
 holds-same s t e words m h w l = h w l ∙ mask-same s t 64 (64 * w) (64 * w) (λ i b. e (64 * w + i))
