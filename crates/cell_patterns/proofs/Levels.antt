@@ -35,7 +35,7 @@ unfolding most
 most-below g b zero p h = omega arith
 most-below g b (suc k) p h = max-le (h p (omega arith)) (most-below g b k (p + 1) (λ q l. h q (omega arith)))
 
--- the least place that passes is the one before which none does
+-- a place that passes, with none before it, is the least
 least-is : (t : ℕ → Bool) (k s : ℕ) → s < k → t s ≡ true → ((q : ℕ) → q < s → t q ≡ false) → s ≡ least t k 0
 least-is t k s h e before = go (decLe s (least t k 0))
   where

@@ -235,7 +235,7 @@ pub fn count_first(x: u64, k: usize) -> usize
     count_part(x, 0, length)
 }
 
-// The least place from `from` and before `to` at which the test of a map passes. Where there is none, the greater of the two.
+// Looks a map's test up between two places: the first that passes, of those not before `from` and before `to`, or the greater of the two.
 pub fn least_in(map: &[u64; WORDS], from: usize, to: usize) -> usize
     ensures { λ r. ⌜ ((t : ℕ → Bool) (m : ℕ) → Holds t (now (map .entry)) m → to ≤ 64 * m → m ≤ 2116 → r ≡ least t (to - from) from) ⌝ }
 {
@@ -246,7 +246,7 @@ pub fn least_in(map: &[u64; WORDS], from: usize, to: usize) -> usize
     least_before(map, from, end)
 }
 
-// How many places from `from` and before `to` pass the test of a map.
+// Counts the places that pass a map's test, of those not before `from` and before `to`.
 pub fn count_in(map: &[u64; WORDS], from: usize, to: usize) -> usize
     ensures { λ r. ⌜ ((t : ℕ → Bool) (m : ℕ) → Holds t (now (map .entry)) m → to ≤ 64 * m → m ≤ 2116 → r ≡ count t (to - from) from) ⌝ }
 {
@@ -297,7 +297,7 @@ fn count_before(map: &[u64; WORDS], from: usize, to: usize) -> usize
     first + middle + count_part(map[b], 0, last)
 }
 
-// How many places of the words from a and before b pass.
+// The ones in all words whose indexes are not below a and below b.
 fn count_words(map: &[u64; WORDS], a: usize, b: usize) -> usize
     requires { ⌜ (a ≤ b) × (b ≤ 2116) ⌝ }
     ensures { λ r. ⌜ (r ≤ 135424) × ((t : ℕ → Bool) (m : ℕ) → Holds t (now (map .entry)) m → b ≤ m → r ≡ count t (64 * (b - a)) (64 * a)) ⌝ }
