@@ -1,7 +1,8 @@
-//! The baseline of the mark search beside the library's search: both find the same places.
+//! The baseline of the mark search beside the library's search, both of which find the same places, and the tuned versions (agreement).
 //!
 //! It runs in the very build that is measured, with the argument `baseline`; `.ci/baseline` runs it. The last line is 'N passed, M failed'.
 
+use crate::agreement;
 use crate::naive_search::{self, MARK, SYNC};
 use crate::search::all_places;
 use second_program::cells;
@@ -26,20 +27,20 @@ const MOST_PRINTED: usize = 10;
 
 /// The cases that agreed, and those that did not.
 #[derive(Default)]
-struct Cases {
+pub struct Cases {
     passed: usize,
     failed: usize,
 }
 
 impl Cases {
-    fn same<T: PartialEq + std::fmt::Debug>(&mut self, ours: T, baseline: T, given: impl Fn() -> String) {
+    pub fn same<T: PartialEq + std::fmt::Debug>(&mut self, ours: T, baseline: T, given: impl Fn() -> String) {
         if ours == baseline {
             self.passed += 1;
             return;
         }
         self.failed += 1;
         if self.failed <= MOST_PRINTED {
-            println!("given {}: library {ours:?}, baseline {baseline:?}", given());
+            println!("given {}: {ours:?}, and the other {baseline:?}", given());
         }
     }
 
@@ -179,6 +180,7 @@ pub fn agrees() -> bool {
     short_tracks(&mut cases, &mut random);
     marks_round_index(&mut cases);
     whole_tracks(&mut cases, &mut random);
+    agreement::tuned(&mut cases);
     println!("{} passed, {} failed", cases.passed, cases.failed);
     cases.failed == 0
 }

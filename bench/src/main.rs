@@ -3,18 +3,24 @@
 //! A row for each measurement, as a table in Markdown: what was done, the median time of one call of each in microseconds, and the ratio
 //! of the library to plain Rust (below 1: the library is quicker). Whole files and blocks go through a process each: the program, and this
 //! one with the argument `plain` or `plain-block`, which lists by the second program. Run it with bench/run; docs/BENCHMARKS.md has a run.
-//! With the argument `baseline` nothing is timed: the baseline of the mark search is held to the library's search.
+//! A table before it has the routines for which there is plain Rust that is written for speed. With the argument `baseline` nothing is timed: the
+//! baseline of the mark search is held to the library's search, and the tuned versions to the second program. With `once` one call is made, for a
+//! tool that counts instructions.
 
+mod agreement;
 mod baseline;
 mod coding;
+mod instructions;
 #[path = "../../docs/src/naive_search.rs"]
 mod naive_search;
 mod revolution;
 mod search;
+mod tuned_findings;
+mod tuned_separator;
 
 use second_program::check_word;
 use second_program::disk_page;
-use second_program::findings;
+use second_program::findings::{self, Finding};
 use second_program::listing::listing;
 use second_program::separator::{self, SeparatorState};
 use second_program::single_density;
@@ -68,6 +74,62 @@ fn row<A, B>(
     let (ours, plain) = (median(ours), median(plain));
     let rate = in_a_second.map(|(count, of)| format!("{:.0} {of}", count as f64 * 1e6 / ours)).unwrap_or_default();
     println!("| {what} | {ours:.1} | {plain:.1} | {:.2} | {rate} |", ours / plain);
+}
+
+/// Whose version is run: the library's, plain Rust written for speed, or the second program.
+#[derive(Clone, Copy)]
+pub enum Sides {
+    Library,
+    Tuned,
+    Plain,
+}
+
+/// A row of the first table: the least time of each of three versions over some rounds, turn about.
+fn three<A, B, C>(what: &str, mut ours: impl FnMut() -> A, mut tuned: impl FnMut() -> B, mut plain: impl FnMut() -> C) {
+    let mut least = [f64::MAX; 3];
+    for _ in 0..100 {
+        let times = [time(5, &mut ours), time(5, &mut tuned), time(1, &mut plain)];
+        for (least, time) in least.iter_mut().zip(times) {
+            *least = least.min(time);
+        }
+    }
+    let [ours, tuned, plain] = least;
+    println!("| {what} | {ours:.1} | {tuned:.1} | {plain:.1} | {:.2} | {:.2} |", ours / tuned, ours / plain);
+}
+
+/// The tracks of 100,000 cells that the tuned version is measured on.
+fn tuned_tracks() -> [(&'static str, Vec<u8>); 5] {
+    let mut random = Random::new(5);
+    [
+        ("standard track", cells::pack(&standard_track(0, 0, 0xE5))),
+        ("random cells", (0..12_500).map(|_| random.byte()).collect()),
+        ("64 sectors", track_with(64, 100_000)),
+        ("no sectors", track_with(0, 100_000)),
+        ("full of syncs", (0..12_500).map(|index| [0x44, 0x89][index % 2]).collect()),
+    ]
+}
+
+fn beside_tuned() {
+    println!("| what | library, us | tuned Rust, us | clear Rust, us | library / tuned | library / clear |");
+    println!("|---|---|---|---|---|---|");
+    for (name, bytes) in tuned_tracks() {
+        let (mut list, mut tuned_list) = ([0; FINDING_NUMBERS * MOST_FINDINGS], [Finding::default(); MOST_FINDINGS]);
+        three(
+            &format!("findings, {name}"),
+            || boundary::findings(black_box(&bytes), 100_000, 0, 0, &mut list),
+            || tuned_findings::findings(0, 0, black_box(&bytes), 100_000, &mut tuned_list),
+            || findings::findings(0, 0, black_box(&bytes), 100_000, MOST_FINDINGS),
+        );
+    }
+    let timings = instructions::timings();
+    let (mut packed, mut tuned_packed, mut border_pulses) = ([0; MOST_CELL_BYTES], [0; MOST_CELL_BYTES], 0);
+    three(
+        "separator, 40,000 timings",
+        || boundary::separate(black_box(&timings), &mut packed, &mut border_pulses),
+        || tuned_separator::separate(black_box(&timings), &mut tuned_packed),
+        || separator::separate(black_box(&timings), MOST_CELL_BYTES),
+    );
+    println!();
 }
 
 fn coding_and_checking(random: &mut Random) {
@@ -421,12 +483,23 @@ fn main() {
         if mode == "baseline" {
             std::process::exit(i32::from(!baseline::agrees()));
         }
+        if mode == "once" {
+            let input = std::env::args().nth(2).expect("the name of an input");
+            let side = match std::env::args().nth(3).as_deref() {
+                Some("library") => Sides::Library,
+                Some("tuned") => Sides::Tuned,
+                _ => Sides::Plain,
+            };
+            instructions::once(&input, side);
+            return;
+        }
         let mut input = Vec::new();
         std::io::stdin().read_to_end(&mut input).expect("standard input");
         let listed = if mode == "plain-block" { track_block::printed(&input, 2, 1, 0, 0) } else { listing(&input) };
         std::io::stdout().write_all(&listed).expect("standard output");
         return;
     }
+    beside_tuned();
     println!("| what | library, us | plain Rust, us | ratio | library in a second |");
     println!("|---|---|---|---|---|");
     let mut random = Random::new(1);

@@ -1,3 +1,6 @@
 pub mod Bounds
 pub mod Runs
 pub mod Syncs
+pub mod Levels
+pub mod Violations
+pub mod Counting

@@ -33,6 +33,11 @@ module _ (sync : ℕ) (f : ℕ → ℕ) (from to : ℕ) where
   unfolding syncsBetween count
   syncs-short h = let e : to - 15 - from ≡ 0 = omega arith in rw e
 
+  -- those of double density, counted otherwise
+  pub syncs-of : (syncs : ℕ) → sync ≡ 0x4489 → syncs ≡ count (wordMarkAt f 0x4489) (to - 15 - from) from → syncs ≡ syncsBetween sync f from to
+  unfolding syncsBetween
+  syncs-of syncs e h = rw e h
+
   pub syncs-none : 0 + count (wordMarkAt f sync) (to - 15 - from) from ≡ syncsBetween sync f from to
   unfolding syncsBetween
   syncs-none = omega arith

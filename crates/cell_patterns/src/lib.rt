@@ -1,8 +1,11 @@
 // What the kinds MTV, NFA and SID count on the cells of a track (rules 7.38 to 7.42, 7.45, 7.46): ones too near or too far, the longest run
 // of zeros, and sync words.
+mod by_words;
+
 use layouts::Density;
 use layouts::layout_of;
 use sector_records::BYTE_LENGTH;
+use sector_records::MOST_CELLS;
 use sector_records::Sector;
 ghost use mathlib.Core.Path.{_≡_};
 ghost use mathlib.Core.Bool.{cond, _||_};
@@ -24,8 +27,21 @@ pub struct Gaps {
     pub longest: usize,
 }
 
-// MTV and NFA in one pass from the last cell to the first: the zeros after a cell are then known when it is reached.
+// MTV and NFA.
 pub fn find_gaps(density: Density, bytes: &[u8], n: usize) -> Gaps
+    ensures { λ r. ⌜ r ≡ gapsOf (layoutOf density) (cell (now (bytes .entry)) n) n ⌝ }
+{
+    if n < FEWEST_CELLS {
+        return gaps_by_cells(density, bytes, n);
+    }
+    if MOST_CELLS < n {
+        return gaps_by_cells(density, bytes, n);
+    }
+    by_words::gaps_by_words(density, bytes, n)
+}
+
+// The same in one pass from the last cell to the first: the zeros after a cell are then known when it is reached.
+fn gaps_by_cells(density: Density, bytes: &[u8], n: usize) -> Gaps
     ensures { λ r. ⌜ r ≡ gapsOf (layoutOf density) (cell (now (bytes .entry)) n) n ⌝ }
 {
     match density {
@@ -106,6 +122,9 @@ fn wide(place: u32) -> usize
     place as usize
 }
 
+// How many cells a track must have, and may have at most, to be looked at word by word.
+const FEWEST_CELLS: usize = 128;
+
 // In double density a next one 2, 3 or 4 cells on leaves 1 to 3 zeros between the two; in single density one that is 1 or 2 cells on leaves
 // 0 or 1.
 const FEWEST_ZEROS: usize = 1;
@@ -128,6 +147,9 @@ fn unlawful(fewest: usize, most: usize, zeros: usize) -> bool
     }
     (zeros < fewest) | (most < zeros)
 }
+
+// The sync of double density.
+const SYNC: u64 = 0x4489;
 
 // One of two numbers, without a branch in the loop that asks.
 fn chosen(first: bool, a: usize, b: usize) -> usize
@@ -157,8 +179,22 @@ fn zeros_at_start(bytes: &[u8], n: usize) -> usize
     n
 }
 
-// How often a sync stands wholly between two places, in any phase.
+// How often a sync stands wholly between two places, in any phase: that of double density word by word.
 fn syncs_between(sync: u64, bytes: &[u8], n: usize, from: usize, to: usize) -> usize
+    requires { ⌜ (from ≤ 0x1_0000_1000) × (to ≤ 0x1_0000_1000) ⌝ }
+    ensures { λ r. ⌜ r ≡ syncsBetween sync (cell (now (bytes .entry)) n) from to ⌝ }
+{
+    if sync == SYNC {
+        if to < BYTE_LENGTH {
+            return 0;
+        }
+        return by_words::count_syncs(bytes, n, from, to - (BYTE_LENGTH - 1));
+    }
+    syncs_by_search(sync, bytes, n, from, to)
+}
+
+// The same for any word, from one that is found to the next.
+fn syncs_by_search(sync: u64, bytes: &[u8], n: usize, from: usize, to: usize) -> usize
     ensures { λ r. ⌜ r ≡ syncsBetween sync (cell (now (bytes .entry)) n) from to ⌝ }
 {
     if to < BYTE_LENGTH {

@@ -1,4 +1,4 @@
--- The check word's step is linear over exclusive or, so a byte goes in by one look-up in a table of 256.
+-- The check word's step is linear over exclusive or, so four bytes go in by four look-ups in tables of 256.
 -- Assumes nothing.
 use Prim.Native.Nat.{ℕ, zero, suc, _+_, _-_, _*_, _/_, _%_, _^_, _<_}
 use mathlib.Core.Path.{_≡_, refl, sym, ap, _∙_}
@@ -8,8 +8,9 @@ use native.Mathlib.Numerals.{add-one, one-add}
 use native.Mathlib.Omega.{arith}
 use lib.Dec.{eqb}
 use lib.Pow.{pow-add, pow-pos, mod-pow-add, split, shl-shr}
-use lib.Bits.{bitXor, xor-zero-r, xor-shr, xor-mod, xor-block, xor-lt, xor-comm, xor-shifted}
+use lib.Bits.{bitXor, xor-zero-r, xor-shr, xor-mod, xor-block, xor-lt, xor-comm, xor-shifted, xor-zero-l}
 use Rattle.crc.specs.CheckWord.{afterBit, afterBits, afterByte}
+use Rattle.crc.specs.PrivateContracts.{afterZeros}
 use Rattle.crc.proofs.Xor.{xor-assoc}
 
 pub bit-lt : (w d : ℕ) → afterBit w d < 65536
@@ -83,13 +84,137 @@ bits-in (suc k) j w b e h =
     bits-in k (suc j) (afterBit w d) b e₁ (bit-lt w d)
     ∙ sym (rw (no-bits k, z, bit-low (bitXor w (d * 32768)) x xl, ← bit-in w d h dl, twice (b % 2 ^ k) j))
 
-pub by-table : (w b : ℕ) → w < 65536 → b < 256 → afterByte w b ≡ bitXor (afterBits 8 (bitXor (w / 256) b * 256) 0) (w % 256 * 256)
+-- the step over exclusive or
+both-flipped : (x y : ℕ) → bitXor (bitXor x 0x1021) (bitXor y 0x1021) ≡ bitXor x y
+both-flipped x y =
+    xor-assoc x 0x1021 (bitXor y 0x1021)
+    ∙ ap (bitXor x) (ap (bitXor 0x1021) (xor-comm y 0x1021) ∙ sym (xor-assoc 0x1021 0x1021 y) ∙ xor-zero-l y)
+
+pub bit-both : (u v : ℕ) → u < 65536 → v < 65536 → afterBit (bitXor u v) 0 ≡ bitXor (afterBit u 0) (afterBit v 0)
+unfolding afterBit
+bit-both u v h l =
+    let a : u / 32768 < 2 = omega arith in
+    let b : v / 32768 < 2 = omega arith in
+    rw (xor-shr u v 15, xor-mod u v 15, double (u % 32768) (v % 32768)) (go (u / 32768) (v / 32768) (u % 32768 * 2) (v % 32768 * 2) a b)
+  where
+    go : (a b x y : ℕ) → a < 2 → b < 2
+        → cond (eqb (bitXor a b) 0) (bitXor x y) (bitXor (bitXor x y) 0x1021)
+        ≡ bitXor (cond (eqb a 0) x (bitXor x 0x1021)) (cond (eqb b 0) y (bitXor y 0x1021))
+    go zero zero x y h l = refl
+    go zero (suc zero) x y h l = xor-assoc x y 0x1021
+    go (suc zero) zero x y h l = xor-assoc x y 0x1021 ∙ ap (bitXor x) (xor-comm y 0x1021) ∙ sym (xor-assoc x 0x1021 y)
+    go (suc zero) (suc zero) x y h l = sym (both-flipped x y)
+    go zero (suc (suc b)) x y h l = absurd (omega arith)
+    go (suc zero) (suc (suc b)) x y h l = absurd (omega arith)
+    go (suc (suc a)) b x y h l = absurd (omega arith)
+
+pub bits-both : (k u v : ℕ) → u < 65536 → v < 65536 → afterBits k (bitXor u v) 0 ≡ bitXor (afterBits k u 0) (afterBits k v 0)
+unfolding afterBits
+bits-both zero u v h l = refl
+bits-both (suc k) u v h l = rw (no-bits k, bit-both u v h l) (bits-both k (afterBit u 0) (afterBit v 0) (bit-lt u 0) (bit-lt v 0))
+
+pub byte-lt : (w b : ℕ) → afterByte w b < 65536
+unfolding afterByte afterBits
+byte-lt w b = bit-lt _ _
+
+-- a zero byte, over exclusive or
+pub zeros-both : (u v : ℕ) → u < 65536 → v < 65536 → afterByte (bitXor u v) 0 ≡ bitXor (afterByte u 0) (afterByte v 0)
 unfolding afterByte
-by-table w b h l =
-    let v = bitXor w (b * 256) in
-    let m : b % 2 ^ 8 ≡ b = mod-eq-of-lt l in
-    let q : v / 256 ≡ bitXor (w / 256) b = xor-shr w (b * 256) 8 ∙ ap (bitXor (w / 256)) (shl-shr b 8) in
-    let r : v % 256 ≡ w % 256 = xor-mod w (b * 256) 8 ∙ ap (bitXor (w % 256)) (mul-mod-left b 256) ∙ xor-zero-r (w % 256) in
-    let s : bitXor (v / 256 * 256) (v % 256) ≡ v = xor-shifted (v / 256) 8 (v % 256) (omega arith) ∙ split v 8 in
-    bits-in 8 8 w b refl h ∙ rw m
-    (ap (λ (u : ℕ). afterBits 8 u 0) (sym s) ∙ bits-low 8 (v / 256 * 256) (v % 256) (omega arith) ∙ rw (q, r))
+zeros-both u v h l = bits-both 8 u v h l
+
+-- a byte goes in as the high byte of the word, and then a zero byte comes
+pub byte-in : (w b : ℕ) → w < 65536 → b < 256 → afterByte w b ≡ afterByte (bitXor w (b * 256)) 0
+unfolding afterByte
+byte-in w b h l = let m : b % 2 ^ 8 ≡ b = mod-eq-of-lt l in bits-in 8 8 w b refl h ∙ rw m
+
+from-zero : afterBits 8 0 0 ≡ 0
+unfolding afterBits afterBit
+from-zero = refl
+
+-- the low byte only moves up
+pub low-up : (b : ℕ) → b < 256 → afterByte b 0 ≡ b * 256
+unfolding afterByte
+low-up b h = ap (λ (u : ℕ). afterBits 8 u 0) (sym (xor-zero-l b)) ∙ bits-low 8 0 b (omega arith) ∙ ap (λ (u : ℕ). bitXor u (b * 256)) from-zero ∙ xor-zero-l (b * 256)
+
+up-both : (a b : ℕ) → bitXor (a * 256) (b * 256) ≡ bitXor a b * 256
+up-both a b = simp add-zero at (xor-block 8 a b 0 0 (omega arith) (omega arith))
+
+halves : (w : ℕ) → w ≡ bitXor (w / 256 * 256) (w % 256)
+halves w = sym (xor-shifted (w / 256) 8 (w % 256) (omega arith) ∙ split w 8)
+
+-- the high byte and the low byte apart
+parts : (w b : ℕ) → b < 256 → bitXor w (b * 256) ≡ bitXor (bitXor (w / 256) b * 256) (w % 256)
+parts w b h =
+    ap (λ (u : ℕ). bitXor u (b * 256)) (halves w)
+    ∙ xor-assoc (w / 256 * 256) (w % 256) (b * 256)
+    ∙ ap (bitXor (w / 256 * 256)) (xor-comm (w % 256) (b * 256))
+    ∙ sym (xor-assoc (w / 256 * 256) (b * 256) (w % 256))
+    ∙ ap (λ (u : ℕ). bitXor u (w % 256)) (up-both (w / 256) b)
+
+-- one byte by the high bytes alone
+pub one-byte : (w b : ℕ) → w < 65536 → b < 256 → afterByte w b ≡ bitXor (afterZeros 1 (bitXor (w / 256) b * 256)) (w % 256 * 256)
+unfolding afterZeros
+one-byte w b h l =
+    let x = bitXor (w / 256) b in
+    let g = xor-lt 8 (w / 256) b (omega arith) l in
+    byte-in w b h l ∙ ap (λ (u : ℕ). afterByte u 0) (parts w b l)
+    ∙ zeros-both (x * 256) (w % 256) (omega arith) (omega arith)
+    ∙ ap (bitXor (afterByte (x * 256) 0)) (low-up (w % 256) (omega arith))
+
+-- one byte more, where the word is what k bytes left
+more : (u b : ℕ) → u < 65536 → b < 256 → afterByte u b ≡ bitXor (afterByte u 0) (afterZeros 1 (b * 256))
+unfolding afterZeros
+more u b h l = byte-in u b h l ∙ zeros-both u (b * 256) h (omega arith)
+
+pub zeros-lt : (k w : ℕ) → afterZeros (suc k) w < 65536
+unfolding afterZeros
+zeros-lt k w = byte-lt (afterZeros k w) 0
+
+next-zeros : (k w : ℕ) → afterByte (afterZeros k w) 0 ≡ afterZeros (suc k) w
+unfolding afterZeros
+next-zeros k w = refl
+
+zero-byte : (w : ℕ) → afterByte w 0 ≡ afterZeros 1 w
+unfolding afterZeros
+zero-byte w = refl
+
+-- two zero bytes' work at once: what comes after, of a word in two parts
+after-both : (j k u v : ℕ) → afterByte (bitXor (afterZeros (suc j) u) (afterZeros (suc k) v)) 0 ≡ bitXor (afterZeros (suc (suc j)) u) (afterZeros (suc (suc k)) v)
+after-both j k u v =
+    zeros-both (afterZeros (suc j) u) (afterZeros (suc k) v) (zeros-lt j u) (zeros-lt k v)
+    ∙ ap (λ (x : ℕ). bitXor x (afterByte (afterZeros (suc k) v) 0)) (next-zeros (suc j) u)
+    ∙ ap (bitXor (afterZeros (suc (suc j)) u)) (next-zeros (suc k) v)
+
+both-lt : (j k u v : ℕ) → bitXor (afterZeros (suc j) u) (afterZeros (suc k) v) < 65536
+both-lt j k u v = xor-lt 16 (afterZeros (suc j) u) (afterZeros (suc k) v) (zeros-lt j u) (zeros-lt k v)
+
+pub two-bytes : (w a b : ℕ) → w < 65536 → a < 256 → b < 256
+    → afterByte (afterByte w a) b ≡ bitXor (afterZeros 2 (bitXor (w / 256) a * 256)) (afterZeros 1 (bitXor (w % 256) b * 256))
+two-bytes w a b h la lb =
+    let x = bitXor (w / 256) a * 256 in
+    let y = bitXor (w % 256) b * 256 in
+    let ly = xor-lt 8 (w % 256) b (omega arith) lb in
+    let e : bitXor (afterByte w a) (b * 256) ≡ bitXor (afterZeros 1 x) y =
+    ap (λ (u : ℕ). bitXor u (b * 256)) (one-byte w a h la) ∙ xor-assoc (afterZeros 1 x) (w % 256 * 256) (b * 256) ∙ ap (bitXor (afterZeros 1 x)) (up-both (w % 256) b) in
+    byte-in (afterByte w a) b (byte-lt w a) lb ∙ ap (λ (u : ℕ). afterByte u 0) e
+    ∙ zeros-both (afterZeros 1 x) y (zeros-lt 0 x) (omega arith)
+    ∙ ap (λ (u : ℕ). bitXor u (afterByte y 0)) (next-zeros 1 x)
+    ∙ ap (bitXor (afterZeros 2 x)) (zero-byte y)
+
+pub four-bytes : (w a b c d : ℕ) → w < 65536 → a < 256 → b < 256 → c < 256 → d < 256
+    → afterByte (afterByte (afterByte (afterByte w a) b) c) d
+    ≡ bitXor (bitXor (afterZeros 4 (bitXor (w / 256) a * 256)) (afterZeros 3 (bitXor (w % 256) b * 256))) (bitXor (afterZeros 2 (c * 256)) (afterZeros 1 (d * 256)))
+four-bytes w a b c d h la lb lc ld =
+    let x = bitXor (w / 256) a * 256 in
+    let y = bitXor (w % 256) b * 256 in
+    let two = two-bytes w a b h la lb in
+    let three : afterByte (afterByte (afterByte w a) b) c ≡ bitXor (bitXor (afterZeros 3 x) (afterZeros 2 y)) (afterZeros 1 (c * 256)) =
+    more (afterByte (afterByte w a) b) c (byte-lt (afterByte w a) b) lc
+    ∙ ap (λ (u : ℕ). bitXor (afterByte u 0) (afterZeros 1 (c * 256))) two
+    ∙ ap (λ (u : ℕ). bitXor u (afterZeros 1 (c * 256))) (after-both 1 0 x y) in
+    more (afterByte (afterByte (afterByte w a) b) c) d (byte-lt (afterByte (afterByte w a) b) c) ld
+    ∙ ap (λ (u : ℕ). bitXor (afterByte u 0) (afterZeros 1 (d * 256))) three
+    ∙ ap (λ (u : ℕ). bitXor u (afterZeros 1 (d * 256))) (zeros-both (bitXor (afterZeros 3 x) (afterZeros 2 y)) (afterZeros 1 (c * 256)) (both-lt 2 1 x y) (zeros-lt 0 (c * 256)))
+    ∙ ap (λ (u : ℕ). bitXor (bitXor u (afterByte (afterZeros 1 (c * 256)) 0)) (afterZeros 1 (d * 256))) (after-both 2 1 x y)
+    ∙ ap (λ (u : ℕ). bitXor (bitXor (bitXor (afterZeros 4 x) (afterZeros 3 y)) u) (afterZeros 1 (d * 256))) (next-zeros 1 (c * 256))
+    ∙ xor-assoc (bitXor (afterZeros 4 x) (afterZeros 3 y)) (afterZeros 2 (c * 256)) (afterZeros 1 (d * 256))

@@ -148,8 +148,8 @@ fn after_flux_count(place: Place, cells: u32, timings: u32) -> Reader
     Reader::AllCells(place, cells)
 }
 
-// Puts a byte at place `at`, where the buffer has it.
-fn put_byte(cells: &mut [u8], at: u32, byte: u8)
+// Puts a byte at place `at`, where the buffer has it (rule 10.9).
+pub fn put_byte(cells: &mut [u8], at: u32, byte: u8)
     ensures { λ _. ⌜ now (cells .exit) ≡ set (now (cells .entry)) at byte ⌝ }
 {
     let at = at as usize;

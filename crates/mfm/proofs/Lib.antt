@@ -4,3 +4,4 @@ pub mod ByTable
 pub mod Decoder
 pub mod RoundTrip
 pub mod Calls
+pub mod Gathering

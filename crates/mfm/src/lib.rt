@@ -6,12 +6,12 @@ use refusals::Refusal;
 use table::CELLS;
 ghost use mathlib.Core.Path.{_≡_};
 ghost use mathlib.Core.Bool.{cond};
-ghost use Prim.Native.Nat.{_<_, _≤_, _*_, _+_, _/_, _%_, _^_};
+ghost use Prim.Native.Nat.{ℕ, _<_, _≤_, _*_, _+_, _/_, _%_, _^_};
 ghost use lib.ListN.{length};
 ghost use Rattle.basis.specs.Lists.{writtenOver};
 ghost use Rattle.refusals.specs.RefusedCalls.{countedAnswer};
 ghost use Rattle.cells.specs.CellsAndBytes.{cell, word};
-ghost use Rattle.mfm.specs.Coding.{byteCells, byteOn, encoded, decoded};
+ghost use Rattle.mfm.specs.Coding.{byteCells, dataCell, byteOn, encoded, decoded};
 ghost use Rattle.mfm.specs.PrivateContracts.{entryOf, codedBy};
 ghost use Rattle.mfm.specs.Table.{cellTable};
 ghost use Rattle.mfm.specs.Calls.{codingAnswer, decodingAnswer, encodedAfter, decodedAfter};
@@ -77,6 +77,18 @@ pub fn byte_on(bytes: &[u8], n: usize, p: usize) -> u8
 {
     let cells = sixteen_cells(bytes, n, p);
     nibble((cells / 256) as u8) * 16 + nibble((cells % 256) as u8)
+}
+
+// The 32 data cells of 64 cells, as a number: every second cell, moved together twice as many at a time.
+pub fn data_cells(cells: u64) -> u64
+    ensures { λ r. ⌜ ((f : ℕ → ℕ) (p : ℕ) → ((i : ℕ) → f i < 2) → cells ≡ word f 64 p → r ≡ word (dataCell f p) 32 0) ⌝ }
+{
+    let ones = cells & 0x5555_5555_5555_5555;
+    let twos = (ones | (ones >> 1)) & 0x3333_3333_3333_3333;
+    let fours = (twos | (twos >> 2)) & 0x0F0F_0F0F_0F0F_0F0F;
+    let eights = (fours | (fours >> 4)) & 0x00FF_00FF_00FF_00FF;
+    let sixteens = (eights | (eights >> 8)) & 0x0000_FFFF_0000_FFFF;
+    (sixteens | (sixteens >> 16)) & 0xFFFF_FFFF
 }
 
 // Codes all of `bytes` into the front of `cells`. The table is made once for the call: indexed where it is a constant, it would be copied for

@@ -11,36 +11,10 @@ use Rattle.basis.proofs.Search.{least-found, least-high, least-skip, least-same
 use Rattle.cells.specs.CellsAndBytes.{cell, word, wordAt, stands, leastPlace}
 use Rattle.cells.proofs.Places.{cell-lt}
 use Rattle.cells.proofs.Words.{word-lt, word-split}
+use Rattle.cell_words.specs.Tests.{thriceAt, syncTest}
+use Rattle.cell_words.proofs.Tests.{sync-is}
 use Rattle.layouts.specs.declared.Layout.{Layout}
 use Rattle.sector_records.specs.Marks.{markAt, markByte, markOf, wordMarkAt, idMarkAt, dataMarkAt}
-
--- three words of sixteen cells in one
-three-words : (a b c : ℕ) → b < 65536 → c < 65536
-    → eqb (a * 4294967296 + (b * 65536 + c)) 0x448944894489 ≡ (eqb a 0x4489 && (eqb b 0x4489 && eqb c 0x4489))
-three-words a b c h g = go (eqb a 0x4489) (eqb b 0x4489) (eqb c 0x4489) refl refl refl
-  where
-    go : (x y z : Bool) → eqb a 0x4489 ≡ x → eqb b 0x4489 ≡ y → eqb c 0x4489 ≡ z → eqb (a * 4294967296 + (b * 65536 + c)) 0x448944894489 ≡ (x && (y && z))
-    go true true true p q r = eq-eqb (a * 4294967296 + (b * 65536 + c)) 0x448944894489 (omega (arith, eqb-true a 0x4489 p, eqb-true b 0x4489 q, eqb-true c 0x4489 r))
-    go true true false p q r = ne-eqb (a * 4294967296 + (b * 65536 + c)) 0x448944894489 (λ e. eqb-false c 0x4489 r (omega arith))
-    go true false z p q r = ne-eqb (a * 4294967296 + (b * 65536 + c)) 0x448944894489 (λ e. eqb-false b 0x4489 q (omega arith))
-    go false y z p q r = ne-eqb (a * 4294967296 + (b * 65536 + c)) 0x448944894489 (λ e. eqb-false a 0x4489 p (omega arith))
-
--- a mark stands where the word of three syncs does
-mark-by-word : (f : ℕ → ℕ) → ((i : ℕ) → f i < 2) → (p : ℕ) → eqb (word f 48 p) 0x448944894489 ≡ markAt f p
-unfolding markAt
-mark-by-word f bit p =
-    let e : word f 48 p ≡ word f 16 p * 4294967296 + (word f 16 (p + 16) * 65536 + word f 16 (p + 16 + 16)) =
-    word-split f bit 16 32 p ∙ ap (λ (x : ℕ). word f 16 p * 4294967296 + x) (word-split f bit 16 16 (p + 16)) in
-    let g : p + 16 + 16 ≡ p + 32 = omega arith in
-    rw (e, g) (three-words (word f 16 p) (word f 16 (p + 16)) (word f 16 (p + 32)) (word-lt f bit 16 (p + 16)) (word-lt f bit 16 (p + 32)))
-
-pub mark-stands : (bytes : List ℕ) (n p : ℕ) → stands bytes n 48 0x448944894489 p ≡ markAt (cell bytes n) p
-unfolding stands wordAt
-mark-stands bytes n p = mark-by-word (cell bytes n) (cell-lt bytes n) p
-
--- so a search for the word finds the next mark
-pub next-is : (bytes : List ℕ) (n from to r : ℕ) → r ≡ leastPlace bytes n 48 0x448944894489 from to → r ≡ least (markAt (cell bytes n)) (to - from) from
-next-is bytes n from to r e = e ∙ least-same (stands bytes n 48 0x448944894489) (markAt (cell bytes n)) (mark-stands bytes n) (to - from) from
 
 module _ (f : ℕ → ℕ) (low high : ℕ) where
   pub no-mark : (p : ℕ) → markAt f p ≡ false → markOf f low high p ≡ false
@@ -89,3 +63,8 @@ module _ (layout : Layout) (f : ℕ → ℕ) (k from : ℕ) where
   pub data-double : (layout .density ≡ 1 → ⊥) → least (markOf f 0xF8 0xFB) k from ≡ least (dataMarkAt layout f) k from
   unfolding dataMarkAt
   data-double e = least-same (markOf f 0xF8 0xFB) (dataMarkAt layout f) (λ p. rw (ne-eqb (layout .density) 1 e)) k from
+
+-- the map of the places where three syncs follow each other is that of the marks
+pub marks-are : (f : ℕ → ℕ) → ((i : ℕ) → f i < 2) → (p : ℕ) → thriceAt (syncTest f) p ≡ markAt f p
+unfolding thriceAt markAt
+marks-are f bit p = rw (sync-is f bit p, sync-is f bit (p + 16), sync-is f bit (p + 32))

@@ -1,20 +1,24 @@
 // The sectors of a track as records: marks, IDs, data, and their checks, in either density.
+use cell_words::WORDS;
 use layouts::Density;
 use layouts::Layout;
 use layouts::layout_of;
 ghost use mathlib.Core.Path.{_≡_};
 ghost use mathlib.Core.Bool.{true, cond, _&&_};
 ghost use mathlib.Core.List.{[]};
-ghost use Prim.Native.Nat.{_+_, _-_, _*_, _<_, _≤_};
+ghost use Prim.Native.Nat.{_+_, _-_, _*_, _/_, _%_, _<_, _≤_};
 ghost use lib.Dec.{ltb, leb};
 ghost use Rattle.basis.specs.Lists.{joined};
 ghost use Rattle.basis.specs.Search.{least};
+ghost use lib.ListN.{length};
 ghost use Rattle.cells.specs.CellsAndBytes.{cell};
+ghost use Rattle.cell_words.specs.Words.{Holds};
 ghost use Rattle.crc.specs.CheckWord.{checkWordFrom};
 ghost use Rattle.mfm.specs.Coding.{byteOn};
 ghost use Rattle.layouts.specs.Layouts.{layoutOf};
 ghost use Rattle.layouts.specs.PrivateContracts.{Sound};
 ghost use Rattle.sector_records.specs.Marks.{markAt, markByte, markOf, idMarkAt, dataMarkAt};
+ghost use Rattle.sector_records.specs.PrivateContracts.{MarkMap};
 ghost use Rattle.sector_records.specs.Sectors.{bytesFrom, checkBytes, checkGood, leastData, lengthOf, idByte, sectorAt, endOfData, noSector, sectorsAt, sectorsOf, kept};
 
 // The most cells of a track, and the most sectors that it may have.
@@ -76,9 +80,7 @@ const DATA_WORD: u64 = 0xF56F;
 
 const DELETED_DATA_WORD: u64 = 0xF56A;
 
-// Three syncs, which a mark of double density begins with, and the cells that they take.
-const SYNCS: u64 = 0x4489_4489_4489;
-
+// The cells that the three syncs of a mark of double density take.
 const SYNC_CELLS: usize = 48;
 
 // How many size codes there are to the controller.
@@ -98,30 +100,58 @@ const LAST_DATA_MARK: u8 = 0xFB;
 
 // The functions below take a layout, of which they ask that its numbers are small (`Sound`); where one number is enough they take that.
 
-// The sectors of a track, in one pass from ID mark to ID mark.
+// The sectors of a track, with a map of its marks that is made once.
 fn list(layout: Layout, bytes: &[u8], n: usize) -> Sectors
     requires { ⌜ Sound layout × (n ≤ 131072) ⌝ }
     ensures { λ r. ⌜ r ≡ kept (sectorsOf layout (now (bytes .entry)) n) ⌝ }
 {
+    let mut marks = [0u64; WORDS];
+    find_marks(layout, bytes, n, &mut marks);
+    list_by(layout, bytes, n, &marks)
+}
+
+// Makes the map of the marks of double density. In single density marks are looked for as words.
+fn find_marks(layout: Layout, bytes: &[u8], n: usize, marks: &mut [u64; WORDS])
+    requires { ⌜ n ≤ 131072 ⌝ }
+    ensures { λ _. ⌜ (length (now (marks .entry)) ≡ 2116 → MarkMap layout (cell (now (bytes .entry)) n) n (now (marks .exit))) ⌝ }
+{
+    if layout.density == SINGLE_DENSITY {
+        return;
+    }
+    cell_words::mark_map(bytes, n, marks, n / 64 + 64);
+}
+
+// The sectors of a track, in one pass from ID mark to ID mark.
+fn list_by(layout: Layout, bytes: &[u8], n: usize, marks: &[u64; WORDS]) -> Sectors
+    requires { ⌜ Sound layout × (n ≤ 131072) × MarkMap layout (cell (now bytes) n) n (now marks) ⌝ }
+    ensures { λ r. ⌜ r ≡ kept (sectorsOf layout (now (bytes .entry)) n) ⌝ }
+{
     let mut sectors = no_sectors();
-    let mut p = find_id_mark(layout, bytes, n, 0, n);
+    let mut p = find_id_mark(layout, bytes, n, marks, 0, n);
     while p < n {
-        sectors = add_at(sectors, layout, bytes, n, p);
-        p = find_id_mark(layout, bytes, n, p + 1, n);
+        sectors = add_at(sectors, layout, bytes, n, marks, p);
+        p = find_id_mark(layout, bytes, n, marks, p + 1, n);
     }
     sectors
 }
 
 // The sectors before p, and the one at p. Past the first 64 it is only counted, and no record is made of it.
-fn add_at(sectors: Sectors, layout: Layout, bytes: &[u8], n: usize, p: usize) -> Sectors
-    requires { ⌜ Sound layout × (p < 131072) × (sectors ≡ kept (joined (sectorsAt layout (cell (now bytes) n)) p)) × (idMarkAt layout (cell (now bytes) n) p ≡ true) ⌝ }
+fn add_at(
+    sectors: Sectors,
+    layout: Layout,
+    bytes: &[u8],
+    n: usize,
+    marks: &[u64; WORDS],
+    p: usize,
+) -> Sectors
+    requires { ⌜ Sound layout × (p < 131072) × (sectors ≡ kept (joined (sectorsAt layout (cell (now bytes) n)) p)) × (idMarkAt layout (cell (now bytes) n) p ≡ true) × MarkMap layout (cell (now bytes) n) n (now marks) × (p ≤ n) ⌝ }
     ensures { λ r. ⌜ r ≡ kept (joined (sectorsAt layout (cell (now (bytes .entry)) n)) (p + 1)) ⌝ }
 {
     let at = sectors.count;
     let mut next = sectors;
     next.count = at + 1;
     if at < MOST_SECTORS {
-        let sector = sector_at(layout, bytes, n, p);
+        let sector = sector_at(layout, bytes, n, marks, p);
         next.all[at] = sector;
         next
     } else {
@@ -163,8 +193,8 @@ pub fn no_sector() -> Sector
 // at most the reach past them, and data has at most 1,024 bytes.
 
 // The record of the ID mark at p.
-fn sector_at(layout: Layout, bytes: &[u8], n: usize, p: usize) -> Sector
-    requires { ⌜ Sound layout × (p < 131072) ⌝ }
+fn sector_at(layout: Layout, bytes: &[u8], n: usize, marks: &[u64; WORDS], p: usize) -> Sector
+    requires { ⌜ Sound layout × (p < 131072) × MarkMap layout (cell (now bytes) n) n (now marks) × (p ≤ n) ⌝ }
     ensures { λ r. ⌜ r ≡ sectorAt layout (cell (now (bytes .entry)) n) p ⌝ }
 {
     let mark = mfm::byte_on(bytes, n, p + layout.byte_place);
@@ -173,7 +203,7 @@ fn sector_at(layout: Layout, bytes: &[u8], n: usize, p: usize) -> Sector
     let number = id_byte(layout.mark_length, bytes, n, p, 2);
     let size_code = id_byte(layout.mark_length, bytes, n, p, 3);
     let id_check_good = check_good(layout, bytes, n, p, ID_BYTES);
-    let q = find_data(layout, bytes, n, p);
+    let q = find_data(layout, bytes, n, marks, p);
     let found = q <= p + layout.reach;
     let data_place = place_if(found, q);
     let data_mark = mark_if(found, layout.byte_place, bytes, n, q);
@@ -206,13 +236,13 @@ fn id_byte(mark: usize, bytes: &[u8], n: usize, p: usize, i: usize) -> u8
 }
 
 // Where the data mark of the ID mark at p stands; one past the reach where there is none.
-fn find_data(layout: Layout, bytes: &[u8], n: usize, p: usize) -> usize
-    requires { ⌜ Sound layout × (p < 131072) ⌝ }
+fn find_data(layout: Layout, bytes: &[u8], n: usize, marks: &[u64; WORDS], p: usize) -> usize
+    requires { ⌜ Sound layout × (p < 131072) × MarkMap layout (cell (now bytes) n) n (now marks) × (p ≤ n) ⌝ }
     ensures { λ r. ⌜ (r ≡ leastData layout (cell (now (bytes .entry)) n) p) × (r ≤ p + 785) ⌝ }
 {
     let from = p + layout.id_length;
     let to = p + layout.reach + 1;
-    find_data_mark(layout, bytes, n, from, to)
+    find_data_mark(layout, bytes, n, marks, from, to)
 }
 
 // The place of a data mark, 0 where there is none.
@@ -287,18 +317,28 @@ fn check_good(layout: Layout, bytes: &[u8], n: usize, p: usize, k: usize) -> boo
         == check_bytes(bytes, n, p + layout.mark_length + BYTE_LENGTH * k)
 }
 
-// The check word of the k bytes from p on, where it was `start` before them.
+// The check word of the k bytes from p on, where it was `start` before them. They are decoded four at a turn.
 fn check_word(start: u16, bytes: &[u8], n: usize, p: usize, k: usize) -> u16
     requires { ⌜ (p ≤ 200048) × (k ≤ 1025) ⌝ }
     ensures { λ r. ⌜ r ≡ checkWordFrom start (bytesFrom (cell (now (bytes .entry)) n) p k) ⌝ }
 {
-    let mut word = start;
+    let mut decoded = [0u8; 1028];
     let mut i: usize = 0;
     while i < k {
-        word = crc::step(word, mfm::byte_on(bytes, n, p + BYTE_LENGTH * i));
-        i += 1;
+        let four = mfm::data_cells(cell_words::word_from(bytes, n, p + BYTE_LENGTH * i));
+        decoded[i] = low_byte(four >> 24);
+        decoded[i + 1] = low_byte(four >> 16);
+        decoded[i + 2] = low_byte(four >> 8);
+        decoded[i + 3] = low_byte(four);
+        i += 4;
     }
-    word
+    crc::check_word_from(start, &decoded[..k])
+}
+
+fn low_byte(x: u64) -> u8
+    ensures { λ r. ⌜ r ≡ x % 256 ⌝ }
+{
+    (x % 256) as u8
 }
 
 // The two check bytes from p on, as a word.
@@ -316,50 +356,64 @@ fn wide(byte: u8) -> u16
 }
 
 // The least place from `from` and before `to` of an ID mark; `to` where there is none. Here and in the next function the densities part.
-fn find_id_mark(layout: Layout, bytes: &[u8], n: usize, from: usize, to: usize) -> usize
-    requires { ⌜ (from ≤ to) × (to ≤ 200000) ⌝ }
+fn find_id_mark(
+    layout: Layout,
+    bytes: &[u8],
+    n: usize,
+    marks: &[u64; WORDS],
+    from: usize,
+    to: usize,
+) -> usize
+    requires { ⌜ (from ≤ to) × (to ≤ n + 1000) × MarkMap layout (cell (now bytes) n) n (now marks) ⌝ }
     ensures { λ r. ⌜ r ≡ least (idMarkAt layout (cell (now (bytes .entry)) n)) (to - from) from ⌝ }
 {
     if layout.density == SINGLE_DENSITY {
         return cells::find_word(bytes, n, ID_WORD, WORD_CELLS, from, to);
     }
-    find_mark(bytes, n, FIRST_ID_MARK, LAST_ID_MARK, from, to)
+    find_mark(bytes, n, marks, FIRST_ID_MARK, LAST_ID_MARK, from, to)
 }
 
 // The least place from `from` and before `to` of a data mark; `to` where there is none. Of the two words of single density, the second is
 // looked for before the first that was found.
-fn find_data_mark(layout: Layout, bytes: &[u8], n: usize, from: usize, to: usize) -> usize
-    requires { ⌜ (from ≤ to) × (to ≤ 200000) ⌝ }
+fn find_data_mark(
+    layout: Layout,
+    bytes: &[u8],
+    n: usize,
+    marks: &[u64; WORDS],
+    from: usize,
+    to: usize,
+) -> usize
+    requires { ⌜ (from ≤ to) × (to ≤ n + 1000) × MarkMap layout (cell (now bytes) n) n (now marks) ⌝ }
     ensures { λ r. ⌜ r ≡ least (dataMarkAt layout (cell (now (bytes .entry)) n)) (to - from) from ⌝ }
 {
     if layout.density == SINGLE_DENSITY {
         let data = cells::find_word(bytes, n, DATA_WORD, WORD_CELLS, from, to);
         return cells::find_word(bytes, n, DELETED_DATA_WORD, WORD_CELLS, from, data);
     }
-    find_mark(bytes, n, FIRST_DATA_MARK, LAST_DATA_MARK, from, to)
+    find_mark(bytes, n, marks, FIRST_DATA_MARK, LAST_DATA_MARK, from, to)
 }
 
 // The least place from `from` and before `to` of a mark of double density whose byte lies from `low` to `high`; `to` where there is none.
-fn find_mark(bytes: &[u8], n: usize, low: u8, high: u8, from: usize, to: usize) -> usize
-    requires { ⌜ (from ≤ to) × (to ≤ 200000) ⌝ }
+fn find_mark(
+    bytes: &[u8],
+    n: usize,
+    marks: &[u64; WORDS],
+    low: u8,
+    high: u8,
+    from: usize,
+    to: usize,
+) -> usize
+    requires { ⌜ (from ≤ to) × (to ≤ n + 1000) × Holds (markAt (cell (now bytes) n)) (now marks) (n / 64 + 64) × (n ≤ 131072) ⌝ }
     ensures { λ r. ⌜ r ≡ least (markOf (cell (now (bytes .entry)) n) low high) (to - from) from ⌝ }
 {
-    let mut p = next_mark(bytes, n, from, to);
+    let mut p = cell_words::least_in(marks, from, to);
     while p < to {
         if has_byte(bytes, n, p, low, high) {
             return p;
         }
-        p = next_mark(bytes, n, p + 1, to);
+        p = cell_words::least_in(marks, p + 1, to);
     }
     to
-}
-
-// The least place from `from` and before `to` of a mark, whatever its byte; `to` where there is none.
-fn next_mark(bytes: &[u8], n: usize, from: usize, to: usize) -> usize
-    requires { ⌜ from ≤ to ⌝ }
-    ensures { λ r. ⌜ r ≡ least (markAt (cell (now (bytes .entry)) n)) (to - from) from ⌝ }
-{
-    cells::find_word(bytes, n, SYNCS, SYNC_CELLS, from, to)
 }
 
 // Does the byte of the mark at p lie from `low` to `high`?

@@ -13,10 +13,10 @@ ghost use mathlib.Core.Bool.{cond};
 ghost use Prim.Native.Nat.{ℕ, _+_, _-_, _≤_};
 ghost use lib.Dec.{eqb};
 ghost use lib.ListN.{length};
-ghost use Rattle.basis.specs.Lists.{writtenOver};
+ghost use Rattle.basis.specs.Lists.{listed};
 ghost use Rattle.refusals.specs.RefusedCalls.{countedAnswer};
 ghost use Rattle.refusals.specs.RefusedCalls.Answer.{gives};
-ghost use Rattle.cells.specs.CellsAndBytes.{bytesFor, packed, withOne};
+ghost use Rattle.cells.specs.CellsAndBytes.{packedByte, withOne};
 ghost use Rattle.flux_timings.specs.Timings.{firstOut};
 ghost use Rattle.separator.specs.Rule.{takenAnswer, singleHalfWindow, stepAnswerBy, stepOffsetBy, stepResidualBy, borderPulsesAtBy};
 ghost use Rattle.separation.specs.Separation.{borderPulsesOf, borderPulsesCounted, separation, separatedCells, borderPulsesAfter, cellsOfBy, borderPulsesOfBy, separationBy, separatedCellsBy};
@@ -25,6 +25,9 @@ ghost use Rattle.separation.specs.PrivateContracts.{IsHalfWindow};
 
 // The most cells that one call gives.
 pub const MOST_CELLS: usize = 131_072;
+
+// The bytes that they take.
+const MOST_CELL_BYTES: usize = 16_384;
 
 // The whole list of timings, to cells at the front of a buffer; they are counted, and the border pulses too.
 pub fn separate(timings: &[u32], cells: &mut [u8], border_pulses: &mut usize) -> Counted
@@ -60,7 +63,8 @@ pub fn count_border_pulses(timings: &[u32]) -> Counted
     if first < given {
         return Counted::Refused(Refusal::TimingOutOfRange(first));
     }
-    let counts = count_cells(DOUBLE_HALF_WINDOW, timings);
+    let mut room = [0u8; MOST_CELL_BYTES];
+    let counts = fill(DOUBLE_HALF_WINDOW, timings, &mut room);
     Counted::Count(counts.border_pulses)
 }
 
@@ -87,7 +91,8 @@ fn separate_by(
     if first < given {
         return Counted::Refused(Refusal::TimingOutOfRange(first));
     }
-    let counts = count_cells(half_window, timings);
+    let mut room = [0u8; MOST_CELL_BYTES];
+    let counts = fill(half_window, timings, &mut room);
     let count = counts.cells;
     if MOST_CELLS < count {
         return Counted::Refused(Refusal::TooManyCells(count));
@@ -96,7 +101,7 @@ fn separate_by(
     if cells.len() < needed {
         return Counted::Refused(Refusal::NoRoom(needed));
     }
-    write_cells(half_window, timings, needed, cells);
+    basis::copy_bytes(&room[..needed], cells);
     *border_pulses = counts.border_pulses;
     Counted::Count(count)
 }
@@ -107,12 +112,15 @@ struct Counts {
     border_pulses: usize,
 }
 
-// The cells and the border pulses of timings that are in range, counted.
-fn count_cells(half_window: u32, timings: &[u32]) -> Counts
-    requires { ⌜ (length (now timings) ≤ 65536) × (firstOut (now timings) ≡ length (now timings)) × IsHalfWindow «half_window» ⌝ }
+// One pass over timings that are in range: their cells and border pulses are counted, and the cells put into a room, as far as it reaches. A
+// refused call may write nothing, so it is not the caller's.
+fn fill(half_window: u32, timings: &[u32], room: &mut [u8]) -> Counts
+    requires { ⌜ (length (now timings) ≤ 65536) × (firstOut (now timings) ≡ length (now timings)) × IsHalfWindow «half_window» × (length (now room) ≡ 16384) ⌝ }
     ensures cells { λ r. ⌜ r .cells ≡ length (cellsOfBy «half_window» (now (timings .entry))) ⌝ }
     ensures border_pulses { λ r. ⌜ r .«border_pulses» ≡ borderPulsesOfBy «half_window» (now (timings .entry)) ⌝ }
+    ensures room { λ _. ⌜ (length (cellsOfBy «half_window» (now (timings .entry))) ≤ 131072 → now (room .exit) ≡ listed (packedByte (cellsOfBy «half_window» (now (timings .entry)))) 16384) ⌝ }
 {
+    cells::clear(room, MOST_CELL_BYTES);
     let mut count: usize = 0;
     let mut border_pulses: usize = 0;
     let mut state = Separator::new();
@@ -121,7 +129,9 @@ fn count_cells(half_window: u32, timings: &[u32]) -> Counts
         let stepped = step_by(half_window, state, timings[i]);
         let given = stepped.given;
         let taken = given.taken;
-        count += cells_given(taken);
+        let more = cells_given(taken);
+        put_cells(room, count, more);
+        count += more;
         border_pulses += border_pulses_by(half_window, given.offset) as usize;
         state = stepped.next;
         i += 1;
@@ -129,27 +139,6 @@ fn count_cells(half_window: u32, timings: &[u32]) -> Counts
     Counts {
         cells: count,
         border_pulses: border_pulses,
-    }
-}
-
-// Writes the cells of timings that are in range to the front of a buffer that has room for them.
-fn write_cells(half_window: u32, timings: &[u32], needed: usize, cells: &mut [u8])
-    requires { ⌜ (firstOut (now timings) ≡ length (now timings)) × (length (cellsOfBy «half_window» (now timings)) ≤ 131072) × (needed ≡ bytesFor (length (cellsOfBy «half_window» (now timings)))) × (needed ≤ length (now cells)) × IsHalfWindow «half_window» ⌝ }
-    ensures { λ _. ⌜ now (cells .exit) ≡ writtenOver (packed (cellsOfBy «half_window» (now (timings .entry)))) (now (cells .entry)) ⌝ }
-{
-    cells::clear(cells, needed);
-    let mut at: usize = 0;
-    let mut separator = Separator::new();
-    let mut i: usize = 0;
-    while i < timings.len() {
-        let stepped = step_by(half_window, separator, timings[i]);
-        let given = stepped.given;
-        let taken = given.taken;
-        let count = cells_given(taken);
-        put_cells(cells, at, count);
-        at += count;
-        separator = stepped.next;
-        i += 1;
     }
 }
 
@@ -180,7 +169,7 @@ fn border_pulses_by(half_window: u32, offset: i32) -> u32
 
 // Puts the cells of a timing at cell `at`, where zeros stand: all that changes is a one at the last of them.
 fn put_cells(cells: &mut [u8], at: usize, count: usize)
-    requires { ⌜ at + count ≤ 131072 ⌝ }
+    requires { ⌜ at + count ≤ 0x1_0000_0000 ⌝ }
     ensures { λ _. ⌜ now (cells .exit) ≡ cond (eqb count 0) (now (cells .entry)) (withOne (now (cells .entry)) (at + (count - 1))) ⌝ }
 {
     if count == 0 {

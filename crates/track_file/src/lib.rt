@@ -4,7 +4,8 @@ use file_reader::Number;
 use file_reader::Reader;
 use refusals::Refusal;
 ghost use mathlib.Core.Path.{_≡_};
-ghost use lib.ListN.{length};
+ghost use Prim.Native.Nat.{_≤_};
+ghost use lib.ListN.{length, drop};
 ghost use Rattle.track_file.specs.Portions.{startOf, startCells, readerAfter, cellsAfter, isStopped, AtOnce, readAnswer, finishAnswer, WholeFile};
 
 // The bytes that a cell buffer must have: room for 131,072 cells.
@@ -29,7 +30,7 @@ pub fn start(cells: &mut [u8]) -> Reader
     Reader::PlaceCount(Number::Empty)
 }
 
-// A portion more of the file, byte by byte (rule 10.12).
+// A portion more of the file (rule 10.12): byte by byte, and after a byte the packed cells that follow.
 pub fn feed(reader: Reader, portion: &[u8], cells: &mut [u8]) -> Reader
     ensures reader { λ r. ⌜ r ≡ readerAfter reader (now (portion .entry)) ⌝ }
     ensures buffer { λ _. ⌜ now (cells .exit) ≡ cellsAfter reader (now (portion .entry)) (now (cells .entry)) ⌝ }
@@ -38,7 +39,9 @@ pub fn feed(reader: Reader, portion: &[u8], cells: &mut [u8]) -> Reader
     let mut i: usize = 0;
     while i < portion.len() {
         at = file_reader::feed_byte(at, portion[i], cells);
-        i += 1;
+        let fed = feed_packed(at, portion, i + 1, cells);
+        at = fed.reader;
+        i = fed.to;
     }
     at
 }
@@ -74,5 +77,40 @@ fn given(reader: Reader) -> Read
         },
         Reader::Stopped(refusal) => Read::Refused(refusal),
         _ => Read::Refused(Refusal::NotATrackFile),
+    }
+}
+
+// How far a portion is fed, and the reader there.
+struct FedTo {
+    reader: Reader,
+    to: usize,
+}
+
+// Where the reader stands before packed cells at byte `from` of a portion: as many of them as the portion has, without the last byte, after
+// which the reader stands elsewhere. They are put in one loop: a reader made anew for each byte took most of the time.
+fn feed_packed(reader: Reader, portion: &[u8], from: usize, cells: &mut [u8]) -> FedTo
+    requires { ⌜ from ≤ length (now portion) ⌝ }
+    ensures on { λ r. ⌜ from ≤ r .to ⌝ }
+    ensures within { λ r. ⌜ r .to ≤ length (now (portion .entry)) ⌝ }
+    ensures reader { λ r. ⌜ readerAfter (r .reader) (drop (r .to) (now (portion .entry))) ≡ readerAfter reader (drop from (now (portion .entry))) ⌝ }
+    ensures buffer { λ r. ⌜ cellsAfter (r .reader) (drop (r .to) (now (portion .entry))) (now (cells .exit)) ≡ cellsAfter reader (drop from (now (portion .entry))) (now (cells .entry)) ⌝ }
+{
+    let Reader::PackedCells(place, count, first) = reader else {
+        return FedTo { reader, to: from };
+    };
+    let needed = ((count as usize) + 7) / 8;
+    let mut at = first;
+    let mut i = from;
+    while i < portion.len() {
+        if needed <= (at as usize) + 1 {
+            break;
+        }
+        file_reader::put_byte(cells, at, portion[i]);
+        at += 1;
+        i += 1;
+    }
+    FedTo {
+        reader: Reader::PackedCells(place, count, at),
+        to: i,
     }
 }

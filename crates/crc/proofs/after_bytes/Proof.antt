@@ -1,22 +1,12 @@
 -- `crc::after_bytes` meets its contract: what is left of the bytes takes the word so far to the end. Assumes nothing.
-use Prim.Native.Nat.{ℕ, _+_, _-_, _≤_, _<_}
+use Prim.Native.Nat.{_+_, _-_, _≤_}
 use mathlib.Core.Path.{_≡_, refl, sym, _∙_}
-use mathlib.Core.List.{List}
-use native.Mathlib.Numerals.{add-one}
-use lib.ListN.{length, getD, drop, drop-of-length-le}
-use lib.Seq.{drop-cons}
-use Rattle.crc.specs.CheckWord.{afterByte, checkWordFrom}
+use lib.ListN.{length, drop}
+use Rattle.crc.specs.CheckWord.{checkWordFrom}
+use Rattle.crc.proofs.Bytes.{four-turns}
 use borrow.Author.Needs.{needs}
 use Rattle.crc.proofs.after_bytes.Statement.{statement}
 use Rattle.crc.proofs.after_bytes.Tie as tie
-
-turn : (w : ℕ) (bytes : List ℕ) (i : ℕ) → i < length bytes → checkWordFrom w (drop i bytes) ≡ checkWordFrom (afterByte w (getD bytes i 0)) (drop (i + 1) bytes)
-unfolding checkWordFrom
-turn w bytes i h = rw (add-one, drop-cons bytes i 0)
-
-end : (w : ℕ) (bytes : List ℕ) (i : ℕ) → length bytes ≤ i → checkWordFrom w (drop i bytes) ≡ w
-unfolding checkWordFrom
-end w bytes i h = rw (drop-of-length-le bytes h)
 
 abbrev Inv-loop : tie.InvT-loop
 Inv-loop table word bytes so-far₀ i₀ so-far i = (i ≤ length bytes) × (checkWordFrom so-far (drop i bytes) ≡ checkWordFrom word bytes)
@@ -27,11 +17,32 @@ abbrev μ-loop : tie.MeasureT-loop
 loop-holds : tie.Need-loop-holds Inv-loop μ-loop
 loop-holds c = (search needs, refl)
 
-shared-slice-read-after-byte : tie.Need-shared-slice-read-after-byte Inv-loop μ-loop
-shared-slice-read-after-byte c = search needs
+sub-loop : tie.Need-sub-loop Inv-loop μ-loop
+sub-loop c = search needs
 
-after-byte-requires : tie.Need-after-byte-requires Inv-loop μ-loop
-after-byte-requires c κs = search needs
+shared-slice-read-after-four : tie.Need-shared-slice-read-after-four Inv-loop μ-loop
+shared-slice-read-after-four c = search needs
+
+add-after-four : tie.Need-add-after-four Inv-loop μ-loop
+add-after-four c = search needs
+
+shared-slice-read-after-four-2 : tie.Need-shared-slice-read-after-four-2 Inv-loop μ-loop
+shared-slice-read-after-four-2 c = search needs
+
+add-after-four-2 : tie.Need-add-after-four-2 Inv-loop μ-loop
+add-after-four-2 c = search needs
+
+shared-slice-read-after-four-3 : tie.Need-shared-slice-read-after-four-3 Inv-loop μ-loop
+shared-slice-read-after-four-3 c = search needs
+
+add-after-four-3 : tie.Need-add-after-four-3 Inv-loop μ-loop
+add-after-four-3 c = search needs
+
+shared-slice-read-after-four-4 : tie.Need-shared-slice-read-after-four-4 Inv-loop μ-loop
+shared-slice-read-after-four-4 c = search needs
+
+after-four-requires : tie.Need-after-four-requires Inv-loop μ-loop
+after-four-requires c κs = search needs
 
 add-i : tie.Need-add-i Inv-loop μ-loop
 add-i c = search needs
@@ -41,11 +52,15 @@ loop-less c = search needs
 
 loop-again : tie.Need-loop-again Inv-loop μ-loop
 loop-again c =
-    let l = c .before .before .before in
-    (search needs, rw (c .after-byte .ensures) (sym (turn (l .loop .so-far) (l .before .before .args .bytes .now) (l .loop .i) (c .before .before .loop-test .taken)) ∙ l .loop .inv .1))
+    let l = c .before .before .before .before .before .before in
+    let a = l .before .before .args in
+    (search needs, rw (c .after-four .ensures) (sym (four-turns (l .loop .so-far) (a .bytes .now) (l .loop .i) (search needs)) ∙ l .loop .inv .1))
+
+after-rest-requires : tie.Need-after-rest-requires Inv-loop μ-loop
+after-rest-requires c κs = search needs
 
 returns : tie.Need-returns Inv-loop μ-loop
-returns c = sym (end _ (c .before .before .before .args .bytes .now) (c .before .loop .i) (c .loop-test .left)) ∙ c .before .loop .inv .1
+returns c = c .after-rest .ensures ∙ c .before .before .loop .inv .1
 
 pub after-bytes-spec : {M : Type 1} → statement M
 after-bytes-spec =
@@ -54,9 +69,17 @@ after-bytes-spec =
     Inv-loop
     μ-loop
     loop-holds
-    shared-slice-read-after-byte
-    after-byte-requires
+    sub-loop
+    shared-slice-read-after-four
+    add-after-four
+    shared-slice-read-after-four-2
+    add-after-four-2
+    shared-slice-read-after-four-3
+    add-after-four-3
+    shared-slice-read-after-four-4
+    after-four-requires
     add-i
     loop-less
     loop-again
+    after-rest-requires
     returns)

@@ -26,7 +26,7 @@ returns c =
     ∙ data-single _ _ _ _ (c .before .before .if1 .taken)
 
 find-mark-requires : tie.Need-find-mark-requires
-find-mark-requires c κs = search needs
+find-mark-requires c κs = let s = c .before .before .before in (s .pre .0, s .pre .1, s .pre .2 .1 (c .if1 .left), s .pre .2 .0)
 
 returns-2 : tie.Need-returns-2
 returns-2 c = c .find-mark .ensures ∙ data-double _ _ _ _ (c .before .if1 .left)

@@ -11,16 +11,16 @@ use Rattle.sector_records.proofs.find_mark.Statement.{statement}
 use Rattle.sector_records.proofs.find_mark.Tie as tie
 
 abbrev Inv-loop : tie.InvT-loop
-Inv-loop bytes n low high from to p₀ p = Sought (cell bytes n) low high from to p
+Inv-loop bytes n marks low high from to p₀ p = Sought (cell bytes n) low high from to p
 
 abbrev μ-loop : tie.MeasureT-loop
-μ-loop bytes n low high from to p₀ p = to - p
+μ-loop bytes n marks low high from to p₀ p = to - p
 
-next-mark-requires : tie.Need-next-mark-requires Inv-loop μ-loop
-next-mark-requires c κs = search needs
+least-in-requires : tie.Need-least-in-requires Inv-loop μ-loop
+least-in-requires c κs = search needs
 
 loop-holds : tie.Need-loop-holds Inv-loop μ-loop
-loop-holds c = sought-next _ _ _ _ _ _ _ (c .before .before .pre .0) (c .next-mark .ensures) refl
+loop-holds c = sought-next _ _ _ _ _ _ _ (c .before .before .pre .0) (c .least-in .ensures _ _ (c .before .before .pre .2) (search needs) (search needs)) refl
 
 has-byte-requires : tie.Need-has-byte-requires Inv-loop μ-loop
 has-byte-requires c κs = search needs
@@ -32,18 +32,18 @@ returns c =
     let h = c .before .before .loop-test .taken in
     sym (least-hit _ _ _ h (mark-of _ _ _ _ _ (inv .on h) (c .before .has-byte .ensures) ∙ c .if1 .taken)) ∙ inv .same
 
-add-next-mark : tie.Need-add-next-mark Inv-loop μ-loop
-add-next-mark c = search needs
+add-least-in : tie.Need-add-least-in Inv-loop μ-loop
+add-least-in c = search needs
 
-next-mark-requires-2 : tie.Need-next-mark-requires-2 Inv-loop μ-loop
-next-mark-requires-2 c κs = search needs
+least-in-requires-2 : tie.Need-least-in-requires-2 Inv-loop μ-loop
+least-in-requires-2 c κs = search needs
 
 loop-less : tie.Need-loop-less Inv-loop μ-loop
 loop-less c =
     let l = c .before .before .before .before in
     let a = l .before .before .before .args in
     let h = c .before .before .before .loop-test .taken in
-    omega (arith, h, c .next-mark2 .ensures, least-low (markAt (cell (a .bytes .now) (a .n))) (a .to - (l .loop .p + 1)) (l .loop .p + 1))
+    omega (arith, h, c .least-in2 .ensures (markAt (cell (a .bytes .now) (a .n))) _ (l .before .before .before .pre .2) (search needs) (search needs), least-low (markAt (cell (a .bytes .now) (a .n))) (a .to - (l .loop .p + 1)) (l .loop .p + 1))
 
 loop-again : tie.Need-loop-again Inv-loop μ-loop
 loop-again c =
@@ -52,7 +52,7 @@ loop-again c =
     let inv = l .loop .inv in
     let h = c .before .before .before .loop-test .taken in
     let s = least-step _ _ _ h (mark-of _ _ _ _ _ (inv .on h) (c .before .before .has-byte .ensures) ∙ c .before .if1 .left) in
-    sought-next _ _ _ _ _ (l .loop .p + 1) _ (omega arith) (c .next-mark2 .ensures) (sym s ∙ inv .same)
+    sought-next _ _ _ _ _ (l .loop .p + 1) _ (omega arith) (c .least-in2 .ensures (markAt (cell (a .bytes .now) (a .n))) _ (l .before .before .before .pre .2) (search needs) (search needs)) (sym s ∙ inv .same)
 
 returns-2 : tie.Need-returns-2 Inv-loop μ-loop
 returns-2 c =
@@ -67,12 +67,12 @@ find-mark-spec =
     (tie.spec
     Inv-loop
     μ-loop
-    next-mark-requires
+    least-in-requires
     loop-holds
     has-byte-requires
     returns
-    add-next-mark
-    next-mark-requires-2
+    add-least-in
+    least-in-requires-2
     loop-less
     loop-again
     returns-2)

@@ -30,7 +30,7 @@ find-data-requires : tie.Need-find-data-requires
 find-data-requires c κs = search needs
 
 add-found : tie.Need-add-found
-add-found c = search needs
+add-found c = omega (arith, c .before .before .before .before .before .before .before .before .before .before .pre .1, c .before .before .before .before .before .before .before .before .before .before .pre .0 .near)
 
 place-if-requires : tie.Need-place-if-requires
 place-if-requires c κs = search needs
@@ -53,8 +53,8 @@ end-if-requires c κs =
     let s = c .before .before .before .before .before .before .before .before .before .before .before .before .before .before in
     (s .pre .0 .mark, omega (arith, s .pre .1, c .before .before .before .before .before .find-data .ensures .1), c .before .length-if .ensures .1)
 
-cast-t19 : tie.Need-cast-t19
-cast-t19 c = omega (arith, c .before .before .before .before .before .before .before .before .before .before .before .before .before .before .before .pre .1)
+cast-t20 : tie.Need-cast-t20
+cast-t20 c = omega (arith, c .before .before .before .before .before .before .before .before .before .before .before .before .before .before .before .pre .1)
 
 returns : tie.Need-returns
 returns c =
@@ -80,5 +80,5 @@ sector-at-spec =
     length-if-requires
     data-good-requires
     end-if-requires
-    cast-t19
+    cast-t20
     returns)

@@ -5,7 +5,7 @@ use mathlib.Core.List.{List}
 use mathlib.Core.Logic.{inl}
 use native.Mathlib.Omega.{arith}
 use borrow.Author.Needs.{needs}
-use lib.ListN.{length}
+use lib.ListN.{length, length-replicate}
 use Rattle.flux_timings.specs.Timings.{firstOut}
 use Rattle.refusals.specs.RefusedCalls.Answer.{gives}
 use Rattle.flux_timings.proofs.FirstOut.{out-within}
@@ -34,13 +34,17 @@ TS f = f .before .before .before .before .args .timings .now
 all-in : (c : tie.Else3) → firstOut (TS (c .before)) ≡ length (TS (c .before))
 all-in c = omega (arith, out-within (TS (c .before)), c .before .first-out .ensures, c .if3 .left)
 
-count-cells-requires : tie.Need-count-cells-requires
-count-cells-requires c κs = (c .before .before .if2 .left, all-in c, inl refl)
+slice-aggregate-fill : tie.Need-slice-aggregate-fill
+slice-aggregate-fill c = search needs
+
+fill-requires : tie.Need-fill-requires
+fill-requires c κs = let e = c .before in (e .before .before .if2 .left, all-in e, inl refl, length-replicate {A = ℕ} 16384 0)
 
 returns-4 : tie.Need-returns-4
 returns-4 c =
-    let f = c .before .before in
-    ap gives (c .count-cells .ensures .1) ∙ timings-accepted _ _ (f .before .before .if1 .left) (f .before .if2 .left) (all-in (c .before))
+    let e = c .before .before .before in
+    let f = e .before in
+    ap gives (c .before .fill .ensures .1 .0) ∙ timings-accepted _ _ (f .before .before .if1 .left) (f .before .if2 .left) (all-in e)
 
 pub count-border-pulses-spec : {M : Type 1} → statement M
 count-border-pulses-spec =
@@ -50,5 +54,6 @@ count-border-pulses-spec =
     returns-2
     first-out-requires
     returns-3
-    count-cells-requires
+    slice-aggregate-fill
+    fill-requires
     returns-4)

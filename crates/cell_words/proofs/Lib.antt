@@ -1,0 +1,4 @@
+pub mod Words
+pub mod Ranges
+pub mod Loading
+pub mod Tests

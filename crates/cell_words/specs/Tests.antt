@@ -1,0 +1,40 @@
+-- The tests whose maps are made: f are the cells of a track, s and t are any tests. Assumes nothing.
+use Prim.Native.Nat.{ℕ, _+_}
+use mathlib.Core.Bool.{Bool, not, _&&_, _||_}
+use lib.Dec.{eqb}
+
+-- a one at q
+unfoldable pub oneAt : (ℕ → ℕ) → ℕ → Bool
+oneAt f q = eqb (f q) 1
+
+-- t fails at q
+unfoldable pub notAt : (ℕ → Bool) → ℕ → Bool
+notAt t q = not (t q)
+
+-- t passes at q and k places on
+unfoldable pub bothAt : ℕ → (ℕ → Bool) → ℕ → Bool
+bothAt k t q = t q && t (q + k)
+
+-- t passes at q and at neither of the next two places: of ones, the cells 100
+unfoldable pub aloneAt : (ℕ → Bool) → ℕ → Bool
+aloneAt t q = t q && not (t (q + 1) || t (q + 2))
+
+-- with ones for s and the places of 100 for t, the cells 1000100
+unfoldable pub sevenFrom : (ℕ → Bool) → (ℕ → Bool) → ℕ → Bool
+sevenFrom s t q = t q && (not (s (q + 3)) && t (q + 4))
+
+-- with ones for s and the places of 1000100 for t, the cells 0 1000100 1000100 1, which are 4489
+unfoldable pub syncFrom : (ℕ → Bool) → (ℕ → Bool) → ℕ → Bool
+syncFrom s t q = (t (q + 1) && t (q + 8)) && (s (q + 15) && not (s q))
+
+-- with ones for s and the places of 100 for t, a one whose next one is 1 cell on, or more than 4
+unfoldable pub gapFrom : (ℕ → Bool) → (ℕ → Bool) → ℕ → Bool
+gapFrom s t q = (s q && s (q + 1)) || (t q && not (s (q + 3) || s (q + 4)))
+
+-- t passes at q and 16 and 32 places on
+unfoldable pub thriceAt : (ℕ → Bool) → ℕ → Bool
+thriceAt t q = t q && (t (q + 16) && t (q + 32))
+
+-- 4489 as these tests find it
+unfoldable pub syncTest : (ℕ → ℕ) → ℕ → Bool
+syncTest f = syncFrom (oneAt f) (sevenFrom (oneAt f) (aloneAt (oneAt f)))
