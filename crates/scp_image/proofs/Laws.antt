@@ -1,8 +1,8 @@
 -- What follows of the entries that are given and of the sum. Assumes nothing.
 use Prim.Native.Nat.{ℕ, _+_, _-_, _*_, _<_, _≤_}
-use mathlib.Core.Path.{_≡_, sym, ap, _∙_}
+use mathlib.Core.Path.{_≡_, refl, sym, ap, _∙_}
 use mathlib.Core.Bool.{Bool, true, false, cond, _&&_, _||_}
-use mathlib.Core.List.{List, [], _∷_, _++_}
+use mathlib.Core.List.{List, _++_}
 use mathlib.Core.Logic.{inl, inr}
 use native.Mathlib.Nat.{le-trans, lt-of-not-le}
 use native.Mathlib.Decide.{decLe}
@@ -15,7 +15,8 @@ use Rattle.refusals.specs.RefusedCalls.Answer.{gives}
 use Rattle.scp_image.specs.Header.{revolutionsOf, firstTrack, lastTrack, flagsOf, headsOf, hasFooter}
 use Rattle.scp_image.specs.Entries.{startOf, isThere, blocksEnd, limitOf, endOf, otherSide, misplaced, badEntry, firstBad}
 use Rattle.scp_image.specs.CheckSum.{total, sumAfter}
-use Rattle.scp_image.specs.Laws.{Within, Apart, WellPlaced, allBytes, sumThrough}
+use Rattle.scp_image.specs.Laws.{Within, Apart, WellPlaced, Carried, AllSummed}
+use Rattle.scp_image.specs.Laws.Carried.{none, more}
 use Rattle.scp_image.proofs.Entries.{end-in-limit, ends-before}
 use Rattle.scp_image.proofs.Sums.{total-append}
 
@@ -58,11 +59,15 @@ module _ (image : List ℕ) (n : ℕ) (none : 168 ≤ firstBad image (limitOf im
   pub well-placed : (tracks : ℕ) → WellPlaced image n (gives tracks)
   well-placed tracks = (within, λ e f h k d there also. apart e f h k d)
 
--- 19.15: a sum carried through portions is that of all their bytes, however they are cut
-pub sum-of-two : (sum : ℕ) (first second : List ℕ) → sumAfter (sumAfter sum first) second ≡ sumAfter sum (first ++ second)
+-- two portions, one after the other
+sum-of-two : (sum : ℕ) (first second : List ℕ) → sumAfter (sumAfter sum first) second ≡ sumAfter sum (first ++ second)
 sum-of-two sum first second = let e = total-append first second in omega arith
 
-pub sum-of-portions : (sum : ℕ) (cut : List (List ℕ)) → sum < 4294967296 → sumThrough sum cut ≡ sumAfter sum (allBytes cut)
+sum-of-all : {sum : ℕ} {bytes : List ℕ} → Carried sum bytes → sum ≡ sumAfter 0 bytes
 unfolding total
-sum-of-portions sum [] h = omega arith
-sum-of-portions sum (portion ∷ cut) h = sum-of-portions (sumAfter sum portion) cut (omega arith) ∙ sum-of-two sum portion (allBytes cut)
+sum-of-all none = refl
+sum-of-all (more {sum} {bytes} portion before) = ap (λ (s : ℕ). sumAfter s portion) (sum-of-all before) ∙ sum-of-two 0 bytes portion
+
+-- 19.15: however the bytes are cut, the sum is that of all of them
+pub all-portions : {after : ℕ} (sum : ℕ) (portion : List ℕ) → after ≡ sumAfter sum portion → AllSummed sum portion after
+all-portions sum portion e before calls = e ∙ ap (λ (s : ℕ). sumAfter s portion) (sum-of-all calls) ∙ sum-of-two 0 before portion

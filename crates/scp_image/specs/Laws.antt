@@ -4,7 +4,7 @@ use Prim.Native.Nat.{ℕ, _+_, _*_, _≤_, _<_}
 use mathlib.Core.Path.{_≡_}
 use mathlib.Core.Bool.{true}
 use mathlib.Core.Logic.{_⊎_}
-use mathlib.Core.List.{List, [], _∷_, _++_}
+use mathlib.Core.List.{List, [], _++_}
 use Rattle.refusals.specs.RefusedCalls.{Answer}
 use Rattle.refusals.specs.RefusedCalls.Answer.{gives, refused}
 use Rattle.scp_image.specs.Header.{revolutionsOf}
@@ -28,11 +28,11 @@ WellPlaced image n (gives tracks) =
     × ((e f : ℕ) → e < 168 → f < 168 → (e ≡ f → ⊥) → isThere image e ≡ true → isThere image f ≡ true → Apart image n e f)
 WellPlaced image n (refused number value) = Unit
 
--- 19.15: the bytes of all portions, and their sum, which is carried from one to the next
-abbrev pub allBytes : List (List ℕ) → List ℕ
-allBytes [] = []
-allBytes (portion ∷ cut) = portion ++ allBytes cut
+-- 19.15: sums that calls have left, one after another from 0 on, and all bytes that were handed over
+pub data Carried : ℕ → List ℕ → Type 0 where
+  none : Carried 0 []
+  more : {sum : ℕ} {bytes : List ℕ} (portion : List ℕ) → Carried sum bytes → Carried (sumAfter sum portion) (bytes ++ portion)
 
-abbrev pub sumThrough : ℕ → List (List ℕ) → ℕ
-sumThrough sum [] = sum
-sumThrough sum (portion ∷ cut) = sumThrough (sumAfter sum portion) cut
+-- 19.15: after any such calls, the sum that a portion more leaves is that of all bytes, those before it and its own
+abbrev pub AllSummed : (sum : ℕ) → List ℕ → ℕ → Type 0
+AllSummed sum portion after = (before : List ℕ) → Carried sum before → after ≡ sumAfter 0 (before ++ portion)

@@ -14,7 +14,7 @@ ghost use Rattle.refusals.specs.RefusedCalls.{countedAnswer};
 ghost use Rattle.scp_image.specs.Header.{otherLetters, notAnImage, mayChange, faultAmong, faultOf, headerNumbers, headerAnswer, headerAfter};
 ghost use Rattle.scp_image.specs.Entries.{startOf, isThere, blocksEnd, nearer, endOf, otherSide, misplaced, badEntry, firstBad, placeNumber, entriesAnswer, entriesAfter};
 ghost use Rattle.scp_image.specs.CheckSum.{sumAfter, checkAnswer};
-ghost use Rattle.scp_image.specs.Laws.{WellPlaced};
+ghost use Rattle.scp_image.specs.Laws.{WellPlaced, AllSummed};
 
 // The ten numbers of the header, to the front of a list (rule 9.71).
 pub fn image_header(first: &[u8], image_length: usize, numbers: &mut [u32]) -> Counted
@@ -57,7 +57,8 @@ pub fn image_entries(first: &[u8], image_length: usize, places: &mut [u32]) -> C
 
 // The sum of bytes after a portion more, from the sum that those before it left (rule 9.73).
 pub fn image_sum(sum: u32, portion: &[u8]) -> u32
-    ensures { λ r. ⌜ r ≡ sumAfter sum (now (portion .entry)) ⌝ }
+    ensures sum { λ r. ⌜ r ≡ sumAfter sum (now (portion .entry)) ⌝ }
+    ensures all { λ r. ⌜ AllSummed sum (now (portion .entry)) r ⌝ }
 {
     let mut all = sum;
     let mut i: usize = 0;

@@ -4,7 +4,7 @@ ghost use mathlib.Core.Path.{_≡_};
 ghost use Rattle.scp_image.specs.Header.{headerAnswer, headerAfter};
 ghost use Rattle.scp_image.specs.Entries.{entriesAnswer, entriesAfter};
 ghost use Rattle.scp_image.specs.CheckSum.{sumAfter, checkAnswer};
-ghost use Rattle.scp_image.specs.Laws.{WellPlaced};
+ghost use Rattle.scp_image.specs.Laws.{WellPlaced, AllSummed};
 ghost use Rattle.telling.specs.Numbers.{numberIn, valueIn};
 
 // The ten numbers of an image's header, to the front of `numbers`; `value` is 10. `first` has the first 688 bytes of the image or more, and the
@@ -43,7 +43,8 @@ pub extern "C" fn thikbromu_image_entries(
 // The sum of an image's bytes after a portion more, from the sum that those before it left; it begins with 0, at byte 16.
 #[no_mangle]
 pub extern "C" fn thikbromu_image_sum(sum: u32, portion: &[u8]) -> u32
-    ensures { λ r. ⌜ r ≡ sumAfter sum (now (portion .entry)) ⌝ }
+    ensures sum { λ r. ⌜ r ≡ sumAfter sum (now (portion .entry)) ⌝ }
+    ensures all { λ r. ⌜ AllSummed sum (now (portion .entry)) r ⌝ }
 {
     scp_image::image_sum(sum, portion)
 }

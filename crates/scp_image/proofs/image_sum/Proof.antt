@@ -2,6 +2,7 @@
 use Prim.Native.Nat.{_-_}
 use native.Mathlib.Omega.{arith}
 use lib.ListN.{length}
+use Rattle.scp_image.proofs.Laws.{all-portions}
 use Rattle.scp_image.proofs.Sums.{Summed, none-summed, one-summed, all-summed}
 use borrow.Author.Needs.{needs}
 use Rattle.scp_image.proofs.image_sum.Statement.{statement}
@@ -35,7 +36,9 @@ loop-again : tie.Need-loop-again Inv-loop μ-loop
 loop-again c = one-summed (c .before .before .before .before .loop .inv) (c .before .before .before .loop-test .taken) (c .before .wide .ensures .0) (c .wrapping-add-u32 .ensures)
 
 returns : tie.Need-returns Inv-loop μ-loop
-returns c = all-summed (c .before .loop .inv) (omega arith)
+returns c =
+    let e = all-summed (c .before .loop .inv) (omega arith) in
+    (e, all-portions _ _ e)
 
 pub image-sum-spec : {M : Type 1} → statement M
 image-sum-spec =
