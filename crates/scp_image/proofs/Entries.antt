@@ -34,6 +34,16 @@ module _ (image : List ℕ) (limit e : ℕ) where
       let is : k ≡ 168 = omega arith in
       so-far .1 ∙ ap (endAmong image limit e) is
 
+-- the two cases of a start beside another
+module _ (e f start other end : ℕ) where
+  pub cut-short : (not (eqb f e) && (not (ltb other start) && ltb other end)) ≡ true → other ≡ nearer e f start other end
+  unfolding nearer
+  cut-short t = rw t refl
+
+  pub not-cut : (not (eqb f e) && (not (ltb other start) && ltb other end)) ≡ false → end ≡ nearer e f start other end
+  unfolding nearer
+  not-cut t = rw t refl
+
 -- a start cuts the end short, and never puts it off
 pub nearer-le : (e f start other end : ℕ) → nearer e f start other end ≤ end
 unfolding nearer
