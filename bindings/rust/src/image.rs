@@ -8,11 +8,10 @@ use crate::refusal::Refusal;
 /// Where the check sum of an image begins.
 const SUMMED_FROM: usize = 16;
 
-/// The header of a SuperCard Pro image (rules 19.1 to 19.4). Only what its rules name is judged: version, disk type and the other flags may be
-/// anything.
+/// The header of a SuperCard Pro image (rules 19.1 to 19.4), which is judged. Version, disk type and the flags besides bit 6 may be anything.
 #[derive(Clone, Copy, Debug, PartialEq, Eq)]
 pub struct ImageHeader {
-    /// Byte 3: the version of the program that wrote the image, a hexadecimal digit before the point and one behind it. A note, no rule.
+    /// Byte 3: the version.
     pub version: u8,
     /// Byte 4: the maker's number for the kind of disk.
     pub disk_type: u8,
