@@ -2,8 +2,10 @@
 
 use thikbromu::{compare_reads, decode_to_vec, Finding, Refusal, Track};
 
-/// The cells of the two check bytes behind the data.
-const CHECK_CELLS: usize = 32;
+/// The cells of a data mark, behind which the data begins.
+const MARK_CELLS: usize = 64;
+/// The cells of two bytes.
+const TWO_BYTES: usize = 32;
 
 /// A sector whose read in another revolution is not the same.
 #[derive(Clone, Copy, Debug)]
@@ -26,11 +28,12 @@ pub struct Read {
 /// The reads of all sectors of a track that have data.
 pub fn reads(track: &Track) -> Result<Vec<Read>, Refusal> {
     let mut reads = Vec::new();
-    for (index, sector) in track.sectors()?.enumerate() {
+    for sector in track.sectors()? {
         if sector.has_data() {
-            let mut bytes = track.read_out_to_vec(index)?.bytes;
-            let check_cells = track.word(sector.end as usize - CHECK_CELLS, CHECK_CELLS) as u32;
-            bytes.extend(decode_to_vec(&check_cells.to_be_bytes())?);
+            // The data bytes and the two check bytes, two at a time. Reading out a sector would look for all sectors again.
+            let places = (sector.data_place as usize + MARK_CELLS..sector.end as usize).step_by(TWO_BYTES);
+            let cells: Vec<u8> = places.flat_map(|place| (track.word(place, TWO_BYTES) as u32).to_be_bytes()).collect();
+            let bytes = decode_to_vec(&cells)?;
             let id = [sector.track, sector.side, sector.number, sector.size_code];
             reads.push(Read { id, data_mark: sector.data_mark, bytes });
         }

@@ -109,6 +109,31 @@ impl Disk {
     }
 }
 
+/// The image samples/small.scp: two tracks of a disk, two revolutions of each. Track 0 is plain on side 0, and has a weak sector 4 on track 1, whose
+/// sector 5 is there twice; side 1 was never formatted. The data bytes have few flux transitions, which keeps the image small.
+pub fn sample() -> Image {
+    let mut random = Random::new(19);
+    let mut image = Image::new(2);
+    let plain: Vec<SectorPlan> = (1..=9).map(|number| SectorPlan::standard(0, 0, number, 0x55)).collect();
+    let protected = |random: &mut Random| {
+        let mut sectors: Vec<SectorPlan> = (1..=9).map(|number| SectorPlan::standard(1, 0, number, 0x55)).collect();
+        sectors[3].data_check_error = 1;
+        sectors[3].data[256..].iter_mut().for_each(|byte| *byte = random.byte());
+        sectors.push(sectors[4].clone());
+        track_of(&sectors, 100_000)
+    };
+    let tracks = [
+        (0, vec![track_of(&plain, 100_000); 2]),
+        (1, vec![noise(&mut random), noise(&mut random)]),
+        (2, vec![protected(&mut random), protected(&mut random)]),
+        (3, vec![noise(&mut random), noise(&mut random)]),
+    ];
+    for (entry, rounds) in tracks {
+        image.put(entry, &revolutions(&mut random, Fault::USUAL, &rounds));
+    }
+    image
+}
+
 /// The nine sectors of plain bytes.
 fn nine(track: u8, side: u8, bytes: &[u8]) -> Vec<SectorPlan> {
     let sectors = bytes.chunks(512).zip(1..);

@@ -3,7 +3,7 @@
 use crate::command::Command;
 use crate::expected;
 use crate::Report;
-use image_writer::disks::{Disk, Surface};
+use image_writer::disks::{Disk, Surface, TRACK_BYTES};
 use image_writer::image::{set_sum, HEADER_LENGTH, MAY_CHANGE};
 use test_inputs::random::Random;
 
@@ -23,12 +23,19 @@ fn case(command: &Command, name: &str, bytes: &[u8], content: &[u8], report: &mu
     let lines: Vec<&str> = ran.err.lines().filter(|line| !line.starts_with("damaged.st is not written: ")).collect();
     report.holds(&format!("the refusals, {name}: {}", ran.err), expected::begins(&lines.join("\n"), &expected.refused));
     let written = command.get("damaged.st");
-    let whole = written.as_deref() == Some(content) && ran.status == Some(0);
-    // Of an image whose last track is another, a plain image of fewer tracks can come.
-    let shorter = written.as_deref().is_some_and(|part| content.starts_with(part) && !part.is_empty() && part.len() % 4_608 == 0);
-    let refused = written.is_none() && ran.status == Some(1);
-    report.holds(&format!("a whole plain image or none, {name}: status {:?}, {}", ran.status, ran.err), whole || shorter || refused);
+    let whole = match (&written, ran.status) {
+        (Some(written), Some(0)) => of_whole_tracks(written, content),
+        (None, Some(1)) => true,
+        _ => false,
+    };
+    report.holds(&format!("a whole plain image or none, {name}: status {:?}, {}", ran.status, ran.err), whole);
     report.holds(&format!("nothing is left behind, {name}"), command.left_behind().is_empty());
+}
+
+/// Whether a plain image has whole tracks of the content, in their order. It has fewer where the header has another last track or another side.
+fn of_whole_tracks(written: &[u8], content: &[u8]) -> bool {
+    let mut tracks = content.chunks(TRACK_BYTES);
+    !written.is_empty() && written.chunks(TRACK_BYTES).all(|part| tracks.any(|track| track == part))
 }
 
 pub fn run(command: &Command, all: bool, report: &mut Report) {
