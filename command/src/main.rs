@@ -2,7 +2,7 @@
 //! track file or of a track block; and what findings and refusals mean. docs/COMMAND.md tells how it is used.
 //!
 //! Whatever decides anything of a disk is the library's: here are files, threads, the terminal and exit statuses.
-#![allow(unsafe_code)]
+#![forbid(unsafe_code)]
 
 mod arguments;
 mod disk;
@@ -19,7 +19,6 @@ mod plain_image;
 mod progress;
 mod reading;
 mod refusals;
-mod stand_in;
 mod svg;
 mod track_picture;
 mod weak;

@@ -122,10 +122,10 @@ pub fn sum(image: &[u8]) -> u32 {
     (all.sum::<u64>() % (1 << 32)) as u32
 }
 
-/// Whether the check sum is right, or need not be. Refusals in order: 26, 27, 29.
-pub fn judge_sum(image: &[u8]) -> Result<(), Refusal> {
-    let header = header(image, image.len() as u64)?;
-    let sum = sum(image);
+/// Whether the sum of an image's bytes is that of its header, or need not be. Refusals in
+/// order: 26, 27, 29.
+pub fn judge_sum(first: &[u8], image_length: u64, sum: u32) -> Result<(), Refusal> {
+    let header = header(first, image_length)?;
     if header.flags & MAY_CHANGE == 0 && sum != header.check_sum {
         return Err(Refusal::other_check_sum(sum));
     }
@@ -145,7 +145,7 @@ pub struct ImageTrack {
 pub fn tracks(image: &[u8], revolution: Option<u32>) -> Result<Vec<ImageTrack>, Refusal> {
     let header = header(image, image.len() as u64)?;
     let blocks = blocks(image, image.len() as u64)?;
-    judge_sum(image)?;
+    judge_sum(image, image.len() as u64, sum(image))?;
     let revolutions = u32::from(header.revolutions);
     let revolution = revolution.unwrap_or(1.min(revolutions - 1));
     let mut tracks = Vec::new();
