@@ -55,7 +55,7 @@ fn sound(random: &mut Random) -> Front {
 /// The same with something changed.
 fn changed(random: &mut Random, mut front: Front) -> Front {
     match random.below(9) {
-        0 => front.image_length = random.below(front.image_length as u64 + 100) as usize,
+        0 => front.image_length = random.below((front.image_length as u64).saturating_add(100)) as usize,
         1 => front.image_length = [0, 687, 688, 689, u32::MAX as usize, 1 << 32, usize::MAX][random.below(7) as usize],
         2 => front.first.truncate(random.below(700) as usize),
         3 => front.first.extend(vec![7; random.below(20) as usize]),

@@ -5,9 +5,12 @@
 //! track beside each other. What the description leaves open is read so:
 //! - A resolution other than 25 ns is refused, not scaled.
 //! - The bytes of the header are judged in the order of their places.
-//! - An entry that is 0 has no block. Any other stands behind the entries, and at no place
-//!   where another block stands.
-//! - A block ends before the next one, or at the end of the image.
+//! - An entry that is 0 has no block. Any other is one of the tracks and sides that the
+//!   header names, and its block stands behind the entries, and at no place where another
+//!   one stands.
+//! - Entries belong to their track and side also where the image has one side alone.
+//! - A block ends before the next one, before the footer, or at the end of the image.
+//! - Places have 32 bits, so that no image is longer than these can say.
 
 use crate::disk_page;
 use crate::findings::{self, Finding};
@@ -23,6 +26,10 @@ pub const ENTRIES: usize = 168;
 const MAY_CHANGE: u8 = 0x10;
 /// The flag of an image whose entries stand elsewhere.
 const EXTENDED: u8 = 0x40;
+/// The flag of an image with a footer: six places of texts, two times of eight bytes, four
+/// versions of a byte and four letters.
+const FOOTER: u8 = 0x20;
+const FOOTER_LENGTH: u64 = 6 * 4 + 2 * 8 + 4 + 4;
 
 /// What the header says.
 #[derive(Clone, Copy, Debug, PartialEq, Eq)]
@@ -51,8 +58,9 @@ fn number_at(bytes: &[u8], place: usize) -> u32 {
 /// The header of an image that has so many bytes, of its first ones. Refusals in order: 26,
 /// 27.
 pub fn header(first: &[u8], image_length: u64) -> Result<Header, Refusal> {
-    let long_enough = first.len() >= HEADER_LENGTH && image_length >= HEADER_LENGTH as u64;
-    if !long_enough || !first.starts_with(b"SCP") {
+    let lengths = HEADER_LENGTH as u64..=u64::from(u32::MAX);
+    let there = first.len() >= HEADER_LENGTH && lengths.contains(&image_length);
+    if !there || !first.starts_with(b"SCP") {
         return Err(Refusal::not_an_image());
     }
     let header = Header {
@@ -90,6 +98,12 @@ pub fn blocks(first: &[u8], image_length: u64) -> Result<Vec<Option<Range<u64>>>
         .map(|entry| u64::from(number_at(first, 16 + 4 * entry)))
         .collect();
     let table = 4 + 12 * u64::from(header.revolutions);
+    let blocks_end = if header.flags & FOOTER != 0 {
+        image_length.saturating_sub(FOOTER_LENGTH)
+    } else {
+        image_length
+    };
+    let named = usize::from(header.first_track)..=usize::from(header.last_track);
     let mut blocks = Vec::new();
     for (entry, &start) in starts.iter().enumerate() {
         if start == 0 {
@@ -100,7 +114,7 @@ pub fn blocks(first: &[u8], image_length: u64) -> Result<Vec<Option<Range<u64>>>
             .iter()
             .enumerate()
             .filter(|(other, _)| *other != entry);
-        let mut end = image_length;
+        let mut end = blocks_end;
         let mut alone = true;
         for (_, &other) in others {
             alone &= other != start;
@@ -108,7 +122,13 @@ pub fn blocks(first: &[u8], image_length: u64) -> Result<Vec<Option<Range<u64>>>
                 end = end.min(other);
             }
         }
-        if start < HEADER_LENGTH as u64 || start + table > end || !alone {
+        let side_is_there = match header.heads {
+            1 => entry % 2 == 0,
+            2 => entry % 2 == 1,
+            _ => true,
+        };
+        let is_named = named.contains(&entry) && side_is_there;
+        if !is_named || start < HEADER_LENGTH as u64 || start + table > end || !alone {
             return Err(Refusal::no_place_for_a_block(entry));
         }
         blocks.push(Some(start..end));
