@@ -10,8 +10,8 @@ use std::path::Path;
 use thikbromu::{disk_page, Refusal};
 
 /// An image with all that was read of it.
-pub struct DiskReading {
-    pub file: ImageFile,
+pub struct DiskReading<'a> {
+    pub file: ImageFile<'a>,
     pub revolution: u32,
     pub tracks: Vec<TrackReading>,
     /// The page, which the library makes.
@@ -24,14 +24,16 @@ pub fn list(wish: &DiskWish, output: &mut Output) -> Result<Status, Ended> {
     if wish.form == Form::Csv {
         output.write(formats::CSV_HEAD)?;
     }
+    // One buffer for all images, so that memory does not grow with their number.
+    let mut buffer = Vec::new();
     for path in &wish.images {
-        status = status.max(list_one(wish, path, output)?);
+        status = status.max(list_one(wish, path, &mut buffer, output)?);
         output.flush()?;
     }
     Ok(status)
 }
 
-fn list_one(wish: &DiskWish, path: &Path, output: &mut Output) -> Result<Status, Ended> {
+fn list_one(wish: &DiskWish, path: &Path, buffer: &mut Vec<u8>, output: &mut Output) -> Result<Status, Ended> {
     let name = path.display().to_string();
     let several = wish.images.len() > 1;
     // What is said of an image has its name where there are others.
@@ -39,7 +41,7 @@ fn list_one(wish: &DiskWish, path: &Path, output: &mut Output) -> Result<Status,
     if several && wish.form == Form::Page {
         output.write(&format!("{name}:\n"))?;
     }
-    let disk = match image_file::read(path) {
+    let disk = match image_file::read(path, buffer) {
         Ok(file) => file.and_then(|file| read(wish, &name, file)),
         Err(error) => {
             if wish.form == Form::Json {
@@ -82,7 +84,7 @@ fn list_one(wish: &DiskWish, path: &Path, output: &mut Output) -> Result<Status,
 }
 
 /// Reads the tracks and makes the page.
-fn read(wish: &DiskWish, name: &str, file: ImageFile) -> Result<DiskReading, Refusal> {
+fn read<'a>(wish: &DiskWish, name: &str, file: ImageFile<'a>) -> Result<DiskReading<'a>, Refusal> {
     let revolutions = u32::from(file.image.header().revolutions);
     let revolution = wish.revolution.unwrap_or(1.min(revolutions - 1));
     // Every block would be refused so, and one revolution has no other to be compared with.

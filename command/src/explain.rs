@@ -17,14 +17,15 @@ pub fn explained(term: &str) -> Result<String, Ended> {
     let found = match lower.strip_prefix("refused").map(str::trim) {
         Some(number) => REFUSALS.iter().find(|row| row.0.to_string() == number).map(refusal),
         None => {
-            let is_it = |about: &&About| {
-                about.kind.name().to_lowercase() == lower || about.kind.number().to_string() == lower
-            };
+            let is_it =
+                |about: &&About| about.kind.name().to_lowercase() == lower || about.kind.number().to_string() == lower;
             KINDS.iter().find(is_it).map(kind)
         }
     };
     found.ok_or_else(|| {
-        Ended::WrongUse(format!("{term} is no finding and no refusal: thikbromu explain lists them, as NOS, 3 or 'refused 7'"))
+        Ended::WrongUse(format!(
+            "{term} is no finding and no refusal: thikbromu explain lists them, as NOS, 3 or 'refused 7'"
+        ))
     })
 }
 

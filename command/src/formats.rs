@@ -13,14 +13,15 @@ pub fn weak_lines(disk: &DiskReading) -> String {
     for (reading, read) in read_tracks(disk) {
         for Weak { sector, other_revolution, finding } in &read.weak {
             let (track, side, revolution) = (reading.track, reading.side, disk.revolution);
-            lines += &format!("T{track:02} H{side} {finding} sector {sector} revolutions {revolution} {other_revolution}\n");
+            lines +=
+                &format!("T{track:02} H{side} {finding} sector {sector} revolutions {revolution} {other_revolution}\n");
         }
     }
     lines
 }
 
 /// The tracks that were not refused.
-fn read_tracks(disk: &DiskReading) -> impl Iterator<Item = (&TrackReading, &ReadTrack)> {
+fn read_tracks<'a>(disk: &'a DiskReading) -> impl Iterator<Item = (&'a TrackReading, &'a ReadTrack)> {
     disk.tracks.iter().filter_map(|reading| Some((reading, reading.read.as_ref().ok()?)))
 }
 

@@ -15,7 +15,8 @@ pub fn histogram_picture(name: &str, counts: &[u32; HISTOGRAM_COUNTS]) -> String
     let most = counts.iter().copied().max().unwrap_or(0);
     let timings: u64 = counts.iter().map(|&count| u64::from(count)).sum();
     let height = |count: u32| TALLEST * f64::from(count).ln_1p() / f64::from(most.max(1)).ln_1p();
-    let words = format!("{name}: {} timings, at most {} in a bar of 0.1 µs", grouped(timings as usize), grouped(most as usize));
+    let words =
+        format!("{name}: {} timings, at most {} in a bar of 0.1 µs", grouped(timings as usize), grouped(most as usize));
     let mut parts = text(LEFT, 24.0, "start", &words);
     for (index, &count) in (0u32..).zip(counts) {
         let x = LEFT + BAR * f64::from(index);
@@ -24,7 +25,11 @@ pub fn histogram_picture(name: &str, counts: &[u32; HISTOGRAM_COUNTS]) -> String
         }
         if count > 0 {
             let from = f64::from(index) / 10.0;
-            let range = if index == 255 { format!("{from:.1} µs and more") } else { format!("{from:.1} to {:.1} µs", from + 0.1) };
+            let range = if index == 255 {
+                format!("{from:.1} µs and more")
+            } else {
+                format!("{from:.1} to {:.1} µs", from + 0.1)
+            };
             let title = format!("{range}: {}", grouped(count as usize));
             parts += &bar(x, BOTTOM - height(count), BAR, height(count), "fill=\"#3d85c6\"", &title);
         }

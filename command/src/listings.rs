@@ -21,7 +21,11 @@ fn open(file: &OsStr) -> io::Result<Box<dyn Read>> {
 
 /// The name of an input as it is told.
 fn name_of(file: &OsStr) -> String {
-    if file == "-" { "standard input".to_string() } else { file.to_string_lossy().into_owned() }
+    if file == "-" {
+        "standard input".to_string()
+    } else {
+        file.to_string_lossy().into_owned()
+    }
 }
 
 pub fn track(file: &OsStr, output: &mut Output) -> Result<Status, Ended> {

@@ -17,9 +17,12 @@ impl Progress {
 
     /// One track more is read.
     pub fn step(&self) {
-        let done = self.done.fetch_add(1, Ordering::Relaxed) + 1;
         if self.shown {
-            let _ = write!(io::stderr(), "\r\x1b[K{}: {done} of {} tracks", self.name, self.tracks);
+            // Under the lock, so that the numbers come in their order.
+            let mut terminal = io::stderr().lock();
+            let done = self.done.fetch_add(1, Ordering::Relaxed) + 1;
+            let line = format!("\r\x1b[K{}: {done} of {} tracks", self.name, self.tracks);
+            let _ = terminal.write_all(line.as_bytes());
         }
     }
 

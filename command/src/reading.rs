@@ -7,7 +7,9 @@ use crate::weak::{self, Weak};
 use std::sync::atomic::{AtomicUsize, Ordering};
 use std::sync::Mutex;
 use std::thread;
-use thikbromu::{histogram, Cells, Finding, ImageBlock, Refusal, Sector, Track, TrackBlock, HISTOGRAM_COUNTS, SECTOR_IMAGE_BYTES};
+use thikbromu::{
+    histogram, Cells, Finding, ImageBlock, Refusal, Sector, Track, TrackBlock, HISTOGRAM_COUNTS, SECTOR_IMAGE_BYTES,
+};
 
 /// A track and side of an image, and what came of it.
 pub struct TrackReading {

@@ -30,7 +30,8 @@ pub fn track_picture(TrackReading { track, side, read }: &TrackReading) -> Strin
     let parts = match read {
         Ok(read) => ring(&name, read),
         Err(refusal) => {
-            text(MIDDLE, MIDDLE - 10.0, "middle", &name) + &text(MIDDLE, MIDDLE + 10.0, "middle", &refusals::in_words(*refusal))
+            text(MIDDLE, MIDDLE - 10.0, "middle", &name)
+                + &text(MIDDLE, MIDDLE + 10.0, "middle", &refusals::in_words(*refusal))
         }
     };
     picture(WIDTH, HEIGHT, &name, &parts)
@@ -115,7 +116,10 @@ fn sector_parts(sector: &Sector, cells: usize) -> String {
 fn marker(finding: &Finding, cells: usize) -> String {
     let (x, y) = point(FINDINGS, f64::from(finding.place), cells);
     let colour = LEVEL_COLOURS[usize::from(finding.level())];
-    format!("<circle cx=\"{x:.2}\" cy=\"{y:.2}\" r=\"5\" fill=\"{colour}\"><title>{}</title></circle>\n", escaped(&finding.to_string()))
+    format!(
+        "<circle cx=\"{x:.2}\" cy=\"{y:.2}\" r=\"5\" fill=\"{colour}\"><title>{}</title></circle>\n",
+        escaped(&finding.to_string())
+    )
 }
 
 /// The findings as lines beside the track.
