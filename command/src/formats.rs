@@ -162,3 +162,25 @@ pub fn csv(name: &str, disk: &DiskReading) -> String {
 pub fn csv_refused(name: &str, refusal: Refusal) -> String {
     format!("{},,,,,,,,,,,{},{}\n", column(name), refusal.number(), refusal.value())
 }
+
+#[cfg(test)]
+mod tests {
+    use super::*;
+
+    #[test]
+    fn names_with_odd_letters() {
+        assert_eq!(quoted("a \"b\" \\ \n \u{1f} µ"), "\"a \\\"b\\\" \\\\ \\u000a \\u001f µ\"");
+        assert_eq!(column("plain name"), "plain name");
+        assert_eq!(column("a,\"b\""), "\"a,\"\"b\"\"\"");
+    }
+
+    #[test]
+    fn a_refusal_in_each_form() {
+        let refusal = Refusal::ImageHeader(11);
+        let columns = CSV_HEAD.matches(',').count();
+        assert_eq!(csv_refused("a", refusal), format!("a{}27,11\n", ",".repeat(columns - 1)));
+        let expected = "{\"image\":\"a\",\"refused\":{\"number\":27,\"value\":11,\"meaning\":\"byte 11 of the header, the resolution, \
+            is not taken\"},\"error\":null}\n";
+        assert_eq!(json_refused("a", refusal), expected);
+    }
+}

@@ -3,7 +3,7 @@
 use crate::command::{Command, Ran};
 use crate::Report;
 use image_writer::disks::{Disk, Protection, Surface};
-use image_writer::image::{block, Image};
+use image_writer::image::{block, Image, Revolution};
 use second_program::track_block;
 use std::fs::{self, File};
 use std::process::Stdio;
@@ -28,6 +28,7 @@ pub fn run(command: &Command, _: bool, report: &mut Report) {
     command.put("two.scp", &made.bytes());
     command.put("none.scp", b"SCP");
     statuses(command, report);
+    too_many_timings(command, report);
     several(command, report);
     for_programs(command, report);
     listings(command, &made, report);
@@ -87,16 +88,30 @@ fn statuses(command: &Command, report: &mut Report) {
     }
     for arguments in [&["--help"][..], &["help"], &["disk", "--help"], &["block", "-h"]] {
         let ran = command.run(arguments);
-        report.holds("help", ran.status == Some(0) && ran.out.starts_with("usage: thikbromu disk") && ran.err.is_empty());
+        report
+            .holds("help", ran.status == Some(0) && ran.out.starts_with("usage: thikbromu disk") && ran.err.is_empty());
     }
     let ran = command.run(&["--version"]);
     report.holds("the version", ran.status == Some(0) && ran.out.starts_with("thikbromu 0."));
     let ran = command.run(&["explain"]);
-    report.holds("all explained", ran.status == Some(0) && ran.out.contains("22 FZD") && ran.out.contains("refused 29"));
+    report
+        .holds("all explained", ran.status == Some(0) && ran.out.contains("22 FZD") && ran.out.contains("refused 29"));
     for term in [&["explain", "NOS"][..], &["explain", "3"], &["explain", "refused", "7"], &["explain", "refused 7"]] {
         let ran = command.run(term);
         report.holds(&format!("{term:?}"), ran.status == Some(0) && !ran.out.is_empty() && ran.err.is_empty());
     }
+}
+
+/// A track with too many timings is named with their number, in words.
+fn too_many_timings(command: &Command, report: &mut Report) {
+    let mut image = Image::new(1);
+    image.put(10, &[Revolution { index_time: 8_000_000, units: vec![160; 70_000] }]);
+    command.put("many.scp", &image.bytes());
+    let ran = command.run(&["disk", "many.scp"]);
+    let said = "T05 H0 refused 7: 70,000 timings, more than 65,536\n";
+    report.same("too many timings", ran, Ran { status: Some(1), out: String::new(), err: said.to_string() });
+    let ran = command.run(&["disk", "--weak", "many.scp"]);
+    report.holds(&format!("one revolution has no other: {ran:?}"), ends(&ran, 1, "many.scp: refused 17: "));
 }
 
 /// Several images: each has its name, and the status is the greatest.
@@ -109,13 +124,20 @@ fn several(command: &Command, report: &mut Report) {
     report.same("the status of several", ran.status, Some(3));
     report.holds("a refused track of several", ran.err.contains("two.scp: T01 H0 refused 6: "));
     let ran = command.run(&["disk", "--", "two.scp"]);
-    report.same("behind --", ran, one);
+    report.same("behind --", &ran, &one);
+    let bytes = command.get("two.scp").unwrap_or_default();
+    report.same("an image out of a pipe", command.run_on(&["disk", "/dev/stdin"], &bytes), one);
+    let cut = command.run_on(&["disk", "/dev/stdin"], &bytes[..700]);
+    report.holds(&format!("an image that a pipe cuts: {cut:?}"), ends(&cut, 1, "/dev/stdin: refused 28: "));
 }
 
 /// JSON and CSV.
 fn for_programs(command: &Command, report: &mut Report) {
     let page = command.run(&["disk", "--weak", "two.scp"]).out;
-    report.holds(&format!("there is a weak sector: {page}"), page.contains(" FZD ") && page.contains(" sector 4 revolutions 1 0\n"));
+    report.holds(
+        &format!("there is a weak sector: {page}"),
+        page.contains(" FZD ") && page.contains(" sector 4 revolutions 1 0\n"),
+    );
     let ran = command.run(&["disk", "--weak", "--json", "two.scp", "none.scp", "nothing.scp"]);
     let lines: Vec<&str> = ran.out.lines().collect();
     report.same("a line for each image", lines.len(), 3);
@@ -164,7 +186,10 @@ fn listings(command: &Command, made: &Image, report: &mut Report) {
     let ran = command.run(&["block", "block", "2", "1", "84", "0"]);
     report.same("a block of a track that no drive has", (ran.status, ran.out.as_str()), (Some(1), "refused 1\n"));
     let ran = command.run_on(&["block", "-", "2", "1", "0", "0"], &vec![0; 4_194_305]);
-    report.holds("a block that is too long", ends(&ran, 3, "standard input cannot be read: it is longer than 4,194,304 bytes"));
+    report.holds(
+        "a block that is too long",
+        ends(&ran, 3, "standard input cannot be read: it is longer than 4,194,304 bytes"),
+    );
     let ran = command.run_on(&["block", "-", "1", "0", "0", "0"], &block(0, &[]));
     report.same("a block that is too short", (ran.status, ran.out.as_str()), (Some(1), "refused 16\n"));
 
@@ -172,7 +197,8 @@ fn listings(command: &Command, made: &Image, report: &mut Report) {
     file.extend([0xAA; 12_500]);
     file.extend([0; 4]);
     command.put("own.track", &file);
-    let expected = "T05 H0 cells 100000 sectors 0 findings 2\n3 NOS level 3 place 0 detail 0\n4 TNF level 2 place 0 detail 0\n";
+    let expected =
+        "T05 H0 cells 100000 sectors 0 findings 2\n3 NOS level 3 place 0 detail 0\n4 TNF level 2 place 0 detail 0\n";
     let listed = Ran { status: Some(0), out: expected.to_string(), err: String::new() };
     report.same("a track file", command.run(&["track", "own.track"]), listed.clone());
     report.same("a track file on standard input", command.run_on(&["track", "-"], &file), listed);
@@ -189,13 +215,20 @@ fn pictures(command: &Command, report: &mut Report) {
         .map(|entries| entries.flatten().map(|entry| entry.file_name().to_string_lossy().into_owned()).collect())
         .unwrap_or_default();
     names.sort();
-    report.same("the pictures", names.join(" "), "disk.svg t00-h0-timings.svg t00-h0.svg t01-h0.svg timings.svg".to_string());
+    report.same(
+        "the pictures",
+        names.join(" "),
+        "disk.svg t00-h0-timings.svg t00-h0.svg t01-h0.svg timings.svg".to_string(),
+    );
     for name in &names {
         let text = fs::read_to_string(command.path("pictures").join(name)).unwrap_or_default();
         let whole = text.starts_with("<svg xmlns=") && text.ends_with("</svg>\n");
         let closed = ["text", "title", "a", "path", "rect"].iter().all(|tag| {
             let opened = text.matches(&format!("<{tag} ")).count() + text.matches(&format!("<{tag}>")).count();
-            let alone = text.split('<').filter(|part| part.starts_with(&format!("{tag} ")) && part.trim_end().ends_with("/>")).count();
+            let alone = text
+                .split('<')
+                .filter(|part| part.starts_with(&format!("{tag} ")) && part.trim_end().ends_with("/>"))
+                .count();
             opened == text.matches(&format!("</{tag}>")).count() + alone
         });
         report.holds(&format!("{name} is whole"), whole && closed && !text.contains("NaN") && !text.contains("inf"));
@@ -220,11 +253,15 @@ fn outputs(command: &Command, report: &mut Report) {
     let ran = command.run(&["disk", "--st", "older.st", "plain.scp"]);
     report.same("an older file is replaced", (ran.status, command.get("older.st")), (Some(0), Some(plain.content())));
     let ran = command.run(&["disk", "--pictures", "older.st", "plain.scp"]);
-    report.holds(&format!("pictures in a file: {ran:?}"), ran.status == Some(4) && ran.err.contains("cannot be written"));
+    report
+        .holds(&format!("pictures in a file: {ran:?}"), ran.status == Some(4) && ran.err.contains("cannot be written"));
     report.holds("nothing is left behind", command.left_behind().is_empty());
     if let Ok(full) = File::options().write(true).open("/dev/full") {
         let ran = command.run_to(&["disk", "two.scp"], full.into());
-        report.holds(&format!("a full disk: {ran:?}"), ran.status == Some(4) && ran.err.contains("standard output cannot be written"));
+        report.holds(
+            &format!("a full disk: {ran:?}"),
+            ran.status == Some(4) && ran.err.contains("standard output cannot be written"),
+        );
     }
     // The reading end is closed before the command starts.
     let (reader, writer) = std::io::pipe().expect("there are pipes");

@@ -69,6 +69,17 @@ impl Command {
         ran(output)
     }
 
+    /// Runs it with so many kilobytes of memory, as the shell limits it. Threads then share one arena, as each would reserve many.
+    pub fn run_within(&self, kilobytes: usize, arguments: &[&str]) -> Ran {
+        let mut process = process::Command::new("sh");
+        process
+            .args(["-c", &format!("ulimit -v {kilobytes} && exec \"$0\" \"$@\"")])
+            .arg(&self.program)
+            .args(arguments);
+        process.env("MALLOC_ARENA_MAX", "1").current_dir(&self.folder).stdin(Stdio::null());
+        ran(process.output().expect("the shell runs"))
+    }
+
     /// Runs it with this on standard input.
     pub fn run_on(&self, arguments: &[&str], input: &[u8]) -> Ran {
         let words: Vec<&OsStr> = arguments.iter().map(OsStr::new).collect();

@@ -26,12 +26,14 @@ pub fn page(name: &str, bytes: &[u8], revolution: Option<u32>) -> Expected {
     match image::tracks(bytes, revolution) {
         Ok(tracks) => {
             let (page, refused) = image::page(&tracks);
-            let refused = refused.iter().map(|(track, side, refusal)| {
-                format!("T{track:02} H{side} refused {}: ", refusal.number)
-            });
+            let refused = refused
+                .iter()
+                .map(|(track, side, refusal)| format!("T{track:02} H{side} refused {}: ", refusal.number));
             Expected { page: String::from_utf8(page).expect("a page is ASCII"), refused: refused.collect() }
         }
-        Err(refusal) => Expected { page: String::new(), refused: vec![format!("{name}: refused {}: ", refusal.number)] },
+        Err(refusal) => {
+            Expected { page: String::new(), refused: vec![format!("{name}: refused {}: ", refusal.number)] }
+        }
     }
 }
 

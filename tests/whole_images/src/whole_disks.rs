@@ -91,7 +91,11 @@ pub fn run(command: &Command, all: bool, report: &mut Report) {
         }
         let usual = command.run(&["disk", "disk.scp"]);
         let last = (u32::from(disk.revolutions) - 1).min(1).to_string();
-        report.same(&format!("the revolution that is taken, {name}"), &usual, &command.run(&["disk", "--revolution", &last, "disk.scp"]));
+        report.same(
+            &format!("the revolution that is taken, {name}"),
+            &usual,
+            &command.run(&["disk", "--revolution", &last, "disk.scp"]),
+        );
 
         command.remove("disk.st");
         let ran = command.run(&["disk", "--st", "disk.st", "disk.scp"]);
@@ -106,7 +110,9 @@ pub fn run(command: &Command, all: bool, report: &mut Report) {
             let order: Vec<(u32, u32)> = (0..168).map(|entry| (entry / 2, entry % 2)).collect();
             let in_the_way = expected::plain_image(&tracks, &order).expect_err("some track has none");
             let says = match in_the_way {
-                (track, side, Some(refusal)) => format!("disk.st is not written: T{track:02} H{side} refused {}: ", refusal.number),
+                (track, side, Some(refusal)) => {
+                    format!("disk.st is not written: T{track:02} H{side} refused {}: ", refusal.number)
+                }
                 (track, side, None) => format!("disk.st is not written: T{track:02} H{side} is not in the image"),
             };
             let said = ran.err.lines().last().is_some_and(|line| line.starts_with(&says));
@@ -124,4 +130,21 @@ pub fn run(command: &Command, all: bool, report: &mut Report) {
         }
     }
     report.holds("the drive of the tests shakes and drifts", Fault::USUAL.drift > 0 && Fault::USUAL.jitter > 0);
+    if all {
+        many(command, &mut random, report);
+    }
+}
+
+/// Forty large images in a row, within less memory than a fourth of them would take together.
+fn many(command: &Command, random: &mut Random, report: &mut Report) {
+    let disk = Disk::plain(random, "80 tracks again", 80, &[0, 1], 2);
+    command.put("disk.scp", &disk.image(random).bytes());
+    let arguments: Vec<&str> = std::iter::once("disk").chain(std::iter::repeat_n("disk.scp", 40)).collect();
+    let ran = command.run_within(240_000, &arguments);
+    report.same("forty images in 240 MB", (ran.status, ran.err.as_str()), (Some(0), ""));
+    let ran = command.run_within(30_000, &["disk", "disk.scp"]);
+    report.holds(
+        &format!("no memory for an image: {ran:?}"),
+        ran.status == Some(3) && ran.err.contains("cannot be read"),
+    );
 }
