@@ -3,7 +3,8 @@
 
 use crate::reading::{ReadTrack, TrackReading};
 use crate::refusals;
-use crate::svg::{escaped, picture, text, LEVEL_COLOURS, OUTLINE};
+use crate::svg::{escaped, picture, strongest, text, LEVEL_COLOURS, OUTLINE};
+use std::collections::BTreeMap;
 use std::f64::consts::TAU;
 use thikbromu::{Finding, Sector};
 
@@ -68,8 +69,12 @@ fn ring(name: &str, read: &ReadTrack) -> String {
     for sector in &read.sectors {
         parts += &sector_parts(sector, read.cells);
     }
+    let mut by_place: BTreeMap<u32, Vec<Finding>> = BTreeMap::new();
     for finding in &read.findings {
-        parts += &marker(finding, read.cells);
+        by_place.entry(finding.place).or_default().push(*finding);
+    }
+    for (place, findings) in &by_place {
+        parts += &marker(*place, findings, read.cells);
     }
     let counts = [
         name.to_string(),
@@ -112,14 +117,13 @@ fn sector_parts(sector: &Sector, cells: usize) -> String {
     parts + &text(x, y + 4.0, "middle", &number.to_string())
 }
 
-/// A finding at its place, within the ring.
-fn marker(finding: &Finding, cells: usize) -> String {
-    let (x, y) = point(FINDINGS, f64::from(finding.place), cells);
-    let colour = LEVEL_COLOURS[usize::from(finding.level())];
-    format!(
-        "<circle cx=\"{x:.2}\" cy=\"{y:.2}\" r=\"5\" fill=\"{colour}\"><title>{}</title></circle>\n",
-        escaped(&finding.to_string())
-    )
+/// The findings of a place, within the ring.
+fn marker(place: u32, findings: &[Finding], cells: usize) -> String {
+    let (x, y) = point(FINDINGS, f64::from(place), cells);
+    let colour = LEVEL_COLOURS[usize::from(strongest(findings))];
+    let lines: Vec<String> = findings.iter().map(|finding| finding.to_string()).collect();
+    let title = escaped(&lines.join("\n"));
+    format!("<circle cx=\"{x:.2}\" cy=\"{y:.2}\" r=\"5\" fill=\"{colour}\"><title>{title}</title></circle>\n")
 }
 
 /// The findings as lines beside the track.

@@ -78,6 +78,16 @@ impl Disk {
         Disk { name, revolutions, heads: 0, fault: Fault::USUAL, tracks: surfaces }
     }
 
+    /// A disk with a protection on each seventh track and side, in turn, or on each second where there are few.
+    pub fn protected(random: &mut Random, name: &'static str, tracks: u8, revolutions: u8) -> Disk {
+        let mut disk = Disk::plain(random, name, tracks, &[0, 1], revolutions);
+        let step = if tracks > 10 { 7 } else { 2 };
+        for (index, (.., surface)) in disk.tracks.iter_mut().enumerate().filter(|(index, _)| index % step == 0) {
+            *surface = Surface::Protected(PROTECTIONS[index / step % PROTECTIONS.len()]);
+        }
+        disk
+    }
+
     /// What stands at a track and side.
     pub fn surface(&mut self, track: u8, side: u8) -> &mut Surface {
         let found = self.tracks.iter_mut().find(|(t, s, _)| (*t, *s) == (track, side));

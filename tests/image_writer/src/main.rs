@@ -1,7 +1,8 @@
-//! Writes images: the sample of samples/, or a whole disk with any content.
+//! Writes images: the sample of samples/, a whole disk with any content, or one with protections.
 //!
 //!     image_writer sample samples/small.scp
 //!     image_writer disk TRACKS REVOLUTIONS SEED OUT.scp OUT.st
+//!     image_writer protected TRACKS REVOLUTIONS SEED OUT.scp
 
 use image_writer::disks::{sample, Disk};
 use std::{env, fs, io};
@@ -19,8 +20,15 @@ fn main() -> io::Result<()> {
             fs::write(content, disk.content())?;
             fs::write(out, disk.image(&mut random).bytes())
         }
+        ["protected", tracks, revolutions, seed, out] => {
+            let mut random = Random::new(number(seed)?.into());
+            let disk = Disk::protected(&mut random, "protected", number(tracks)?, number(revolutions)?);
+            fs::write(out, disk.image(&mut random).bytes())
+        }
         _ => {
-            eprintln!("usage: image_writer sample OUT.scp | image_writer disk TRACKS REVOLUTIONS SEED OUT.scp OUT.st");
+            eprintln!("usage: image_writer sample OUT.scp");
+            eprintln!("       image_writer disk TRACKS REVOLUTIONS SEED OUT.scp OUT.st");
+            eprintln!("       image_writer protected TRACKS REVOLUTIONS SEED OUT.scp");
             std::process::exit(2);
         }
     }

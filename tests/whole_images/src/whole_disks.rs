@@ -21,7 +21,7 @@ fn cases(random: &mut Random, all: bool) -> Vec<Case> {
     add(Disk::plain(random, "six tracks", 3, &[0, 1], 2), true);
     add(Disk::plain(random, "one revolution", 2, &[0, 1], 1), true);
     add(one_side(random, "one side", 3), true);
-    add(protected(random, "all protections", PROTECTIONS.len() as u8, 3), false);
+    add(Disk::protected(random, "all protections", PROTECTIONS.len() as u8, 3), false);
     let mut missing = Disk::plain(random, "a track is missing", 3, &[0, 1], 2);
     *missing.surface(1, 1) = Surface::Missing;
     add(missing, false);
@@ -36,7 +36,7 @@ fn cases(random: &mut Random, all: bool) -> Vec<Case> {
         add(one_side(random, "80 tracks of one side", 80), true);
         add(blank_side(random, "a blank side"), true);
         add(blank_end(random, "80 of 84 tracks"), true);
-        add(protected(random, "80 tracks, many protected", 80, 3), false);
+        add(Disk::protected(random, "80 tracks, many protected", 80, 3), false);
         let mut missing = Disk::plain(random, "80 tracks, ten missing", 80, &[0, 1], 2);
         for _ in 0..10 {
             *missing.surface(random.below(80) as u8, random.below(2) as u8) = Surface::Missing;
@@ -62,16 +62,6 @@ fn blank_side(random: &mut Random, name: &'static str) -> Disk {
 fn blank_end(random: &mut Random, name: &'static str) -> Disk {
     let mut disk = Disk::plain(random, name, 84, &[0, 1], 2);
     disk.tracks.iter_mut().filter(|(track, ..)| *track > 79).for_each(|(.., surface)| *surface = Surface::Unformatted);
-    disk
-}
-
-/// A disk with a protection on each seventh track and side, in turn, or on each where there are few.
-fn protected(random: &mut Random, name: &'static str, tracks: u8, revolutions: u8) -> Disk {
-    let mut disk = Disk::plain(random, name, tracks, &[0, 1], revolutions);
-    let step = if tracks > 10 { 7 } else { 2 };
-    for (index, (.., surface)) in disk.tracks.iter_mut().enumerate().filter(|(index, _)| index % step == 0) {
-        *surface = Surface::Protected(PROTECTIONS[index / step % PROTECTIONS.len()]);
-    }
     disk
 }
 
