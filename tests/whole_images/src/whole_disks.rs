@@ -132,7 +132,7 @@ fn many(command: &Command, random: &mut Random, report: &mut Report) {
     let arguments: Vec<&str> = std::iter::once("disk").chain(std::iter::repeat_n("disk.scp", 40)).collect();
     let ran = command.run_within(240_000, &arguments);
     report.same("forty images in 240 MB", (ran.status, ran.err.as_str()), (Some(0), ""));
-    let ran = command.run_within(30_000, &["disk", "disk.scp"]);
+    let ran = command.run_within(16_000, &["disk", "disk.scp"]);
     report.holds(
         &format!("no memory for an image: {ran:?}"),
         ran.status == Some(3) && ran.err.contains("cannot be read"),
