@@ -72,7 +72,7 @@ fn track(TrackReading { track, side, read }: &TrackReading) -> String {
         let not_compared = list(&read.not_compared, |(revolution, refusal)| {
             format!("{{\"other_revolution\":{revolution},\"refused\":{}}}", self::refused(Some(*refusal)))
         });
-        object += &format!(",\"cells\":{},\"sectors\":{}", read.cells, read.sectors.len());
+        object += &format!(",\"cells\":{},\"sectors\":{}", read.cells.count, read.sectors.len());
         object += &format!(",\"findings\":{findings},\"weak\":{weak},\"not_compared\":{not_compared}");
     }
     object + "}"

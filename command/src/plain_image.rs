@@ -5,7 +5,7 @@ use crate::ending::{not_written, say, Ended, Status};
 use crate::files::write_whole;
 use crate::refusals;
 use std::path::Path;
-use thikbromu::{Kind, Refusal};
+use thikbromu::Kind;
 
 /// The tracks of a usual disk.
 const USUAL_TRACKS: u32 = 80;
@@ -35,11 +35,7 @@ fn plain_image(disk: &DiskReading) -> Result<Vec<u8>, String> {
             let image = match reading.map(|reading| &reading.read) {
                 None => Err("is not in the image".to_string()),
                 Some(Err(refusal)) => Err(refusals::in_words(*refusal)),
-                Some(Ok(read)) => match read.plain_image {
-                    Some(Ok(image)) => Ok(image),
-                    Some(Err(refusal)) => Err(refusals::in_words(refusal)),
-                    None => Err(refusals::in_words(Refusal::NoPlainImage(1))),
-                },
+                Some(Ok(read)) => read.cells.track(track, side).sector_image().map_err(refusals::in_words),
             };
             bytes.extend(image.map_err(|words| format!("T{track:02} H{side} {words}"))?);
         }

@@ -7,9 +7,7 @@ use crate::weak::{self, Weak};
 use std::sync::atomic::{AtomicUsize, Ordering};
 use std::sync::Mutex;
 use std::thread;
-use thikbromu::{
-    histogram, Cells, Finding, ImageBlock, Refusal, Sector, Track, TrackBlock, HISTOGRAM_COUNTS, SECTOR_IMAGE_BYTES,
-};
+use thikbromu::{histogram, Cells, Finding, ImageBlock, Refusal, Sector, Track, TrackBlock, HISTOGRAM_COUNTS};
 
 /// A track and side of an image, and what came of it.
 pub struct TrackReading {
@@ -20,10 +18,10 @@ pub struct TrackReading {
 
 /// A track that was read.
 pub struct ReadTrack {
-    pub cells: usize,
+    pub cells: Cells,
     pub findings: Vec<Finding>,
     pub sectors: Vec<Sector>,
-    pub plain_image: Option<Result<[u8; SECTOR_IMAGE_BYTES], Refusal>>,
+    /// The histogram of the timings, where pictures are asked for.
     pub timings: Option<[u32; HISTOGRAM_COUNTS]>,
     pub weak: Vec<Weak>,
     /// The other revolutions that could not be compared.
@@ -59,50 +57,46 @@ fn read_one(file: &ImageFile, wish: &DiskWish, revolution: u32, place: ImageBloc
     let ImageBlock { track, side, .. } = place;
     let revolutions = u32::from(file.image.header().revolutions);
     let block = TrackBlock::new(&file.bytes[place.range()], revolutions);
-    let read = block.cells(revolution).and_then(|cells| read_cells(wish, &block, revolution, &cells, track, side));
+    let read = read_block(wish, &block, revolution, track, side);
     TrackReading { track, side, read }
 }
 
-fn read_cells(
+fn read_block(
     wish: &DiskWish,
     block: &TrackBlock,
     revolution: u32,
-    cells: &Cells,
     track: u32,
     side: u32,
 ) -> Result<ReadTrack, Refusal> {
+    let cells = block.cells(revolution)?;
     let on_track = cells.track(track, side);
-    let mut read = ReadTrack {
-        cells: cells.count,
-        findings: on_track.findings()?,
-        sectors: on_track.sectors()?.collect(),
-        plain_image: wish.plain_image.is_some().then(|| on_track.sector_image()),
-        timings: None,
-        weak: Vec::new(),
-        not_compared: Vec::new(),
+    let findings = on_track.findings()?;
+    let sectors = on_track.sectors()?.collect();
+    let timings = match wish.pictures {
+        Some(_) => Some(histogram(&block.timings(revolution)?)?),
+        None => None,
     };
-    if wish.pictures.is_some() {
-        read.timings = Some(histogram(&block.timings(revolution)?)?);
-    }
-    if wish.weak {
-        compare_others(&mut read, block, revolution, &on_track)?;
-    }
-    Ok(read)
+    let (weak, not_compared) =
+        if wish.weak { compare_others(block, revolution, &on_track)? } else { Default::default() };
+    Ok(ReadTrack { cells, findings, sectors, timings, weak, not_compared })
 }
 
+/// What comparing revolutions came to: the weak sectors, and the revolutions that are refused.
+type Compared = (Vec<Weak>, Vec<(u32, Refusal)>);
+
 /// Compares each other revolution with the one that was read.
-fn compare_others(read: &mut ReadTrack, block: &TrackBlock, revolution: u32, on_track: &Track) -> Result<(), Refusal> {
+fn compare_others(block: &TrackBlock, revolution: u32, on_track: &Track) -> Result<Compared, Refusal> {
     let reads = weak::reads(on_track)?;
+    let (mut all, mut not_compared) = Compared::default();
     for other in (0..block.revolutions()).filter(|other| *other != revolution) {
-        let cells = block.cells(other);
-        let weak = cells.and_then(|cells| {
+        let weak = block.cells(other).and_then(|cells| {
             let others = weak::reads(&cells.track(on_track.track(), on_track.side()))?;
             weak::compared(&reads, &others, other)
         });
         match weak {
-            Ok(weak) => read.weak.extend(weak),
-            Err(refusal) => read.not_compared.push((other, refusal)),
+            Ok(weak) => all.extend(weak),
+            Err(refusal) => not_compared.push((other, refusal)),
         }
     }
-    Ok(())
+    Ok((all, not_compared))
 }

@@ -62,23 +62,24 @@ fn circle(radius: f64) -> String {
 }
 
 fn ring(name: &str, read: &ReadTrack) -> String {
+    let cells = read.cells.count;
     let mut parts = circle(INNER) + &circle(OUTER);
-    let (index, top) = (point(INNER - 8.0, 0.0, read.cells), point(OUTER + 30.0, 0.0, read.cells));
+    let (index, top) = (point(INNER - 8.0, 0.0, cells), point(OUTER + 30.0, 0.0, cells));
     parts += &format!("<path d=\"M{:.2} {:.2} L{:.2} {:.2}\" stroke=\"#000000\"/>\n", index.0, index.1, top.0, top.1);
     parts += &text(top.0, top.1 - 4.0, "middle", "index");
     for sector in &read.sectors {
-        parts += &sector_parts(sector, read.cells);
+        parts += &sector_parts(sector, cells);
     }
     let mut by_place: BTreeMap<u32, Vec<Finding>> = BTreeMap::new();
     for finding in &read.findings {
         by_place.entry(finding.place).or_default().push(*finding);
     }
     for (place, findings) in &by_place {
-        parts += &marker(*place, findings, read.cells);
+        parts += &marker(*place, findings, cells);
     }
     let counts = [
         name.to_string(),
-        format!("{} cells", refusals::grouped(read.cells)),
+        format!("{} cells", refusals::grouped(cells)),
         format!("{} sectors", read.sectors.len()),
         format!("{} findings", read.findings.len()),
     ];
