@@ -34,7 +34,17 @@ fn sound(random: &mut Random) -> Front {
     let (low, high) = if random.one_in(2) { (0, ENTRIES as u8 - 1) } else { (one.min(other), one.max(other)) };
     // Any flags but the one of images whose entries stand elsewhere.
     let flags = random.byte() & 0xBF;
-    first[3..12].copy_from_slice(&[random.byte(), random.byte(), revolutions, low, high, flags, 16 * random.below(2) as u8, heads, 0]);
+    first[3..12].copy_from_slice(&[
+        random.byte(),
+        random.byte(),
+        revolutions,
+        low,
+        high,
+        flags,
+        16 * random.below(2) as u8,
+        heads,
+        0,
+    ]);
     first[12..16].copy_from_slice(&(random.next_number() as u32).to_le_bytes());
     let mut entries: Vec<usize> = (usize::from(low)..=usize::from(high)).filter(|_| random.one_in(3)).collect();
     // A side that the header says is not there has no blocks.
@@ -63,7 +73,12 @@ fn changed(random: &mut Random, mut front: Front) -> Front {
         5 => front.first[random.below(16) as usize] ^= 1 << random.below(8),
         6 => {
             let from = random.below(ENTRIES as u64) as usize;
-            let start = [front.first[16 + 4 * from], front.first[17 + 4 * from], front.first[18 + 4 * from], front.first[19 + 4 * from]];
+            let start = [
+                front.first[16 + 4 * from],
+                front.first[17 + 4 * from],
+                front.first[18 + 4 * from],
+                front.first[19 + 4 * from],
+            ];
             let near = u32::from_le_bytes(start).wrapping_add(random.between(-30, 30) as u32);
             front.set_entry(random.below(ENTRIES as u64) as usize, near);
         }
@@ -111,7 +126,13 @@ fn case(header_group: &mut Group, entry_group: &mut Group, sum_group: &mut Group
     let header = image::header(first, *image_length as u64);
     let all = header.map(numbers);
     let written = all.clone().map(|numbers| (numbers.len(), numbers[..room.min(10)].to_vec()));
-    header_group.same_written(first, room, |first, numbers| boundary::image_header(first, *image_length, numbers), written, given);
+    header_group.same_written(
+        first,
+        room,
+        |first, numbers| boundary::image_header(first, *image_length, numbers),
+        written,
+        given,
+    );
 
     let room = if random.one_in(3) { random.below(340) as usize } else { 2 * ENTRIES };
     let blocks = image::blocks(first, *image_length as u64);
@@ -122,7 +143,13 @@ fn case(header_group: &mut Group, entry_group: &mut Group, sum_group: &mut Group
         });
         (blocks.iter().flatten().count(), places.take(room).collect())
     });
-    entry_group.same_written(first, room, |first, places| boundary::image_entries(first, *image_length, places), written, given);
+    entry_group.same_written(
+        first,
+        room,
+        |first, places| boundary::image_entries(first, *image_length, places),
+        written,
+        given,
+    );
 
     let right = header.map_or(0, |header| header.check_sum);
     let sum = if random.one_in(2) { right } else { right.wrapping_add(random.below(3) as u32) };
@@ -157,7 +184,8 @@ pub fn fronts(report: &mut Report) {
     }
     let whole = sound(&mut random);
     for place in 0..HEADER_LENGTH {
-        let values: Vec<u8> = if place < 16 { (0..=255).collect() } else { (0..8).map(|bit| whole.first[place] ^ 1 << bit).collect() };
+        let values: Vec<u8> =
+            if place < 16 { (0..=255).collect() } else { (0..8).map(|bit| whole.first[place] ^ 1 << bit).collect() };
         for value in values {
             let mut front = whole.clone();
             front.first[place] = value;
@@ -179,7 +207,9 @@ pub fn sums(report: &mut Report) {
         let before = random.next_number() as u32;
         let expected = bytes.iter().fold(u64::from(before), |sum, &byte| sum + u64::from(byte)) as u32;
         let mut kept = Lent::<u8>::new(0);
-        group.same((boundary::image_sum(before, &bytes), kept.part().len()), (expected, 0), || format!("{length} bytes from {before}"));
+        group.same((boundary::image_sum(before, &bytes), kept.part().len()), (expected, 0), || {
+            format!("{length} bytes from {before}")
+        });
         let mut sum = before;
         let mut rest = &bytes[..];
         while !rest.is_empty() {
