@@ -3,7 +3,7 @@
 use crate::command::Command;
 use crate::expected;
 use crate::Report;
-use image_writer::disks::{Disk, Surface, PROTECTIONS};
+use image_writer::disks::{sample, Disk, Surface, PROTECTIONS};
 use image_writer::drive::Fault;
 use second_program::image;
 use test_inputs::random::Random;
@@ -21,6 +21,7 @@ fn cases(random: &mut Random, all: bool) -> Vec<Case> {
     add(Disk::plain(random, "six tracks", 3, &[0, 1], 2), true);
     add(Disk::plain(random, "one revolution", 2, &[0, 1], 1), true);
     add(one_side(random, "one side", 3), true);
+    add(Disk { heads: 2, ..Disk::plain(random, "side 1 alone", 2, &[1], 2) }, true);
     add(Disk::protected(random, "all protections", PROTECTIONS.len() as u8, 3), false);
     let mut missing = Disk::plain(random, "a track is missing", 3, &[0, 1], 2);
     *missing.surface(1, 1) = Surface::Missing;
@@ -119,6 +120,15 @@ pub fn run(command: &Command, all: bool, report: &mut Report) {
             }
         }
     }
+    let sample = sample().bytes();
+    command.put("sample.scp", &sample);
+    let ran = command.run(&["disk", "--weak", "sample.scp"]);
+    let expected = expected::page("sample.scp", &sample, Some(1));
+    report.same(
+        "the sample",
+        (ran.out, ran.status),
+        (expected.page.clone() + &expected::weak_lines(&sample), expected.status()),
+    );
     report.holds("the drive of the tests shakes and drifts", Fault::USUAL.drift > 0 && Fault::USUAL.jitter > 0);
     if all {
         many(command, &mut random, report);
