@@ -1,6 +1,12 @@
 //! A whole SuperCard Pro image: its header, where its blocks stand, its check sum, and the
 //! page of the disk in it.
 //!
+//! The papers that the project was given do not lay out an image's header. It was written
+//! from what is generally known of the maker's format. Four points were not read so at
+//! first, and were taken over from section 19 of the specification, or from the library's
+//! answers, when the two were compared: the tracks and sides that a header names, the
+//! footer, and the greatest length. In these it is no independent reading.
+//!
 //! The header has 16 bytes, and 168 entries of four bytes follow it, side 0 and side 1 of a
 //! track beside each other. What the description leaves open is read so:
 //! - A resolution other than 25 ns is refused, not scaled.
