@@ -73,7 +73,7 @@ fn read_block(
     let findings = on_track.findings()?;
     let sectors = on_track.sectors()?.collect();
     let timings = match wish.pictures {
-        Some(_) => Some(histogram(&block.timings(revolution)?)?),
+        Some(_) => Some(histogram(&block.timings(revolution)?.list)?),
         None => None,
     };
     let (weak, not_compared) =

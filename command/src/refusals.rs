@@ -38,7 +38,7 @@ pub const REFUSALS: [(u32, &str, &str); 29] = [
     (20, "the list makes more than 131,072 cells", "It is too long for a track: make it shorter."),
     (21, "a track and side is there twice", "The files are not of one disk, or one was given twice."),
     (22, "more than 168 tracks", "A disk has 84 on each of two sides."),
-    (23, "the track file has flux timings", "Write it anew with cells; or list the track block of the image."),
+    (23, "the track file has flux timings", "It is of an older kind: convert-track of the checkout gives it cells."),
     (
         24,
         "the track has no plain image",

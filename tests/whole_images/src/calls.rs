@@ -172,12 +172,7 @@ fn listings(command: &Command, made: &Image, report: &mut Report) {
     command.put("block", bytes);
     let words = ["block", "block", "2", "1", "0", "0"];
     let from_file = command.run(&words);
-    // The line of border pulses has gone from listings.
-    let listing: String = String::from_utf8_lossy(&track_block::printed(bytes, 2, 1, 0, 0))
-        .lines()
-        .filter(|line| !line.starts_with("FAA"))
-        .map(|line| format!("{line}\n"))
-        .collect();
+    let listing = String::from_utf8_lossy(&track_block::printed(bytes, 2, 1, 0, 0)).into_owned();
     report.same("a block", (from_file.status, from_file.out.clone()), (Some(0), listing));
     report.same("a block on standard input", command.run_on(&["block", "-", "2", "1", "0", "0"], bytes), from_file);
     let ran = command.run(&["block", "block", "2", "2", "0", "0"]);
