@@ -53,6 +53,10 @@ extern "C" {
 #define THIKBROMU_PLACE_NUMBERS 2 /* the track and the side */
 #define THIKBROMU_DISK_TRACK_NUMBERS 3 /* the track, the side and how many findings */
 #define THIKBROMU_MOST_TRACKS 168 /* tracks 0 to 83 of two sides */
+#define THIKBROMU_IMAGE_HEADER_BYTES 688 /* the first bytes of an image: its header and its entries */
+#define THIKBROMU_IMAGE_HEADER_NUMBERS 10
+#define THIKBROMU_IMAGE_ENTRIES 168 /* tracks 0 to 83 of two sides */
+#define THIKBROMU_IMAGE_PLACE_NUMBERS 336 /* two for each entry */
 #define THIKBROMU_LONGEST_LISTING 65536
 #define THIKBROMU_LONGEST_FILE 16398 /* the most cells; a longer file is answered as its first 16,399 bytes are */
 #define THIKBROMU_LONGEST_OLD_FILE 262158 /* the most timings; a longer one is converted as its first 262,159 bytes are */
@@ -83,7 +87,11 @@ enum thikbromu_refusal {
     THIKBROMU_REFUSED_TOO_MANY_TRACKS = 22,     /* a disk of more than 168 tracks; 0 */
     THIKBROMU_REFUSED_FLUX_SECTION = 23,        /* the track file has a flux section, so it is an old one to convert; 0 */
     THIKBROMU_REFUSED_NO_PLAIN_IMAGE = 24,      /* the track has no plain image; the first number from 1 to 9 in the way, or 0 (rule 15.4) */
-    THIKBROMU_REFUSED_NOT_THEIR_FINDINGS = 25   /* the numbers are no findings of the tracks (rules 16.6 to 16.8); 0 */
+    THIKBROMU_REFUSED_NOT_THEIR_FINDINGS = 25,  /* the numbers are no findings of the tracks (rules 16.6 to 16.8); 0 */
+    THIKBROMU_REFUSED_NOT_AN_IMAGE = 26,        /* the bytes are no image (rule 19.5); 0 */
+    THIKBROMU_REFUSED_IMAGE_HEADER = 27,        /* a byte of the header is not taken (rule 19.6); the first such place, 5 to 11 */
+    THIKBROMU_REFUSED_IMAGE_ENTRY = 28,         /* a block cannot stand where it is said to begin (rule 19.9); the first such entry */
+    THIKBROMU_REFUSED_IMAGE_CHECK_SUM = 29      /* the bytes have another sum than the header says (rule 19.14); their sum */
 };
 
 /* The kinds of findings by their numbers, with their levels: rule 7.K is that of kind K, up to 21. T is the track of the drive, N how many
@@ -139,6 +147,20 @@ enum thikbromu_sector_number {
     THIKBROMU_SECTOR_DATA_CHECK_GOOD = 10, /* 1 where the data check is good; 0 where it is bad or there is no data */
     THIKBROMU_SECTOR_END = 11,             /* the cell where the data with its check bytes ends, perhaps N or more; 0 where there is no data */
     THIKBROMU_SECTOR_DENSITY = 12          /* 1 for single density, FM; 2 for double density, MFM */
+};
+
+/* Where what stands among the ten numbers of an image's header (rules 19.2, 19.3 and 19.7). */
+enum thikbromu_image_number {
+    THIKBROMU_IMAGE_VERSION = 0,
+    THIKBROMU_IMAGE_DISK_TYPE = 1,
+    THIKBROMU_IMAGE_REVOLUTIONS = 2, /* how many each block has, 1 or more; the routines on track blocks take it */
+    THIKBROMU_IMAGE_FIRST_TRACK = 3, /* the first entry that may have a block, */
+    THIKBROMU_IMAGE_LAST_TRACK = 4,  /* and the last, at most 167 */
+    THIKBROMU_IMAGE_FLAGS = 5,       /* bit 4: it may be written to; bit 5: it ends with a footer; bit 6 is 0 */
+    THIKBROMU_IMAGE_CELL_WIDTH = 6,  /* 0 or 16, the bits of a value */
+    THIKBROMU_IMAGE_HEADS = 7,       /* 0: both sides; 1: side 0; 2: side 1 */
+    THIKBROMU_IMAGE_RESOLUTION = 8,  /* 0: 25 ns */
+    THIKBROMU_IMAGE_CHECK_SUM = 9
 };
 
 /*
@@ -237,6 +259,33 @@ uint32_t thikbromu_revolution_portion(uint32_t *state, const uint8_t *portion, s
  * the bytes that the cells need. The timings take 262,144 bytes of the stack. */
 uint32_t thikbromu_revolution_cells(const uint8_t *block, size_t length, uint32_t revolutions, uint32_t revolution, uint8_t *cells,
                                     size_t room, size_t *border_pulses, size_t *value);
+
+/*
+ * A whole SuperCard Pro image (rules 19.1 to 19.15): `first` has its first 688 bytes, or more, of which the others are not looked at, and the image has
+ * `image_length` bytes in all. The image is refused with 26 where it has fewer than 688 bytes or more than 4,294,967,295, where fewer than 688 are
+ * handed over, or where the letters are not SCP. Then its header is refused with 27 and the place of the first byte that is not taken: 5 for no
+ * revolutions, 6 for a first track above the last, 7 for a last track above 167, 8 for another medium than a floppy disk, 9 for a cell width other than 0
+ * and 16, 10 for heads above 2, 11 for a unit other than 25 ns. No timing is scaled.
+ */
+
+/* The header (rules 9.71 and 9.75). Its numbers go to the front of `numbers`, ten as enum thikbromu_image_number has them, or as many as there is room
+ * for. Gives 10. Refuses 26, 27; the numbers are then kept. */
+uint32_t thikbromu_image_header(const uint8_t *first, size_t length, size_t image_length, uint32_t *numbers, size_t room, size_t *value);
+
+/* The entries (rules 9.72, 9.75 and 19.8 to 19.12). Entry 2 T + H is that of track T and side H; number 2 e of `places` becomes the byte of the image at
+ * which the block of entry e begins, and number 2 e + 1 the one before which it has to end: the start of another block, the footer or the image's end. Both
+ * are 0 where the track is not there. Gives how many tracks are there. No two blocks overlap, all lie behind the first 688 bytes and within the image, and
+ * each has room for its letters, its number and its table. Where `places` has room for fewer numbers, it gets as many. Refuses 26, 27, 28; the places are
+ * then kept. */
+uint32_t thikbromu_image_entries(const uint8_t *first, size_t length, size_t image_length, uint32_t *places, size_t room, size_t *value);
+
+/* The sum of an image's bytes after a portion more (rules 9.73 and 19.13), modulo 2^32. It begins with 0 and goes over all bytes of the image from byte 16
+ * on, in portions that are cut anywhere. */
+uint32_t thikbromu_image_sum(uint32_t sum, const uint8_t *portion, size_t length);
+
+/* Whether that sum is the one in the header (rules 9.74 and 19.14). Gives the sum. An image that may be written to is not judged by it. Refuses 26, 27,
+ * 29. */
+uint32_t thikbromu_image_check(const uint8_t *first, size_t length, size_t image_length, uint32_t sum, size_t *value);
 
 /*
  * A track of double density, MFM: n cells in `bytes`; `track` and `side` are the drive's, T and H. Bytes after those that the cells need are

@@ -1,7 +1,7 @@
 /*
- * The numbers that docs/SPECIFICATION.md gives to know (rules 1.17, 2.4, 3.13, 3.14, 6.19, 11.10, 14.10 and 17.10), a small track block, the plain
- * image of a track, an old track file, the page of a disk, and a track of single density, through include/thikbromu.h: every routine is called,
- * and every refusal is given.
+ * The numbers that docs/SPECIFICATION.md gives to know (rules 1.17, 2.4, 3.13, 3.14, 6.19, 11.10, 14.10 and 17.10), a small track block and an image
+ * with it, the plain image of a track, an old track file, the page of a disk, and a track of single density, through include/thikbromu.h: every
+ * routine is called, and every refusal is given.
  * The argument is samples/standard.track. It compiles as C99 and as C++.
  */
 #include "thikbromu.h"
@@ -330,6 +330,80 @@ static void test_track_blocks(void)
 static uint32_t number_of(uint32_t ended, uint32_t zeros, uint32_t held)
 {
     return held + 257 * (zeros + 8 * ended);
+}
+
+/* An image that has the block of two revolutions twice: for track 1, side 1, and behind it for track 0, side 0. */
+#define IMAGE_BYTES (THIKBROMU_IMAGE_HEADER_BYTES + 2 * BLOCK_BYTES)
+
+static void make_image(uint8_t *image)
+{
+    static const uint8_t front[12] = {'S', 'C', 'P', 0x22, 0x15, 2, 0, 3, 1, 0, 0, 0};
+    memset(image, 0, IMAGE_BYTES);
+    memcpy(image, front, sizeof front);
+    image[16] = (THIKBROMU_IMAGE_HEADER_BYTES + BLOCK_BYTES) % 256;
+    image[17] = (THIKBROMU_IMAGE_HEADER_BYTES + BLOCK_BYTES) / 256;
+    image[28] = THIKBROMU_IMAGE_HEADER_BYTES % 256;
+    image[29] = THIKBROMU_IMAGE_HEADER_BYTES / 256;
+    memcpy(image + THIKBROMU_IMAGE_HEADER_BYTES, two_revolutions, BLOCK_BYTES);
+    memcpy(image + THIKBROMU_IMAGE_HEADER_BYTES + BLOCK_BYTES, two_revolutions, BLOCK_BYTES);
+}
+
+static void test_images(void)
+{
+    static uint8_t image[IMAGE_BYTES];
+    uint32_t numbers[THIKBROMU_IMAGE_HEADER_NUMBERS + 1];
+    uint32_t places[THIKBROMU_IMAGE_PLACE_NUMBERS + 1];
+    make_image(image);
+    const size_t length = THIKBROMU_IMAGE_HEADER_BYTES;
+    const size_t second = THIKBROMU_IMAGE_HEADER_BYTES + BLOCK_BYTES;
+
+    for (size_t i = 0; i <= THIKBROMU_IMAGE_HEADER_NUMBERS; i++) numbers[i] = 7;
+    image[12] = 0x78;
+    image[15] = 0x12;
+    GIVES(thikbromu_image_header(image, length, IMAGE_BYTES, numbers, THIKBROMU_IMAGE_HEADER_NUMBERS, &value), 10);
+    EXPECT(numbers[THIKBROMU_IMAGE_VERSION] == 0x22 && numbers[THIKBROMU_IMAGE_DISK_TYPE] == 0x15);
+    EXPECT(numbers[THIKBROMU_IMAGE_REVOLUTIONS] == 2 && numbers[THIKBROMU_IMAGE_FIRST_TRACK] == 0);
+    EXPECT(numbers[THIKBROMU_IMAGE_LAST_TRACK] == 3 && numbers[THIKBROMU_IMAGE_FLAGS] == 1);
+    EXPECT(numbers[THIKBROMU_IMAGE_CELL_WIDTH] == 0 && numbers[THIKBROMU_IMAGE_HEADS] == 0);
+    EXPECT(numbers[THIKBROMU_IMAGE_RESOLUTION] == 0 && numbers[THIKBROMU_IMAGE_CHECK_SUM] == 0x12000078);
+    EXPECT(numbers[THIKBROMU_IMAGE_HEADER_NUMBERS] == 7);
+
+    for (size_t i = 0; i <= THIKBROMU_IMAGE_PLACE_NUMBERS; i++) places[i] = 7;
+    GIVES(thikbromu_image_entries(image, length, IMAGE_BYTES, places, THIKBROMU_IMAGE_PLACE_NUMBERS, &value), 2);
+    EXPECT(places[0] == second && places[1] == IMAGE_BYTES);
+    EXPECT(places[6] == THIKBROMU_IMAGE_HEADER_BYTES && places[7] == second);
+    uint32_t others = 0;
+    for (size_t i = 0; i < THIKBROMU_IMAGE_PLACE_NUMBERS; i++) others += i > 1 && i != 6 && i != 7 ? places[i] : 0;
+    EXPECT(others == 0 && places[THIKBROMU_IMAGE_PLACE_NUMBERS] == 7);
+    GIVES(thikbromu_revolution_timings(image + places[6], places[7] - places[6], 2, 0, timings, 3, &value), 3);
+    EXPECT(timings[0] == 4000 && timings[1] == 6000 && timings[2] == 8000);
+
+    /* The sum of all bytes from 16 on, in two portions. */
+    uint32_t sum = 0;
+    for (size_t i = 16; i < IMAGE_BYTES; i++) sum += image[i];
+    EXPECT(thikbromu_image_sum(0, image + 16, IMAGE_BYTES - 16) == sum);
+    EXPECT(thikbromu_image_sum(thikbromu_image_sum(0, image + 16, 600), image + 616, IMAGE_BYTES - 616) == sum);
+    EXPECT(thikbromu_image_sum(4294967295u, image + 12, 1) == 0x77);
+    REFUSES(thikbromu_image_check(image, length, IMAGE_BYTES, sum, &value), IMAGE_CHECK_SUM, sum);
+    GIVES(thikbromu_image_check(image, length, IMAGE_BYTES, 0x12000078, &value), 0x12000078);
+    image[8] |= 16;
+    GIVES(thikbromu_image_check(image, length, IMAGE_BYTES, sum, &value), sum);
+
+    /* What is refused leaves the memory as it was. */
+    numbers[0] = 7;
+    places[0] = 7;
+    REFUSES(thikbromu_image_header(image, length - 1, IMAGE_BYTES, numbers, 1, &value), NOT_AN_IMAGE, 0);
+    REFUSES(thikbromu_image_entries(image, length, length - 1, places, 1, &value), NOT_AN_IMAGE, 0);
+    REFUSES(thikbromu_image_entries(image, length, IMAGE_BYTES - BLOCK_BYTES + 27, places, 1, &value), IMAGE_ENTRY, 0);
+    image[28] -= 1;
+    REFUSES(thikbromu_image_entries(image, length, IMAGE_BYTES, places, 1, &value), IMAGE_ENTRY, 3);
+    image[11] = 1;
+    REFUSES(thikbromu_image_header(image, length, IMAGE_BYTES, numbers, 1, &value), IMAGE_HEADER, 11);
+    REFUSES(thikbromu_image_entries(image, length, IMAGE_BYTES, places, 1, &value), IMAGE_HEADER, 11);
+    REFUSES(thikbromu_image_check(image, length, IMAGE_BYTES, sum, &value), IMAGE_HEADER, 11);
+    image[0] = 's';
+    REFUSES(thikbromu_image_check(image, length, IMAGE_BYTES, sum, &value), NOT_AN_IMAGE, 0);
+    EXPECT(numbers[0] == 7 && places[0] == 7);
 }
 
 static void test_portions(void)
@@ -1070,6 +1144,7 @@ int main(int count, char **arguments)
     test_separator();
     test_histogram();
     test_track_blocks();
+    test_images();
     test_portions();
     test_standard_track(file + BEFORE_CELLS);
     test_sector_image(file + BEFORE_CELLS);

@@ -52,6 +52,15 @@ pub const PLACE_NUMBERS: usize = 2;
 /// The numbers of a track of a disk: the track, the side and how many findings it has.
 pub const DISK_TRACK_NUMBERS: usize = 3;
 
+/// The first bytes of an image, which hold its header and its entries.
+pub const IMAGE_HEADER_BYTES: usize = 688;
+
+/// The numbers of an image's header.
+pub const IMAGE_HEADER_NUMBERS: usize = 10;
+
+/// The numbers of an image's entries: two for each of 168.
+pub const IMAGE_PLACE_NUMBERS: usize = 336;
+
 /// A finding as the library lays it out for C.
 #[repr(C)]
 #[derive(Clone, Copy, Debug, Default, PartialEq, Eq)]
@@ -131,6 +140,24 @@ extern "C" {
         border_pulses: *mut usize,
         value: *mut usize,
     ) -> u32;
+    fn thikbromu_image_header(
+        first: *const u8,
+        length: usize,
+        image_length: usize,
+        numbers: *mut u32,
+        room: usize,
+        value: *mut usize,
+    ) -> u32;
+    fn thikbromu_image_entries(
+        first: *const u8,
+        length: usize,
+        image_length: usize,
+        places: *mut u32,
+        room: usize,
+        value: *mut usize,
+    ) -> u32;
+    fn thikbromu_image_sum(sum: u32, portion: *const u8, length: usize) -> u32;
+    fn thikbromu_image_check(first: *const u8, length: usize, image_length: usize, sum: u32, value: *mut usize) -> u32;
     fn thikbromu_sector(
         bytes: *const u8,
         length: usize,
@@ -837,6 +864,56 @@ pub fn file_listing(file: &[u8], out: &mut [u8]) -> usize {
 pub fn listing(packed: &[u8], cells: usize, track: u32, side: u32, out: &mut [u8]) -> usize {
     // SAFETY: each address and length are those of one slice; `out` is lent to this call alone.
     unsafe { thikbromu_listing(packed.as_ptr(), packed.len(), cells, track, side, out.as_mut_ptr(), out.len()) }
+}
+
+/// The header of a SuperCard Pro image (rules 9.71 and 19.1 to 19.7), of which `first` has the first 688 bytes or more, and which has `image_length`
+/// bytes in all. Its ten numbers go to the front of `numbers`, or as many as there is room for: version, disk type, revolutions, first track, last
+/// track, flags, cell width, heads, resolution and check sum. Gives 10. [`ImageHeader`](crate::ImageHeader) says what they are.
+///
+/// Refuses [`NotAnImage`](Refusal::NotAnImage), [`ImageHeader`](Refusal::ImageHeader); the numbers are then kept.
+#[inline]
+pub fn image_header(first: &[u8], image_length: usize, numbers: &mut [u32]) -> Result<usize, Refusal> {
+    // SAFETY: each address and length are those of one slice; `numbers` and `value` are lent to this call alone.
+    answer(|value| unsafe {
+        thikbromu_image_header(first.as_ptr(), first.len(), image_length, numbers.as_mut_ptr(), numbers.len(), value)
+    })
+}
+
+/// The entries of a SuperCard Pro image (rules 9.72 and 19.8 to 19.12), of which `first` has the first 688 bytes or more, and which has
+/// `image_length` bytes in all. Two numbers for each of the 168 entries go to the front of `places`, or as many as there is room for: where the
+/// block begins, and before what it has to end, both counted in bytes from the image's beginning; 0 and 0 where the track is not there. Entry
+/// 2 T + H is that of track T and side H. Gives how many tracks are there.
+///
+/// Refuses [`NotAnImage`](Refusal::NotAnImage), [`ImageHeader`](Refusal::ImageHeader), [`ImageEntry`](Refusal::ImageEntry); the places are then kept.
+#[inline]
+pub fn image_entries(first: &[u8], image_length: usize, places: &mut [u32]) -> Result<usize, Refusal> {
+    // SAFETY: each address and length are those of one slice; `places` and `value` are lent to this call alone.
+    answer(|value| unsafe {
+        thikbromu_image_entries(first.as_ptr(), first.len(), image_length, places.as_mut_ptr(), places.len(), value)
+    })
+}
+
+/// The sum of an image's bytes after a portion more, from the sum that the bytes before it left (rules 9.73 and 19.13), modulo 2^32. An image's
+/// sum begins with 0 and goes over all of its bytes from byte 16 on, in portions that are cut anywhere.
+///
+/// ```
+/// let sum = thikbromu::image_sum(0, &[250, 6]);
+/// assert_eq!(thikbromu::image_sum(sum, &[1]), 257);
+/// ```
+#[inline]
+pub fn image_sum(sum: u32, portion: &[u8]) -> u32 {
+    // SAFETY: the address and the length are those of one slice, which is only read.
+    unsafe { thikbromu_image_sum(sum, portion.as_ptr(), portion.len()) }
+}
+
+/// Whether the sum of an image's bytes is the one in its header (rules 9.74 and 19.14). Gives the sum. An image whose flags say that it may be
+/// written to is not judged by its sum.
+///
+/// Refuses [`NotAnImage`](Refusal::NotAnImage), [`ImageHeader`](Refusal::ImageHeader), [`ImageCheckSum`](Refusal::ImageCheckSum).
+#[inline]
+pub fn image_check(first: &[u8], image_length: usize, sum: u32) -> Result<usize, Refusal> {
+    // SAFETY: the address and the length are those of one slice, which is only read; `value` is lent to this call alone.
+    answer(|value| unsafe { thikbromu_image_check(first.as_ptr(), first.len(), image_length, sum, value) })
 }
 
 /// The page of a disk (rules 9.62 and 16.1 to 16.18) at the front of `out`, or as much of it as there is room for. Gives the length of the whole.

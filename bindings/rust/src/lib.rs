@@ -32,6 +32,7 @@ mod density;
 mod disk;
 mod finding;
 mod flux;
+mod image;
 mod refusal;
 mod sector;
 mod track;
@@ -42,7 +43,8 @@ mod writing;
 
 #[doc(inline)]
 pub use boundary::{
-    check_word, check_word_from, clear, convert_file, decode, encode, put_one, write_track, SECTOR_IMAGE_BYTES,
+    check_word, check_word_from, clear, convert_file, decode, encode, image_sum, put_one, write_track,
+    IMAGE_HEADER_BYTES, SECTOR_IMAGE_BYTES,
 };
 pub use coding::{decode_to_vec, encode_to_vec, MOST_BYTES_TO_CODE, MOST_BYTES_TO_DECODE};
 pub use density::Density;
@@ -52,6 +54,7 @@ pub use flux::{
     histogram, separate, separate_in_density, separate_in_density_to_vec, separate_to_vec, Cells, Separation,
     Separator, Step, Stepped, HISTOGRAM_COUNTS, LONGEST_TIMING, MOST_TIMINGS, SHORTEST_TIMING,
 };
+pub use image::{Image, ImageBlock, ImageHeader};
 pub use refusal::{NotARefusal, Refusal};
 pub use sector::{ReadOut, Sector, SectorData, Sectors, LONGEST_SECTOR};
 pub use track::{

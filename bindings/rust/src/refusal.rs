@@ -57,10 +57,18 @@ pub enum Refusal {
     NoPlainImage(usize),
     /// 25: the findings of a disk are not as many as its tracks say, or none that these tracks can have (rules 16.6 to 16.8).
     NotTheirFindings,
+    /// 26: the bytes are not the beginning of a SuperCard Pro image (rule 19.5).
+    NotAnImage,
+    /// 27: the place of the first byte of the image's header that is not taken, 5 to 11 (rule 19.6).
+    ImageHeader(usize),
+    /// 28: the first entry of the image whose block cannot stand where it is said to begin, 0 to 167 (rule 19.9).
+    ImageEntry(usize),
+    /// 29: the sum of the image's bytes, where its header says another one (rule 19.14).
+    ImageCheckSum(usize),
 }
 
 impl Refusal {
-    /// Its number: 1 to 25.
+    /// Its number: 1 to 29.
     pub const fn number(self) -> u32 {
         match self {
             Refusal::TrackOrSide => 1,
@@ -88,6 +96,10 @@ impl Refusal {
             Refusal::FluxSection => 23,
             Refusal::NoPlainImage(_) => 24,
             Refusal::NotTheirFindings => 25,
+            Refusal::NotAnImage => 26,
+            Refusal::ImageHeader(_) => 27,
+            Refusal::ImageEntry(_) => 28,
+            Refusal::ImageCheckSum(_) => 29,
         }
     }
 
@@ -105,7 +117,10 @@ impl Refusal {
             | Refusal::NoSuchSector(value)
             | Refusal::NoRoomForBytes(value)
             | Refusal::TooManyBytes(value)
-            | Refusal::NoPlainImage(value) => value,
+            | Refusal::NoPlainImage(value)
+            | Refusal::ImageHeader(value)
+            | Refusal::ImageEntry(value)
+            | Refusal::ImageCheckSum(value) => value,
             Refusal::TrackOrSide
             | Refusal::NoTimings
             | Refusal::NoData
@@ -118,7 +133,8 @@ impl Refusal {
             | Refusal::TrackGivenTwice
             | Refusal::TooManyTracks
             | Refusal::FluxSection
-            | Refusal::NotTheirFindings => 0,
+            | Refusal::NotTheirFindings
+            | Refusal::NotAnImage => 0,
         }
     }
 }
@@ -163,6 +179,10 @@ impl TryFrom<(u32, usize)> for Refusal {
             (23, 0) => Refusal::FluxSection,
             (24, _) => Refusal::NoPlainImage(value),
             (25, 0) => Refusal::NotTheirFindings,
+            (26, 0) => Refusal::NotAnImage,
+            (27, _) => Refusal::ImageHeader(value),
+            (28, _) => Refusal::ImageEntry(value),
+            (29, _) => Refusal::ImageCheckSum(value),
             _ => return Err(NotARefusal { number, value }),
         })
     }
@@ -200,7 +220,29 @@ impl fmt::Display for Refusal {
                 write!(out, "no plain image: sector {number} is missing, double, of another size or with a bad check")
             }
             Refusal::NotTheirFindings => write!(out, "not the findings of these tracks"),
+            Refusal::NotAnImage => write!(out, "not a SuperCard Pro image"),
+            Refusal::ImageHeader(place) => write!(out, "byte {place} of the image's header: {}", header_fault(*place)),
+            Refusal::ImageEntry(entry) => {
+                write!(out, "the block of entry {entry} (track {}, side {}) cannot stand there", entry / 2, entry % 2)
+            }
+            Refusal::ImageCheckSum(sum) => {
+                write!(out, "the image's bytes add up to {sum}, and its header says another sum")
+            }
         }
+    }
+}
+
+/// What is wrong with the byte of an image's header at a place (rule 19.6).
+fn header_fault(place: usize) -> &'static str {
+    match place {
+        5 => "there are no revolutions",
+        6 => "the first track is above the last",
+        7 => "the last track is above 167",
+        8 => "an image of another medium than a floppy disk",
+        9 => "the values have not 16 bits",
+        10 => "the heads are not 0, 1 or 2",
+        11 => "the unit is not 25 ns",
+        _ => "not taken",
     }
 }
 
@@ -221,8 +263,8 @@ mod tests {
     #[test]
     fn numbers_and_values_are_those_of_the_table() {
         // The refusals beside which 0 is given.
-        let without_value = [1, 6, 12, 15, 16, 17, 18, 19, 20, 21, 22, 23, 25];
-        for number in 1..=25 {
+        let without_value = [1, 6, 12, 15, 16, 17, 18, 19, 20, 21, 22, 23, 25, 26];
+        for number in 1..=29 {
             for value in [0, 7] {
                 let refusal = Refusal::try_from((number, value));
                 if value != 0 && without_value.contains(&number) {
@@ -236,7 +278,7 @@ mod tests {
 
     #[test]
     fn other_numbers_are_no_refusals() {
-        for number in [0, 26, u32::MAX] {
+        for number in [0, 30, u32::MAX] {
             assert_eq!(Refusal::try_from((number, 0)), Err(NotARefusal { number, value: 0 }));
         }
     }

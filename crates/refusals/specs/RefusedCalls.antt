@@ -6,9 +6,9 @@ use Rattle.basis.specs.Lists.{writtenOver}
 use Rattle.refusals.specs.declared.Counted.{Counted}
 use Rattle.refusals.specs.declared.Counted.the-variants.{Count, Refused}
 use Rattle.refusals.specs.declared.Refusal.{Refusal}
-use Rattle.refusals.specs.declared.Refusal.the-variants.{TrackOrSide, CellCount, TooFewBytes, TooManySectors, ListTooShort, NoTimings, TooManyTimings, TimingOutOfRange, TooManyCells, NoRoom, NoSuchSector, NoData, NoRoomForBytes, TooManyBytes, NotATrackFile, NotATrackBlock, NoSuchRevolution, LengthsDiffer, NotASectorLength, TooLongATrack, TrackGivenTwice, TooManyTracks, FluxSection, NoPlainImage, NotTheirFindings}
+use Rattle.refusals.specs.declared.Refusal.the-variants.{TrackOrSide, CellCount, TooFewBytes, TooManySectors, ListTooShort, NoTimings, TooManyTimings, TimingOutOfRange, TooManyCells, NoRoom, NoSuchSector, NoData, NoRoomForBytes, TooManyBytes, NotATrackFile, NotATrackBlock, NoSuchRevolution, LengthsDiffer, NotASectorLength, TooLongATrack, TrackGivenTwice, TooManyTracks, FluxSection, NoPlainImage, NotTheirFindings, NotAnImage, ImageHeader, ImageEntry, ImageCheckSum}
 
--- 8.1, 8.2, 8.3, 8.4, 8.5, 8.6, 8.7, 8.8, 8.9, 8.10, 8.11, 8.12, 8.13, 8.14, 8.15, 8.16, 8.17, 8.18, 8.19, 8.20, 8.21, 8.22, 8.23, 8.24, 8.25: `numberOf`
+-- 8.1, 8.2, 8.3, 8.4, 8.5, 8.6, 8.7, 8.8, 8.9, 8.10, 8.11, 8.12, 8.13, 8.14, 8.15, 8.16, 8.17, 8.18, 8.19, 8.20, 8.21, 8.22, 8.23, 8.24, 8.25, 8.26, 8.27, 8.28, 8.29: `numberOf`
 -- is the number of a refusal, the K of rule 8.K, and `valueOf` what is given beside it: the number that it carries, or 0 where it carries none
 abbrev pub numberOf : Refusal → ℕ
 numberOf TrackOrSide = 1
@@ -36,6 +36,10 @@ numberOf TooManyTracks = 22
 numberOf FluxSection = 23
 numberOf (NoPlainImage number) = 24
 numberOf NotTheirFindings = 25
+numberOf NotAnImage = 26
+numberOf (ImageHeader place) = 27
+numberOf (ImageEntry entry) = 28
+numberOf (ImageCheckSum sum) = 29
 
 abbrev pub valueOf : Refusal → ℕ
 valueOf TrackOrSide = 0
@@ -63,6 +67,10 @@ valueOf TooManyTracks = 0
 valueOf FluxSection = 0
 valueOf (NoPlainImage number) = number
 valueOf NotTheirFindings = 0
+valueOf NotAnImage = 0
+valueOf (ImageHeader place) = place
+valueOf (ImageEntry entry) = entry
+valueOf (ImageCheckSum sum) = sum
 
 -- 8.33: what a call answers, whatever it is called with: what an accepted call gives, or a refusal's number and what is given beside it
 pub data Answer (A : Type 0) : Type 0 where

@@ -54,6 +54,14 @@ pub enum Refusal {
     NoPlainImage(usize),
     // 25: what is given is no list of the tracks' findings.
     NotTheirFindings,
+    // 26: not a SuperCard Pro image.
+    NotAnImage,
+    // 27: the place of the first byte of an image's header that is not taken.
+    ImageHeader(usize),
+    // 28: the first entry of an image whose block is not where it can stand.
+    ImageEntry(usize),
+    // 29: the sum of an image's bytes, where its header says another one.
+    ImageCheckSum(usize),
 }
 
 // What a call answers that counts something, as bytes written or findings: their number, or a refusal.
@@ -93,6 +101,10 @@ impl Refusal {
             Refusal::FluxSection => 23,
             Refusal::NoPlainImage(_) => 24,
             Refusal::NotTheirFindings => 25,
+            Refusal::NotAnImage => 26,
+            Refusal::ImageHeader(_) => 27,
+            Refusal::ImageEntry(_) => 28,
+            Refusal::ImageCheckSum(_) => 29,
         }
     }
 
@@ -126,6 +138,10 @@ impl Refusal {
             Refusal::FluxSection => 0,
             Refusal::NoPlainImage(number) => number,
             Refusal::NotTheirFindings => 0,
+            Refusal::NotAnImage => 0,
+            Refusal::ImageHeader(place) => place,
+            Refusal::ImageEntry(entry) => entry,
+            Refusal::ImageCheckSum(sum) => sum,
         }
     }
 }

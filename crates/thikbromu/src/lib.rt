@@ -12,6 +12,7 @@ mod disks;
 mod files;
 mod images;
 mod reads;
+mod scp_images;
 mod single_density;
 mod writing;
 
@@ -28,6 +29,10 @@ pub use images::thikbromu_sector_image;
 use layouts::Density;
 pub use reads::thikbromu_compare_reads;
 pub use reads::thikbromu_good_read;
+pub use scp_images::thikbromu_image_check;
+pub use scp_images::thikbromu_image_entries;
+pub use scp_images::thikbromu_image_header;
+pub use scp_images::thikbromu_image_sum;
 pub use single_density::thikbromu_fm_finding_records;
 pub use single_density::thikbromu_fm_findings;
 pub use single_density::thikbromu_fm_read_out;

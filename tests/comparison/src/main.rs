@@ -19,6 +19,7 @@ mod files;
 mod findings;
 mod flux;
 mod image_program;
+mod images;
 mod program;
 mod report;
 mod sector_image;
@@ -39,7 +40,7 @@ use std::thread;
 type Part = fn(&mut Report);
 
 /// The parts, by their modules. The long ones come first, so that no worker is left alone with one at the end.
-const PARTS: [(&str, Part); 78] = [
+const PARTS: [(&str, Part); 81] = [
     ("converter", converter::old_files),
     ("files", files::in_memory),
     ("findings", findings::any_tracks),
@@ -77,6 +78,9 @@ const PARTS: [(&str, Part); 78] = [
     ("writing_program", writing_program::whole_lists),
     ("blocks", blocks::timings),
     ("blocks", blocks::short_rooms),
+    ("images", images::fronts),
+    ("images", images::sums),
+    ("images", images::reached),
     ("two_reads", two_reads::pairs),
     ("two_reads", two_reads::data_marks),
     ("sector_image", sector_image::any_tracks),

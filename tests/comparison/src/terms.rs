@@ -38,6 +38,10 @@ fn refusal(ours: thikbromu::Refusal) -> Refusal {
         // The second program has a byte there: another number shows as a difference.
         Ours::NoPlainImage(number) => Refusal::no_plain_image(u8::try_from(number).unwrap_or(u8::MAX)),
         Ours::NotTheirFindings => Refusal::not_findings_of_a_disk(),
+        Ours::NotAnImage => Refusal::not_an_image(),
+        Ours::ImageHeader(place) => Refusal::header_byte_not_taken(place),
+        Ours::ImageEntry(entry) => Refusal::no_place_for_a_block(entry),
+        Ours::ImageCheckSum(sum) => Refusal::other_check_sum(u32::try_from(sum).unwrap_or(u32::MAX)),
     }
 }
 
@@ -106,6 +110,10 @@ pub fn tables(report: &mut Report) {
         Refusal::flux_section(),
         Refusal::no_plain_image(7),
         Refusal::not_findings_of_a_disk(),
+        Refusal::not_an_image(),
+        Refusal::header_byte_not_taken(7),
+        Refusal::no_place_for_a_block(7),
+        Refusal::other_check_sum(7),
     ];
     for row in rows {
         let ours = thikbromu::Refusal::try_from((row.number, row.value as usize));

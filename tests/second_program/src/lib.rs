@@ -1,5 +1,5 @@
 //! The second program: a track's cells, sectors, findings, files and blocks, and a disk's
-//! page, in plain Rust.
+//! page and image, in plain Rust.
 //!
 //! It was written from the papers that the project was given, and neither from the
 //! library nor from its statements: where one of the two misreads a rule, the comparison
@@ -13,6 +13,7 @@ pub mod check_word;
 pub mod converter;
 pub mod disk_page;
 pub mod findings;
+pub mod image;
 pub mod listing;
 pub mod mfm;
 pub mod old_track_file;

@@ -24,7 +24,7 @@ pub const MOST_BYTES_TO_DECODE: usize = 16_384;
 /// A refused call: the number of the refusal, and what is given beside it.
 #[derive(Clone, Copy, Debug, PartialEq, Eq)]
 pub struct Refusal {
-    /// The number, 1 to 25.
+    /// The number, 1 to 29.
     pub number: u32,
     /// What is given beside it.
     pub value: u64,
@@ -173,6 +173,26 @@ impl Refusal {
     pub fn not_findings_of_a_disk() -> Refusal {
         Refusal::new(25, 0)
     }
+
+    /// 26: the bytes are no image. Beside it: 0.
+    pub fn not_an_image() -> Refusal {
+        Refusal::new(26, 0)
+    }
+
+    /// 27: a byte of an image's header is not one that is taken. Beside it: its place.
+    pub fn header_byte_not_taken(place: usize) -> Refusal {
+        Refusal::new(27, place)
+    }
+
+    /// 28: a block of an image is not where one can stand. Beside it: its entry.
+    pub fn no_place_for_a_block(entry: usize) -> Refusal {
+        Refusal::new(28, entry)
+    }
+
+    /// 29: the header of an image has another check sum. Beside it: the sum of the bytes.
+    pub fn other_check_sum(sum: u32) -> Refusal {
+        Refusal::new(29, sum as usize)
+    }
 }
 
 #[cfg(test)]
@@ -210,6 +230,10 @@ mod tests {
             (Refusal::no_plain_image(0), 24, 0),
             (Refusal::no_plain_image(9), 24, 9),
             (Refusal::not_findings_of_a_disk(), 25, 0),
+            (Refusal::not_an_image(), 26, 0),
+            (Refusal::header_byte_not_taken(11), 27, 11),
+            (Refusal::no_place_for_a_block(167), 28, 167),
+            (Refusal::other_check_sum(u32::MAX), 29, 4_294_967_295),
         ];
         for (refusal, number, value) in rows {
             assert_eq!(refusal, Refusal { number, value });

@@ -1,0 +1,5 @@
+pub mod Judging
+pub mod Entries
+pub mod Sums
+pub mod Laws
+pub mod Calls

@@ -1,0 +1,4 @@
+pub mod Header
+pub mod Entries
+pub mod CheckSum
+pub mod Laws
