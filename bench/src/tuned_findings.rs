@@ -71,8 +71,7 @@ fn count(map: &Map, start: usize, end: usize) -> usize {
 }
 
 /// The cells of a track as a map, the track going on round.
-fn load(packed: &[u8], n: usize) -> Box<Map> {
-    let mut map = Box::new([0; WORDS]);
+fn load(packed: &[u8], n: usize, map: &mut Map) {
     let mut eights = packed[..bytes_needed(n)].chunks_exact(8);
     for (word, eight) in map.iter_mut().zip(&mut eights) {
         *word = u64::from_be_bytes(eight.try_into().expect("eight bytes"));
@@ -87,10 +86,9 @@ fn load(packed: &[u8], n: usize) -> Box<Map> {
     // Cell n + i is cell i.
     let first = map[0];
     map[last] |= first >> over;
-    for index in last + 1..WORDS {
-        map[index] = from(&map, 64 * index - n);
+    for index in last + 1..last + 291 {
+        map[index] = from(map, 64 * index - n);
     }
-    map
 }
 
 /// A sector: its ID mark and what is read from it, its data mark where it has one, and the syncs within.
@@ -157,10 +155,11 @@ pub fn findings(track: u32, side: u32, packed: &[u8], n: usize, list: &mut [Find
     if packed.len() < bytes_needed(n) {
         return Err(Refusal::too_few_bytes_of_cells(bytes_needed(n)));
     }
-    let cells = load(packed, n);
+    let mut cells = [0; WORDS];
+    load(packed, n, &mut cells);
     let words = n / 64 + 290;
     // One pass: the gaps between ones, whether a word is 0, and the places of 10001001, of which two make a sync.
-    let mut halves = Box::new([0; WORDS]);
+    let mut halves = [0; WORDS];
     let (mut first_gap, mut gaps, mut empty_word) = (n, 0, false);
     for word in 0..words {
         let (x, y) = (cells[word], cells[word + 1]);
@@ -179,7 +178,7 @@ pub fn findings(track: u32, side: u32, packed: &[u8], n: usize, list: &mut [Find
         }
         empty_word |= x == 0;
     }
-    let mut syncs = Box::new([0; WORDS]);
+    let mut syncs = [0; WORDS];
     for word in 0..words - 1 {
         let (x, y) = (halves[word], halves[word + 1]);
         syncs[word] = (x << 1 | y >> 63) & (x << 8 | y >> 56) & !cells[word];
