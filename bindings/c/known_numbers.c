@@ -375,8 +375,9 @@ static void test_images(void)
     uint32_t others = 0;
     for (size_t i = 0; i < THIKBROMU_IMAGE_PLACE_NUMBERS; i++) others += i > 1 && i != 6 && i != 7 ? places[i] : 0;
     EXPECT(others == 0 && places[THIKBROMU_IMAGE_PLACE_NUMBERS] == 7);
-    GIVES(thikbromu_revolution_timings(image + places[6], places[7] - places[6], 2, 0, timings, 3, &value), 3);
-    EXPECT(timings[0] == 4000 && timings[1] == 6000 && timings[2] == 8000);
+    size_t border_pulses = 7;
+    GIVES(thikbromu_revolution_timings(image + places[6], places[7] - places[6], 2, 0, timings, 3, &border_pulses, &value), 3);
+    EXPECT(timings[0] == 4000 && timings[1] == 6000 && timings[2] == 8000 && border_pulses == 0);
 
     /* The sum of all bytes from 16 on, in two portions. */
     uint32_t sum = 0;

@@ -73,7 +73,7 @@ impl ImageBlock {
 /// assert_eq!(block, ImageBlock { track: 1, side: 1, start: 688, end: 706 });
 /// assert_eq!(image.block(1, 0), None);
 /// let revolutions = image.header().revolutions.into();
-/// assert_eq!(TrackBlock::new(&bytes[block.range()], revolutions).timings(0)?, [4_000]);
+/// assert_eq!(TrackBlock::new(&bytes[block.range()], revolutions).timings(0)?.list, [4_000]);
 /// // The sum of these bytes is another than 0, which the header says.
 /// let sum = thikbromu::image_sum(0, &bytes[16..]);
 /// assert_eq!(image.judge_sum(sum), Err(Refusal::ImageCheckSum(sum as usize)));

@@ -339,9 +339,10 @@ fn a_whole_image_in_memory() {
     assert_eq!(Image::whole(&bytes), Err(Refusal::ImageCheckSum(sum as usize)));
     bytes[12..16].copy_from_slice(&sum.to_le_bytes());
     let image = Image::whole(&bytes).unwrap();
-    let timings = |track, side| TrackBlock::new(&bytes[image.block(track, side).unwrap().range()], 1).timings(0);
-    assert_eq!(timings(1, 0), Ok(vec![4_000]));
-    assert_eq!(timings(1, 1), Ok(vec![4_025]));
+    let timings =
+        |track, side| TrackBlock::new(&bytes[image.block(track, side).unwrap().range()], 1).timings(0).unwrap().list;
+    assert_eq!(timings(1, 0), vec![4_000]);
+    assert_eq!(timings(1, 1), vec![4_025]);
     // The entries are judged before the sum.
     bytes[16 + 4 * 3] -= 40;
     assert_eq!(Image::whole(&bytes), Err(Refusal::ImageEntry(3)));
