@@ -2,20 +2,33 @@
 use crate::Gaps;
 use cell_words::WORDS;
 use layouts::Density;
+use sector_records::MOST_CELLS;
 ghost use mathlib.Core.Path.{_≡_};
 ghost use mathlib.Core.Bool.{Bool, true, cond};
 ghost use Prim.Native.Nat.{ℕ, _+_, _-_, _*_, _/_, _<_, _≤_};
 ghost use lib.ListN.{length};
-ghost use Rattle.basis.specs.Search.{least, count};
+ghost use Rattle.basis.specs.Search.{least};
 ghost use Rattle.cells.specs.CellsAndBytes.{cell};
 ghost use Rattle.cell_words.specs.Words.{Holds, MapOf};
 ghost use Rattle.cell_words.specs.Tests.{oneAt, bothAt};
 ghost use Rattle.layouts.specs.Layouts.{doubleDensity, layoutOf};
-ghost use Rattle.sector_records.specs.Marks.{wordMarkAt};
 ghost use Rattle.cell_patterns.specs.Cells.{gapsOf, violation, longestRun, longestStart};
 
-// MTV and NFA. Where a run has 63 zeros or more, it is left to the pass over all cells.
+// MTV and NFA. A track that is very short or very long is left to the pass over all cells.
 pub fn gaps_by_words(density: Density, bytes: &[u8], n: usize) -> Gaps
+    ensures { λ r. ⌜ r ≡ gapsOf (layoutOf density) (cell (now (bytes .entry)) n) n ⌝ }
+{
+    if n < FEWEST_CELLS {
+        return crate::gaps_by_cells(density, bytes, n);
+    }
+    if MOST_CELLS < n {
+        return crate::gaps_by_cells(density, bytes, n);
+    }
+    gaps_on_maps(density, bytes, n)
+}
+
+// The same for other tracks. Where a run has 63 zeros or more, it is left to that pass too.
+fn gaps_on_maps(density: Density, bytes: &[u8], n: usize) -> Gaps
     requires { ⌜ (128 ≤ n) × (n ≤ 131072) ⌝ }
     ensures { λ r. ⌜ r ≡ gapsOf (layoutOf density) (cell (now (bytes .entry)) n) n ⌝ }
 {
@@ -36,6 +49,9 @@ pub fn gaps_by_words(density: Density, bytes: &[u8], n: usize) -> Gaps
     }
     crate::gaps_by_cells(density, bytes, n)
 }
+
+// Shorter tracks than this are not worth maps.
+const FEWEST_CELLS: usize = 128;
 
 // How many words a map has beside those of the whole words of a track: each turn of the bisection costs one.
 const SPARE: usize = 68;
@@ -110,21 +126,4 @@ fn more_zeros(zeros: &mut [u64; WORDS], k: usize, n: usize, m: usize) -> usize
     } else {
         at
     }
-}
-
-// How many syncs of double density begin from `from` and before `end`.
-pub fn count_syncs(bytes: &[u8], n: usize, from: usize, end: usize) -> usize
-    requires { ⌜ (end ≤ 0x2_0000_0000) × (from ≤ 0x2_0000_0000) ⌝ }
-    ensures { λ r. ⌜ r ≡ count (wordMarkAt (cell (now (bytes .entry)) n) 0x4489) (end - from) from ⌝ }
-{
-    let mut syncs: usize = 0;
-    let mut p = from;
-    let mut cells = cell_words::word_from(bytes, n, p);
-    while p < end {
-        let next = cell_words::word_from(bytes, n, p + 64);
-        syncs += cell_words::count_first(cell_words::syncs_in(cells, next), end - p);
-        cells = next;
-        p += 64;
-    }
-    syncs
 }

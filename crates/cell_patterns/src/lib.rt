@@ -5,16 +5,16 @@ mod by_words;
 use layouts::Density;
 use layouts::layout_of;
 use sector_records::BYTE_LENGTH;
-use sector_records::MOST_CELLS;
 use sector_records::Sector;
 ghost use mathlib.Core.Path.{_≡_};
 ghost use mathlib.Core.Bool.{cond, _||_};
-ghost use Prim.Native.Nat.{_+_, _<_, _≤_};
+ghost use Prim.Native.Nat.{_+_, _-_, _<_, _≤_};
 ghost use lib.Dec.{ltb};
-ghost use Rattle.basis.specs.Search.{least};
+ghost use Rattle.basis.specs.Search.{least, count};
 ghost use Rattle.cells.specs.CellsAndBytes.{cell};
 ghost use Rattle.layouts.specs.Layouts.{layoutOf};
 ghost use Rattle.layouts.specs.declared.Layout.{Layout};
+ghost use Rattle.sector_records.specs.Marks.{wordMarkAt};
 ghost use Rattle.sector_records.specs.Sectors.{hasData};
 ghost use Rattle.cell_patterns.specs.Cells.{isOne, gapsOf, syncsBetween, syncsInside};
 
@@ -31,12 +31,6 @@ pub struct Gaps {
 pub fn find_gaps(density: Density, bytes: &[u8], n: usize) -> Gaps
     ensures { λ r. ⌜ r ≡ gapsOf (layoutOf density) (cell (now (bytes .entry)) n) n ⌝ }
 {
-    if n < FEWEST_CELLS {
-        return gaps_by_cells(density, bytes, n);
-    }
-    if MOST_CELLS < n {
-        return gaps_by_cells(density, bytes, n);
-    }
     by_words::gaps_by_words(density, bytes, n)
 }
 
@@ -122,9 +116,6 @@ fn wide(place: u32) -> usize
     place as usize
 }
 
-// How many cells a track must have, and may have at most, to be looked at word by word.
-const FEWEST_CELLS: usize = 128;
-
 // In double density a next one 2, 3 or 4 cells on leaves 1 to 3 zeros between the two; in single density one that is 1 or 2 cells on leaves
 // 0 or 1.
 const FEWEST_ZEROS: usize = 1;
@@ -188,12 +179,29 @@ fn syncs_between(sync: u64, bytes: &[u8], n: usize, from: usize, to: usize) -> u
         if to < BYTE_LENGTH {
             return 0;
         }
-        return by_words::count_syncs(bytes, n, from, to - (BYTE_LENGTH - 1));
+        return count_syncs(bytes, n, from, to - (BYTE_LENGTH - 1));
     }
     syncs_by_search(sync, bytes, n, from, to)
 }
 
-// The same for any word, from one that is found to the next.
+// How many syncs of double density begin from `from` and before `end`.
+fn count_syncs(bytes: &[u8], n: usize, from: usize, end: usize) -> usize
+    requires { ⌜ (end ≤ 0x2_0000_0000) × (from ≤ 0x2_0000_0000) ⌝ }
+    ensures { λ r. ⌜ r ≡ count (wordMarkAt (cell (now (bytes .entry)) n) 0x4489) (end - from) from ⌝ }
+{
+    let mut syncs: usize = 0;
+    let mut p = from;
+    let mut cells = cell_words::word_from(bytes, n, p);
+    while p < end {
+        let next = cell_words::word_from(bytes, n, p + 64);
+        syncs += cell_words::count_first(cell_words::syncs_in(cells, next), end - p);
+        cells = next;
+        p += 64;
+    }
+    syncs
+}
+
+// The same as `syncs_between` for any word, from one that is found to the next.
 fn syncs_by_search(sync: u64, bytes: &[u8], n: usize, from: usize, to: usize) -> usize
     ensures { λ r. ⌜ r ≡ syncsBetween sync (cell (now (bytes .entry)) n) from to ⌝ }
 {

@@ -89,14 +89,11 @@ pub fn read(root: &Path) -> Repository {
             );
         }
         for path in with_ending(folder.join("src"), "rt") {
-            let module = stem(&path);
-            let root = folder.join("src/lib.rt");
-            let seen = functions(krate, &format!("src/{module}.rt"), &text(&path))
-                .into_iter()
-                .filter(|function| {
-                    module == "lib" || !root.exists() || is_seen(function, &module, &text(&root))
-                });
-            repository.functions.extend(seen);
+            repository.functions.extend(functions(
+                krate,
+                &format!("src/{}.rt", stem(&path)),
+                &text(&path),
+            ));
         }
         for path in with_ending(folder.join("must-fail"), "edit") {
             repository
@@ -105,14 +102,6 @@ pub fn read(root: &Path) -> Repository {
         }
     }
     repository
-}
-
-/// Whether others see a public function of a module, by the text of the crate's root. Modules are private: a function is seen where the root hands it
-/// on, or where it is one for C. A method goes with its type.
-fn is_seen(function: &Function, module: &str, root: &str) -> bool {
-    function.name.contains("::")
-        || function.name.starts_with("thikbromu_")
-        || root.contains(&format!("pub use {module}::{};", function.name))
 }
 
 /// The rules that tests name, with the file. This program's own fixtures name rules too, and do not count.

@@ -1,4 +1,4 @@
--- `cell_patterns::by_words::gaps_by_words` meets its contract. Assumes nothing.
+-- `cell_patterns::by_words::gaps_on_maps` meets its contract. Assumes nothing.
 use Prim.Native.Nat.{ℕ, _+_, _-_, _/_}
 use mathlib.Core.Path.{_≡_, ap, _∙_}
 use native.Mathlib.Omega.{arith}
@@ -10,8 +10,8 @@ use Rattle.cell_words.proofs.Words.{holds-less}
 use Rattle.layouts.specs.Layouts.{layoutOf}
 use Rattle.cell_patterns.specs.Cells.{violation, gapsOf}
 use borrow.Author.Needs.{needs}
-use Rattle.cell_patterns.proofs.by_words.gaps_by_words.Statement.{statement}
-use Rattle.cell_patterns.proofs.by_words.gaps_by_words.Tie as tie
+use Rattle.cell_patterns.proofs.by_words.gaps_on_maps.Statement.{statement}
+use Rattle.cell_patterns.proofs.by_words.gaps_on_maps.Tie as tie
 
 add-load : tie.Need-add-load
 add-load c = search needs
@@ -61,8 +61,8 @@ gaps-by-cells-requires c κs = search needs
 returns-2 : tie.Need-returns-2
 returns-2 c = search needs
 
-pub gaps-by-words-spec : {M : Type 1} → statement M
-gaps-by-words-spec =
+pub gaps-on-maps-spec : {M : Type 1} → statement M
+gaps-on-maps-spec =
     tie.close
     (tie.spec
     add-load

@@ -1,4 +1,4 @@
--- `cell_patterns::by_words::count_syncs` meets its contract: the syncs before p are counted. Assumes nothing.
+-- `cell_patterns::count_syncs` meets its contract: the syncs before p are counted. Assumes nothing.
 use Prim.Native.Nat.{ℕ, _+_, _-_, _≤_}
 use mathlib.Core.Path.{_≡_, _∙_}
 use native.Mathlib.Omega.{arith}
@@ -9,8 +9,8 @@ use Rattle.cells.proofs.Places.{cell-lt}
 use Rattle.sector_records.specs.Marks.{wordMarkAt}
 use Rattle.cell_patterns.proofs.Counting.{syncs-word, count-turn}
 use borrow.Author.Needs.{needs}
-use Rattle.cell_patterns.proofs.by_words.count_syncs.Statement.{statement}
-use Rattle.cell_patterns.proofs.by_words.count_syncs.Tie as tie
+use Rattle.cell_patterns.proofs.count_syncs.Statement.{statement}
+use Rattle.cell_patterns.proofs.count_syncs.Tie as tie
 
 abbrev Inv-loop : tie.InvT-loop
 Inv-loop bytes n from end syncs₀ p₀ cells₀ syncs p cells =
