@@ -98,14 +98,19 @@ fn three<A, B, C>(what: &str, mut ours: impl FnMut() -> A, mut tuned: impl FnMut
 }
 
 /// The tracks of 100,000 cells that the tuned version is measured on.
-fn tuned_tracks() -> [(&'static str, Vec<u8>); 5] {
+fn tuned_tracks() -> [(&'static str, Vec<u8>); 8] {
     let mut random = Random::new(5);
+    let mut without_flux = cells::pack(&standard_track(0, 0, 0xE5));
+    without_flux[6_000..6_250].fill(0);
     [
         ("standard track", cells::pack(&standard_track(0, 0, 0xE5))),
         ("random cells", (0..12_500).map(|_| random.byte()).collect()),
         ("64 sectors", track_with(64, 100_000)),
         ("no sectors", track_with(0, 100_000)),
         ("full of syncs", (0..12_500).map(|index| [0x44, 0x89][index % 2]).collect()),
+        ("an area without flux", without_flux),
+        ("no flux", vec![0; 12_500]),
+        ("a one in 72 cells", (0..12_500).map(|index| u8::from(index % 9 == 0)).collect()),
     ]
 }
 

@@ -3,4 +3,5 @@ pub mod Runs
 pub mod Syncs
 pub mod Levels
 pub mod Violations
-pub mod Counting
+pub mod LongRuns
+pub mod Rounds

@@ -1,7 +1,8 @@
 -- Section 7 of the specification, rules 7.38 to 7.42, 7.45 and 7.46: what the kinds SID, MTV and NFA look at. f are the cells of a track of n cells, which
 -- go on round it. The main property: `gapsOf` is what MTV and NFA tell of a track, `syncsInside` what SID tells of a sector. Assumes
 -- nothing.
-use Prim.Native.Nat.{ℕ, _+_, _-_}
+use Prim.Native.Nat.{ℕ, _+_, _-_, _<_, _≤_}
+use mathlib.Core.Path.{_≡_}
 use mathlib.Core.Bool.{Bool, cond, _&&_, _||_}
 use lib.Dec.{eqb, ltb}
 use Rattle.basis.specs.Search.{least, count, most}
@@ -50,6 +51,19 @@ gapsOf layout f n =
       start = longestStart f n;
       longest = longestRun f n;
     }
+
+-- 7.21, 7.41, 7.42: the longest run, as NFA asks for it: its start and its length where it has 1,000 zeros or more, and else only that it has fewer
+pub record LongRun (f : ℕ → ℕ) (n start longest : ℕ) : Type 0 where
+  pub long : 1000 ≤ longestRun f n → (start ≡ longestStart f n) × (longest ≡ longestRun f n)
+  pub short : longestRun f n < 1000 → longest < 1000
+  pub start-few : start ≤ n
+  pub longest-few : longest ≤ n
+
+-- 7.20, 7.21: `gapsOf`, with the longest run as NFA asks for it
+pub record GapsFound (layout : Layout) (f : ℕ → ℕ) (n : ℕ) (gaps : Gaps) : Type 0 where
+  pub first : gaps .first ≡ gapsOf layout f n .first
+  pub violations : gaps .violations ≡ gapsOf layout f n .violations
+  pub run : LongRun f n (gaps .start) (gaps .longest)
 
 -- 7.38, 7.45: how often a word has all its 16 cells from a up to b: it begins at a or after it, and at b - 16 or before it. Those that
 -- overlap all count

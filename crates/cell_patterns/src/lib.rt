@@ -1,22 +1,22 @@
 // What the kinds MTV, NFA and SID count on the cells of a track (rules 7.38 to 7.42, 7.45, 7.46): ones too near or too far, the longest run
-// of zeros, and sync words.
-mod by_words;
+// of zeros, and sync words. All of it goes over maps of 64 places a word (crate cell_words).
+mod zeros;
 
+use cell_words::WORDS;
 use layouts::Density;
 use layouts::layout_of;
 use sector_records::BYTE_LENGTH;
 use sector_records::Sector;
 ghost use mathlib.Core.Path.{_≡_};
-ghost use mathlib.Core.Bool.{cond, _||_};
-ghost use Prim.Native.Nat.{_+_, _-_, _<_, _≤_};
-ghost use lib.Dec.{ltb};
-ghost use Rattle.basis.specs.Search.{least, count};
-ghost use Rattle.cells.specs.CellsAndBytes.{cell};
-ghost use Rattle.layouts.specs.Layouts.{layoutOf};
-ghost use Rattle.layouts.specs.declared.Layout.{Layout};
+ghost use mathlib.Core.Bool.{Bool};
+ghost use Prim.Native.Nat.{ℕ, _+_, _-_, _/_, _<_, _≤_};
+ghost use lib.ListN.{length};
+ghost use Rattle.basis.specs.Search.{count};
+ghost use Rattle.cell_words.specs.Words.{Holds, MapOf};
+ghost use Rattle.cell_words.specs.Tests.{oneAt};
+ghost use Rattle.layouts.specs.Layouts.{doubleDensity, layoutOf};
 ghost use Rattle.sector_records.specs.Marks.{wordMarkAt};
-ghost use Rattle.sector_records.specs.Sectors.{hasData};
-ghost use Rattle.cell_patterns.specs.Cells.{isOne, gapsOf, syncsBetween, syncsInside};
+ghost use Rattle.cell_patterns.specs.Cells.{violation, GapsFound, syncsBetween, syncsInside};
 
 // What MTV and NFA look at: the first one whose next one is too near or too far, n where there is none, and how many there
 // are; the start of the longest run of zeros, of equal ones the least, and its length.
@@ -27,195 +27,82 @@ pub struct Gaps {
     pub longest: usize,
 }
 
-// MTV and NFA.
-pub fn find_gaps(density: Density, bytes: &[u8], n: usize) -> Gaps
-    ensures { λ r. ⌜ r ≡ gapsOf (layoutOf density) (cell (now (bytes .entry)) n) n ⌝ }
+// MTV and NFA, out of the map of the ones of a track of 128 to 131,072 cells. Of the runs of zeros, those are gone into that NFA can ask for.
+pub fn find_gaps(density: Density, words: &[u64; WORDS], n: usize) -> Gaps
+    ensures { λ r. ⌜ ((f : ℕ → ℕ) → ((q : ℕ) → f (q + n) ≡ f q) → 128 ≤ n → n ≤ 131072 → Holds (oneAt f) (now (words .entry)) (n / 64 + 68) → GapsFound (layoutOf density) f n r) ⌝ }
 {
-    by_words::gaps_by_words(density, bytes, n)
-}
-
-// The same in one pass from the last cell to the first: the zeros after a cell are then known when it is reached.
-fn gaps_by_cells(density: Density, bytes: &[u8], n: usize) -> Gaps
-    ensures { λ r. ⌜ r ≡ gapsOf (layoutOf density) (cell (now (bytes .entry)) n) n ⌝ }
-{
-    match density {
-        Density::Single => {
-            gaps_between(
-                FEWEST_ZEROS_OF_SINGLE_DENSITY,
-                MOST_ZEROS_OF_SINGLE_DENSITY,
-                bytes,
-                n,
-            )
-        }
-        Density::Double => gaps_between(FEWEST_ZEROS, MOST_ZEROS, bytes, n),
-    }
-}
-
-// The same for a density with so many zeros between ones, fewest and most.
-fn gaps_between(fewest: usize, most: usize, bytes: &[u8], n: usize) -> Gaps
-    ensures { λ r. ⌜ ((layout : Layout) → fewest + 1 ≡ layout .nearest → most + 1 ≡ layout .farthest → r ≡ gapsOf layout (cell (now (bytes .entry)) n) n) ⌝ }
-{
-    let mut zeros = zeros_at_start(bytes, n);
-    let mut violations: usize = 0;
-    let mut first = n;
-    let mut longest: usize = 0;
-    let mut start = n;
-    let mut p = n;
-    while 0 < p {
-        p -= 1;
-        let one = cells::cell_at(bytes, p) == 1;
-        let violation = one & unlawful(fewest, most, zeros);
-        violations += one_if(violation);
-        first = chosen(violation, p, first);
-        let more = zeros + one_if(zeros < n);
-        zeros = chosen(one, 0, more);
-        let longer = longest <= zeros;
-        longest = chosen(longer, zeros, longest);
-        start = chosen(longer, p, start);
-    }
+    let mut map = [0u64; WORDS];
+    violation_map(density, words, &mut map, n / 64 + 1);
+    let first = cell_words::least_in(&map, 0, n);
+    let violations = cell_words::count_in(&map, 0, n);
+    let run = zeros::longest_run(words, &mut map, n);
     Gaps {
         first,
         violations,
-        start,
-        longest,
+        start: run.start,
+        longest: run.longest,
     }
 }
 
-// SID: how many sync words stand within a sector's ID and its data.
-pub fn syncs_inside(density: Density, bytes: &[u8], n: usize, s: Sector) -> usize
-    ensures { λ r. ⌜ r ≡ syncsInside (layoutOf density) (cell (now (bytes .entry)) n) s ⌝ }
+// The first m words of the map of the ones whose next one is too near or too far.
+fn violation_map(density: Density, words: &[u64; WORDS], map: &mut [u64; WORDS], m: usize)
+    ensures { λ _. ⌜ ((f : ℕ → ℕ) (n : ℕ) → 4 ≤ n → Holds (oneAt f) (now (words .entry)) (m + 1) → m < 2116 → length (now (map .entry)) ≡ 2116 → MapOf (violation (layoutOf density) f n) (now (map .exit)) m) ⌝ }
+{
+    match density {
+        Density::Single => cell_words::alone_map(words, map, m),
+        Density::Double => gaps_of_double(words, map, m),
+    }
+}
+
+fn gaps_of_double(words: &[u64; WORDS], map: &mut [u64; WORDS], m: usize)
+    ensures { λ _. ⌜ ((f : ℕ → ℕ) (n : ℕ) → 4 ≤ n → Holds (oneAt f) (now (words .entry)) (m + 1) → m < 2116 → length (now (map .entry)) ≡ 2116 → MapOf (violation doubleDensity f n) (now (map .exit)) m) ⌝ }
+{
+    cell_words::alone_map(words, map, m);
+    cell_words::gap_map(words, map, m);
+}
+
+// SID: how many sync words stand within a sector's ID and its data, out of the map of a track's syncs. The sector goes round the track once at most.
+pub fn syncs_inside(density: Density, n: usize, syncs: &[u64; WORDS], s: Sector) -> usize
+    ensures { λ r. ⌜ ((f : ℕ → ℕ) → ((q : ℕ) → f (q + n) ≡ f q) → n ≤ 131072 → Holds (wordMarkAt f (layoutOf density .sync)) (now (syncs .entry)) (n / 64 + 64) → s .place + 160 ≤ n + n → s .«data_end» ≤ n + n → r ≡ syncsInside (layoutOf density) f s) ⌝ }
 {
     let layout = layout_of(density);
-    syncs_in(
-        layout.sync,
-        layout.mark_length,
-        layout.id_length,
-        bytes,
-        n,
-        s,
-    )
-}
-
-// The same, for marks of `mark` cells and IDs of `id` cells.
-fn syncs_in(sync: u64, mark: usize, id: usize, bytes: &[u8], n: usize, s: Sector) -> usize
-    requires { ⌜ (mark ≤ 64) × (id ≤ 160) ⌝ }
-    ensures { λ r. ⌜ r ≡ syncsBetween sync (cell (now (bytes .entry)) n) (s .place + mark) (s .place + id) + cond (hasData s) (syncsBetween sync (cell (now (bytes .entry)) n) (s .«data_place» + mark) (s .«data_end»)) 0 ⌝ }
-{
+    let mark = layout.mark_length;
     let p = s.place as usize;
-    let syncs = syncs_between(sync, bytes, n, p + mark, p + id);
+    let inside = syncs_between(n, syncs, p + mark, p + layout.id_length);
     if s.data_mark == 0 {
-        return syncs;
+        return inside;
     }
     let data = s.data_place as usize + mark;
-    syncs + syncs_between(sync, bytes, n, data, wide(s.data_end))
+    inside + syncs_between(n, syncs, data, wide(s.data_end))
 }
 
-fn wide(place: u32) -> usize
-    ensures { λ r. ⌜ (r ≡ place) × (r < 0x1_0000_0000) ⌝ }
-{
-    place as usize
-}
-
-// In double density a next one 2, 3 or 4 cells on leaves 1 to 3 zeros between the two; in single density one that is 1 or 2 cells on leaves
-// 0 or 1.
-const FEWEST_ZEROS: usize = 1;
-
-const MOST_ZEROS: usize = 3;
-
-const FEWEST_ZEROS_OF_SINGLE_DENSITY: usize = 0;
-
-const MOST_ZEROS_OF_SINGLE_DENSITY: usize = 1;
-
-// Is the next one after so many zeros too near or too far? Double density is a case of its own, with numbers that the compiler knows: it then
-// makes two loops of the one that asks, and the one for double density is as quick as it would be alone.
-fn unlawful(fewest: usize, most: usize, zeros: usize) -> bool
-    ensures { λ r. ⌜ r ≡ (ltb (zeros + 1) (fewest + 1) || ltb (most + 1) (zeros + 1)) ⌝ }
-{
-    if fewest == FEWEST_ZEROS {
-        if most == MOST_ZEROS {
-            return (zeros < FEWEST_ZEROS) | (MOST_ZEROS < zeros);
-        }
-    }
-    (zeros < fewest) | (most < zeros)
-}
-
-// The sync of double density.
-const SYNC: u64 = 0x4489;
-
-// One of two numbers, without a branch in the loop that asks.
-fn chosen(first: bool, a: usize, b: usize) -> usize
-    ensures { λ r. ⌜ r ≡ cond first a b ⌝ }
-{
-    if first { a } else { b }
-}
-
-// 1 where a test passes, and else 0.
-fn one_if(passes: bool) -> usize
-    ensures { λ r. ⌜ (r ≡ cond passes 1 0) × (r ≤ 1) ⌝ }
-{
-    if passes { 1 } else { 0 }
-}
-
-// How many zeros stand before the first one of a track, which follow its last cell too; n where there is no one.
-fn zeros_at_start(bytes: &[u8], n: usize) -> usize
-    ensures { λ r. ⌜ r ≡ least (isOne (cell (now (bytes .entry)) n)) n 0 ⌝ }
-{
-    let mut p: usize = 0;
-    while p < n {
-        if cells::cell_at(bytes, p) == 1 {
-            return p;
-        }
-        p += 1;
-    }
-    n
-}
-
-// How often a sync stands wholly between two places, in any phase: that of double density word by word.
-fn syncs_between(sync: u64, bytes: &[u8], n: usize, from: usize, to: usize) -> usize
-    requires { ⌜ (from ≤ 0x1_0000_1000) × (to ≤ 0x1_0000_1000) ⌝ }
-    ensures { λ r. ⌜ r ≡ syncsBetween sync (cell (now (bytes .entry)) n) from to ⌝ }
-{
-    if sync == SYNC {
-        if to < BYTE_LENGTH {
-            return 0;
-        }
-        return count_syncs(bytes, n, from, to - (BYTE_LENGTH - 1));
-    }
-    syncs_by_search(sync, bytes, n, from, to)
-}
-
-// How many syncs of double density begin from `from` and before `end`.
-fn count_syncs(bytes: &[u8], n: usize, from: usize, end: usize) -> usize
-    requires { ⌜ (end ≤ 0x2_0000_0000) × (from ≤ 0x2_0000_0000) ⌝ }
-    ensures { λ r. ⌜ r ≡ count (wordMarkAt (cell (now (bytes .entry)) n) 0x4489) (end - from) from ⌝ }
-{
-    let mut syncs: usize = 0;
-    let mut p = from;
-    let mut cells = cell_words::word_from(bytes, n, p);
-    while p < end {
-        let next = cell_words::word_from(bytes, n, p + 64);
-        syncs += cell_words::count_first(cell_words::syncs_in(cells, next), end - p);
-        cells = next;
-        p += 64;
-    }
-    syncs
-}
-
-// The same as `syncs_between` for any word, from one that is found to the next.
-fn syncs_by_search(sync: u64, bytes: &[u8], n: usize, from: usize, to: usize) -> usize
-    ensures { λ r. ⌜ r ≡ syncsBetween sync (cell (now (bytes .entry)) n) from to ⌝ }
+// How often a sync stands wholly between two places, in any phase.
+fn syncs_between(n: usize, syncs: &[u64; WORDS], from: usize, to: usize) -> usize
+    ensures { λ r. ⌜ (r ≤ 300000) × ((f : ℕ → ℕ) (sync : ℕ) → ((q : ℕ) → f (q + n) ≡ f q) → n ≤ 131072 → Holds (wordMarkAt f sync) (now (syncs .entry)) (n / 64 + 64) → to ≤ n + n → r ≡ syncsBetween sync f from to) ⌝ }
 {
     if to < BYTE_LENGTH {
         return 0;
     }
     // after the last place at which it can start
     let end = to - (BYTE_LENGTH - 1);
-    let mut syncs: usize = 0;
-    let mut p = from;
-    while p < end {
-        let at = cells::find_word(bytes, n, sync, BYTE_LENGTH, p, end);
-        syncs += one_if(at < end);
-        p = at + 1;
+    count_round(n, syncs, from, end)
+}
+
+// How many places from `from` and before `end` pass the test of a map, on a track of n cells that goes on round.
+fn count_round(n: usize, map: &[u64; WORDS], from: usize, end: usize) -> usize
+    ensures { λ r. ⌜ (r ≤ 300000) × ((t : ℕ → Bool) → ((q : ℕ) → t (q + n) ≡ t q) → n ≤ 131072 → Holds t (now (map .entry)) (n / 64 + 1) → end ≤ n + n → r ≡ count t (end - from) from) ⌝ }
+{
+    if end <= n {
+        return cell_words::count_in(map, from, end);
     }
-    syncs
+    if from < n {
+        return cell_words::count_in(map, from, n) + cell_words::count_in(map, 0, end - n);
+    }
+    cell_words::count_in(map, from - n, end - n)
+}
+
+fn wide(place: u32) -> usize
+    ensures { λ r. ⌜ (r ≡ place) × (r < 0x1_0000_0000) ⌝ }
+{
+    place as usize
 }

@@ -1,18 +1,18 @@
--- The tests that the maps are made of find the word 4489. Assumes nothing.
-use Prim.Native.Nat.{ℕ, zero, suc, _+_, _-_, _*_, _^_, _≤_, _<_}
+-- The tests that the maps are made of find the word 4489, and any word cell by cell. Assumes nothing.
+use Prim.Native.Nat.{ℕ, zero, suc, _+_, _-_, _*_, _/_, _%_, _^_, _<_}
 use mathlib.Core.Path.{_≡_, refl, sym, ap, _∙_}
 use mathlib.Core.Bool.{Bool, true, false, not, cond, _&&_, _||_}
-use native.Mathlib.Nat.{add-zero, zero-add}
+use native.Mathlib.Nat.{add-zero, zero-add, pow-suc, div-div-eq-div-mul}
+use native.Mathlib.Numerals.{add-one}
 use native.Mathlib.Omega.{arith}
-use borrow.Author.Tests.{lt-ltb, le-ltb, eq-eqb, eqb-true, eqb-false, not-true}
-use lib.Dec.{T, eqb, ltb}
+use borrow.Author.Tests.{eq-eqb, eqb-true, eqb-false, not-true}
+use lib.Dec.{T, eqb}
 use Rattle.basis.proofs.Bools.{and-left, and-right}
 use Rattle.cells.specs.CellsAndBytes.{word}
-use Rattle.cells.proofs.Words.{word-lt, word-split, word-front, word-same}
-use Rattle.cells.proofs.Zeros.{word-zeros}
+use Rattle.cells.proofs.Words.{word-lt, word-split, word-front}
 use Rattle.cell_words.specs.Words.{digit, mask}
-use Rattle.cell_words.specs.Tests.{oneAt, aloneAt, sevenFrom, syncFrom, thriceAt, syncTest}
-use Rattle.cell_words.proofs.Words.{word-ones, mask-same}
+use Rattle.cell_words.specs.Tests.{oneAt, likeAt, keptFrom, aloneAt, sevenFrom, syncFrom, standsAt, syncTest}
+use Rattle.cell_words.proofs.Words.{word-ones}
 
 -- a rule of a truth value holds where it holds of both
 both : (Bool → Bool) → Bool
@@ -152,55 +152,64 @@ syncs-are : (f : ℕ → ℕ) (q : ℕ) → syncFrom (oneAt f) (sevenFrom (oneAt
 unfolding syncTest
 syncs-are f q = refl
 
-not-alone : (f : ℕ → ℕ) (q : ℕ) → f q ≡ 0 → digit (aloneAt (oneAt f)) q ≡ 0
-unfolding digit aloneAt oneAt
-not-alone f q e = rw e
+pub sync-stands : (f : ℕ → ℕ) → ((i : ℕ) → f i < 2) → (q : ℕ) → syncFrom (oneAt f) (sevenFrom (oneAt f) (aloneAt (oneAt f))) q ≡ standsAt f 0x4489 q
+unfolding standsAt
+sync-stands f bit q = syncs-are f q ∙ sync-is f bit q
 
--- two words of cells, with zeros after them
-abbrev pub cut : (ℕ → ℕ) → ℕ → ℕ → ℕ
-cut f p q = cond (ltb q (p + 128)) (f q) 0
+-- the first k cells of a word w of 16 stand at q
+unfoldable pub frontStands : (ℕ → ℕ) → (w k : ℕ) → ℕ → Bool
+frontStands f w k q = eqb (word f k q) (w / 2 ^ (16 - k))
 
-module _ (f : ℕ → ℕ) (p : ℕ) where
-  cut-low : (q : ℕ) → q < p + 128 → cut f p q ≡ f q
-  cut-low q h = rw (lt-ltb q (p + 128) h)
+-- a cell b is the digit d
+unfoldable cellIs : (b d : ℕ) → Bool
+cellIs b d = cond (eqb d 1) (eqb b 1) (not (eqb b 1))
 
-  cut-high : (q : ℕ) → p + 128 ≤ q → cut f p q ≡ 0
-  cut-high q h = rw (le-ltb q (p + 128) h)
+cell-is : (b d : ℕ) → b < 2 → d < 2 → cellIs b d ≡ eqb b d
+unfolding cellIs
+cell-is zero zero h g = refl
+cell-is zero (suc zero) h g = refl
+cell-is zero (suc (suc d)) h g = absurd (omega arith)
+cell-is (suc zero) zero h g = refl
+cell-is (suc zero) (suc zero) h g = refl
+cell-is (suc zero) (suc (suc d)) h g = absurd (omega arith)
+cell-is (suc (suc b)) d h g = absurd (omega arith)
 
-  pub cut-bit : ((i : ℕ) → f i < 2) → (q : ℕ) → cut f p q < 2
-  cut-bit bit q = go (ltb q (p + 128))
-    where
-      go : (b : Bool) → cond b (f q) 0 < 2
-      go true = bit q
-      go false = omega arith
+-- numbers are equal where both their last digits and what comes before these are
+digits-are : (x y b d : ℕ) → b < 2 → d < 2 → (eqb x y && eqb b d) ≡ eqb (2 * x + b) (2 * y + d)
+digits-are x y b d h g =
+    iff _ _
+    (λ e. eq-eqb (2 * x + b) (2 * y + d) (omega (arith, eqb-true x y (and-left (eqb x y) (eqb b d) e), eqb-true b d (and-right (eqb x y) (eqb b d) e))))
+    (λ e. let s = eqb-true (2 * x + b) (2 * y + d) e in rw (eq-eqb x y (omega arith), eq-eqb b d (omega arith)))
 
-  pub cut-first : word f 64 p ≡ word (cut f p) 64 p
-  cut-first = word-same f (cut f p) 64 p p (λ i l. sym (cut-low (p + i) (omega arith)))
+word-more : (f : ℕ → ℕ) (k q : ℕ) → word f (suc k) q ≡ 2 * word f k q + f (q + k)
+unfolding word
+word-more f k q = refl
 
-  pub cut-second : word f 64 (p + 64) ≡ word (cut f p) 64 (p + 64)
-  cut-second = word-same f (cut f p) 64 (p + 64) (p + 64) (λ i l. sym (cut-low (p + 64 + i) (omega arith)))
+module _ (f : ℕ → ℕ) (bit : (i : ℕ) → f i < 2) (w : ℕ) where
+  like-is : (d q : ℕ) → d < 2 → likeAt (eqb d 1) (oneAt f) q ≡ eqb (f q) d
+  unfolding likeAt oneAt cellIs
+  like-is d q h = cell-is (f q) d (bit q) h
 
-  pub cut-after : (j : ℕ) → 128 ≤ j → 0 ≡ word (cut f p) 64 (p + j)
-  cut-after j h = sym (word-zeros (cut f p) 64 (p + j) (λ i l. cut-high (p + j + i) (omega arith)))
+  pub front-first : w < 0x1_0000 → (q : ℕ) → likeAt (eqb (w / 2 ^ (15 - 0) % 2) 1) (oneAt f) q ≡ frontStands f w 1 q
+  unfolding frontStands
+  front-first h q =
+      let d : w / 2 ^ 15 % 2 ≡ w / 2 ^ 15 = omega arith in
+      let b : w / 2 ^ 15 < 2 = omega arith in
+      rw d (like-is (w / 2 ^ 15) q b ∙ ap (λ (x : ℕ). eqb x (w / 2 ^ 15)) (sym (rw (add-zero q) at (one-cell f q))))
 
-  -- the syncs of the first word do not look so far
-  pub cut-sync : ((i : ℕ) → f i < 2) → (i : ℕ) → i < 64 → syncTest (cut f p) (p + i) ≡ syncTest f (p + i)
-  cut-sync bit i h =
-      sync-is (cut f p) (cut-bit bit) (p + i)
-      ∙ ap (λ (x : ℕ). eqb x 0x4489) (word-same (cut f p) f 16 (p + i) (p + i) (λ j l. cut-low (p + i + j) (omega arith)))
-      ∙ sym (sync-is f bit (p + i))
+  pub front-more : (k : ℕ) → k < 16 → (q : ℕ) → keptFrom k (eqb (w / 2 ^ (15 - k) % 2) 1) (oneAt f) (frontStands f w k) q ≡ frontStands f w (k + 1) q
+  unfolding keptFrom frontStands
+  front-more k h q =
+      let e : 16 - k ≡ suc (15 - k) = omega arith in
+      let g : 16 - (k + 1) ≡ 15 - k = omega arith in
+      let d = w / 2 ^ (15 - k) in
+      let m : w / 2 ^ (16 - k) ≡ d / 2 = rw (e, pow-suc 2 (15 - k)) (sym (div-div-eq-div-mul w (2 ^ (15 - k)) 2)) in
+      let s : 2 * (d / 2) + d % 2 ≡ d = omega arith in
+      rw (m, g, like-is (d % 2) (q + k) (omega arith))
+      (digits-are (word f k q) (d / 2) (f (q + k)) (d % 2) (bit (q + k)) (omega arith)
+      ∙ ap (λ (x : ℕ). eqb (2 * word f k q + f (q + k)) x) s
+      ∙ ap (λ (x : ℕ). eqb x d) (sym (rw (add-one k) (word-more f k q))))
 
-  pub sync-word-is : ((i : ℕ) → f i < 2)
-      → mask (syncFrom (oneAt (cut f p)) (sevenFrom (oneAt (cut f p)) (aloneAt (oneAt (cut f p))))) 64 p ≡ mask (syncTest f) 64 p
-  sync-word-is bit = mask-same _ (syncTest f) 64 p p (λ i l. sync-of (p + i) ∙ cut-sync bit i l)
-    where
-      sync-of : (q : ℕ) → syncFrom (oneAt (cut f p)) (sevenFrom (oneAt (cut f p)) (aloneAt (oneAt (cut f p)))) q ≡ syncTest (cut f p) q
-      sync-of q = syncs-are (cut f p) q
-
-  -- no cells 100 among the zeros
-  pub no-alone : ((i : ℕ) → f i < 2) → 0 ≡ mask (aloneAt (oneAt (cut f p))) 64 (p + 128)
-  unfolding mask
-  no-alone bit = sym (word-zeros (digit (aloneAt (oneAt (cut f p)))) 64 (p + 128) (λ i l. none-alone (p + 128 + i) (cut-high (p + 128 + i) (omega arith))))
-    where
-      none-alone : (q : ℕ) → cut f p q ≡ 0 → digit (aloneAt (oneAt (cut f p))) q ≡ 0
-      none-alone q e = not-alone (cut f p) q e
+  pub front-all : (q : ℕ) → frontStands f w 16 q ≡ standsAt f w q
+  unfolding frontStands standsAt
+  front-all q = let e : w / 1 ≡ w = omega arith in ap (λ (x : ℕ). eqb (word f 16 q) x) e

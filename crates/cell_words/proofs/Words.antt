@@ -119,18 +119,12 @@ module _ (f : ℕ → ℕ) (bit : (i : ℕ) → f i < 2) where
       ∙ or-shifted (word f (64 - k) (p + k)) k (word f k (p + 64)) (word-lt f bit k (p + 64))
       ∙ sym w
 
-  -- a word without its first k cells, shifted to the top; and these k cells alone
+  -- a word without its first k cells, shifted to the top
   pub word-rest : (k p : ℕ) → k ≤ 64 → word f 64 p * 2 ^ k % 2 ^ 64 ≡ word f (64 - k) (p + k) * 2 ^ k
   word-rest k p h =
       let e : k + (64 - k) ≡ 64 = omega arith in
       let g : 64 - k + k ≡ 64 = omega arith in
       rw (e, g) at (left-part k (64 - k) p)
-
-  pub word-first : (k p : ℕ) → k ≤ 64 → word f 64 p / 2 ^ (64 - k) ≡ word f k p
-  word-first k p h = let e : k + (64 - k) ≡ 64 = omega arith in rw e at (right-part k (64 - k) p)
-
-pub mask-later : (t : ℕ → Bool) (k p : ℕ) → mask (λ q. t (q + k)) 64 p ≡ mask t 64 (p + k)
-mask-later t k p = sym (mask-same t (λ q. t (q + k)) 64 (p + k) p (λ i l. let e : p + k + i ≡ p + i + k = omega arith in ap t e))
 
 -- the same of masks
 pub mask-on : (t : ℕ → Bool) (k p : ℕ) → k ≤ 64

@@ -2,13 +2,14 @@
 ghost use mathlib.Core.Path.{_≡_};
 ghost use mathlib.Core.Bool.{Bool};
 ghost use mathlib.Core.List.{List};
-ghost use Prim.Native.Nat.{ℕ, _+_, _-_, _*_, _<_, _≤_, min};
+ghost use Prim.Native.Nat.{ℕ, _+_, _-_, _*_, _/_, _%_, _^_, _<_, _≤_};
 ghost use lib.Count.{leadingZeros};
-ghost use lib.ListN.{length, getD};
+ghost use lib.Dec.{eqb};
+ghost use lib.ListN.{length};
 ghost use Rattle.basis.specs.Search.{least, count};
 ghost use Rattle.cells.specs.CellsAndBytes.{cellAt, cell, word};
 ghost use Rattle.cell_words.specs.Words.{mask, Holds, MapOf};
-ghost use Rattle.cell_words.specs.Tests.{oneAt, notAt, bothAt, aloneAt, sevenFrom, syncFrom, gapFrom, thriceAt, syncTest};
+ghost use Rattle.cell_words.specs.Tests.{oneAt, likeAt, bothAt, keptFrom, aloneAt, sevenFrom, syncFrom, gapFrom, thriceAt, standsAt};
 use basis::smaller;
 
 // The words of a map: enough for a track of 131,072 cells, and for 4,352 places past its end.
@@ -68,14 +69,14 @@ pub fn load(bytes: &[u8], n: usize, words: &mut [u64; WORDS], m: usize)
 
 // The functions below make the first m words of a map out of one word more of others, or change a map in place.
 
-// The map of the places where a test fails.
-pub fn not_map(words: &[u64; WORDS], map: &mut [u64; WORDS], m: usize)
-    ensures { λ _. ⌜ ((t : ℕ → Bool) → Holds t (now (words .entry)) m → m ≤ 2116 → length (now (map .entry)) ≡ 2116 → MapOf (notAt t) (now (map .exit)) m) ⌝ }
+// The map of the places where a test passes, or of those where it fails.
+pub fn like_map(words: &[u64; WORDS], passes: bool, map: &mut [u64; WORDS], m: usize)
+    ensures { λ _. ⌜ ((t : ℕ → Bool) → Holds t (now (words .entry)) m → m ≤ 2116 → length (now (map .entry)) ≡ 2116 → MapOf (likeAt passes t) (now (map .exit)) m) ⌝ }
 {
     let end = smaller(m, WORDS);
     let mut w: usize = 0;
     while w < end {
-        map[w] = !words[w];
+        map[w] = like_word(words[w], passes);
         w += 1;
     }
 }
@@ -117,36 +118,88 @@ pub fn both_map(map: &mut [u64; WORDS], k: usize, m: usize)
     both_by(map, k, m);
 }
 
-// The least place before `to` at which the test of a map passes, and k places on too; `to` where there is none.
-pub fn least_both(map: &[u64; WORDS], k: usize, to: usize) -> usize
-    ensures { λ r. ⌜ ((t : ℕ → Bool) (m : ℕ) → Holds t (now (map .entry)) (m + 1) → to ≤ 64 * m → m < 2116 → 1 ≤ k → k < 64 → r ≡ least (bothAt k t) to 0) ⌝ }
+// Leaves in a map the places from which the test of another map passes k places on, or fails there, for a k from 1 to 63.
+pub fn keep_map(words: &[u64; WORDS], k: usize, passes: bool, map: &mut [u64; WORDS], m: usize)
+    ensures { λ _. ⌜ ((s t : ℕ → Bool) → Holds s (now (words .entry)) (m + 1) → Holds t (now (map .entry)) m → m < 2116 → 1 ≤ k → k < 64 → length (now (map .entry)) ≡ 2116 → MapOf (keptFrom k passes s t) (now (map .exit)) m) ⌝ }
 {
     if k == 0 {
-        return to;
+        return;
     }
     if 63 < k {
-        return to;
+        return;
     }
-    if to == 0 {
-        return 0;
-    }
-    if PLACES - 64 < to {
-        return to;
-    }
-    least_by(map, k, to)
+    keep_by(words, k, passes, map, m);
 }
 
-// The map of the places where three syncs follow each other.
-pub fn mark_map(bytes: &[u8], n: usize, map: &mut [u64; WORDS], m: usize)
-    ensures { λ _. ⌜ (length (now (map .entry)) ≡ 2116 → m ≤ 2112 → MapOf (thriceAt (syncTest (cell (now (bytes .entry)) n))) (now (map .exit)) m) ⌝ }
+// Out of the map of the ones, that of the places where a word of 16 cells stands.
+pub fn word_map(words: &[u64; WORDS], word: u64, map: &mut [u64; WORDS], m: usize)
+    ensures { λ _. ⌜ ((f : ℕ → ℕ) → ((i : ℕ) → f i < 2) → Holds (oneAt f) (now (words .entry)) (m + 3) → m ≤ 2113 → word < 0x1_0000 → length (now (map .entry)) ≡ 2116 → MapOf (standsAt f word) (now (map .exit)) m) ⌝ }
 {
-    let count = smaller(m, WORDS - 4);
-    let mut words = [0u64; WORDS];
-    load(bytes, n, &mut words, count + 4);
-    alone_map(&words, map, count + 3);
-    seven_map(&words, map, count + 2);
-    sync_map(&words, map, count + 1);
-    thrice_map(map, count);
+    if word == SYNC {
+        map_of_syncs(words, map, m);
+        return;
+    }
+    map_by_cells(words, word, map, m);
+}
+
+// Out of the map of the syncs, that of the places where three follow each other.
+pub fn thrice_map(words: &[u64; WORDS], map: &mut [u64; WORDS], m: usize)
+    ensures { λ _. ⌜ ((t : ℕ → Bool) → Holds t (now (words .entry)) (m + 1) → m < 2116 → length (now (map .entry)) ≡ 2116 → MapOf (thriceAt t) (now (map .exit)) m) ⌝ }
+{
+    let end = smaller(m, WORDS - 1);
+    let mut w: usize = 0;
+    while w < end {
+        map[w] = thrice_word(words[w], words[w + 1]);
+        w += 1;
+    }
+}
+
+// The sync of double density.
+const SYNC: u64 = 0x4489;
+
+// How many cells the word of `word_map` has.
+const WORD_CELLS: usize = 16;
+
+// The map of 4489, in three steps: its cells are 0, twice 1000100, and 1.
+fn map_of_syncs(words: &[u64; WORDS], map: &mut [u64; WORDS], m: usize)
+    ensures { λ _. ⌜ ((f : ℕ → ℕ) → ((i : ℕ) → f i < 2) → Holds (oneAt f) (now (words .entry)) (m + 3) → m ≤ 2113 → length (now (map .entry)) ≡ 2116 → MapOf (standsAt f 0x4489) (now (map .exit)) m) ⌝ }
+{
+    let count = smaller(m, WORDS - 3);
+    alone_map(words, map, count + 2);
+    seven_map(words, map, count + 1);
+    sync_map(words, map, count);
+}
+
+// The map of any word, a cell at a turn.
+fn map_by_cells(words: &[u64; WORDS], word: u64, map: &mut [u64; WORDS], m: usize)
+    ensures { λ _. ⌜ ((f : ℕ → ℕ) → ((i : ℕ) → f i < 2) → Holds (oneAt f) (now (words .entry)) (m + 1) → m < 2116 → word < 0x1_0000 → length (now (map .entry)) ≡ 2116 → MapOf (standsAt f word) (now (map .exit)) m) ⌝ }
+{
+    like_map(words, has_one(word, 0), map, m);
+    let mut k: usize = 1;
+    while k < WORD_CELLS {
+        keep_by(words, k, has_one(word, k), map, m);
+        k += 1;
+    }
+}
+
+// Is cell k of a word of 16 a one?
+fn has_one(word: u64, k: usize) -> bool
+    requires { ⌜ k < 16 ⌝ }
+    ensures { λ r. ⌜ r ≡ eqb (word / 2 ^ (15 - k) % 2) 1 ⌝ }
+{
+    (word >> (WORD_CELLS - 1 - k)) % 2 == 1
+}
+
+fn keep_by(words: &[u64; WORDS], k: usize, passes: bool, map: &mut [u64; WORDS], m: usize)
+    requires { ⌜ (1 ≤ k) × (k < 64) ⌝ }
+    ensures { λ _. ⌜ ((s t : ℕ → Bool) → Holds s (now (words .entry)) (m + 1) → Holds t (now (map .entry)) m → m < 2116 → length (now (map .entry)) ≡ 2116 → MapOf (keptFrom k passes s t) (now (map .exit)) m) ⌝ }
+{
+    let end = smaller(m, WORDS - 1);
+    let mut w: usize = 0;
+    while w < end {
+        map[w] = keep_word(words[w], words[w + 1], k, passes, map[w]);
+        w += 1;
+    }
 }
 
 fn both_by(map: &mut [u64; WORDS], k: usize, m: usize)
@@ -159,21 +212,6 @@ fn both_by(map: &mut [u64; WORDS], k: usize, m: usize)
         map[w] = both_word(map[w], map[w + 1], k);
         w += 1;
     }
-}
-
-fn least_by(map: &[u64; WORDS], k: usize, to: usize) -> usize
-    requires { ⌜ (1 ≤ k) × (k < 64) × (0 < to) × (to ≤ 135360) ⌝ }
-    ensures { λ r. ⌜ ((t : ℕ → Bool) (m : ℕ) → Holds t (now (map .entry)) (m + 1) → to ≤ 64 * m → m < 2116 → r ≡ least (bothAt k t) to 0) ⌝ }
-{
-    let mut w: usize = 0;
-    while 64 * w < to {
-        let x = both_word(map[w], map[w + 1], k);
-        if x != 0 {
-            return smaller(to, 64 * w + zeros_before(x));
-        }
-        w += 1;
-    }
-    to
 }
 
 // Out of the map of 100, that of 1000100.
@@ -200,44 +238,9 @@ fn sync_map(words: &[u64; WORDS], map: &mut [u64; WORDS], m: usize)
     }
 }
 
-// Leaves in a map the places from which its test passes three times, 16 places from one to the next.
-fn thrice_map(map: &mut [u64; WORDS], m: usize)
-    ensures { λ _. ⌜ ((t : ℕ → Bool) → Holds t (now (map .entry)) (m + 1) → m < 2116 → length (now (map .entry)) ≡ 2116 → MapOf (thriceAt t) (now (map .exit)) m) ⌝ }
-{
-    let end = smaller(m, WORDS - 1);
-    let mut w: usize = 0;
-    while w < end {
-        map[w] = thrice_word(map[w], map[w + 1]);
-        w += 1;
-    }
-}
-
-// The places of 4489 among 64 places, out of their cells x and of the 64 cells y after these.
-pub fn syncs_in(x: u64, y: u64) -> u64
-    ensures { λ r. ⌜ ((f : ℕ → ℕ) (p : ℕ) → ((i : ℕ) → f i < 2) → x ≡ word f 64 p → y ≡ word f 64 (p + 64) → r ≡ mask (syncTest f) 64 p) ⌝ }
-{
-    // A sync looks at 15 cells past the first word, so what comes after the second may be taken to be zeros.
-    let a = alone_word(x, y);
-    let b = alone_word(y, 0);
-    let c = seven_word(x, y, a, b);
-    let d = seven_word(y, 0, b, 0);
-    sync_word(x, y, c, d)
-}
-
-// How many of the first k places of a word pass, of all 64 where k is more.
-pub fn count_first(x: u64, k: usize) -> usize
-    ensures { λ r. ⌜ (r ≤ 64) × ((t : ℕ → Bool) (p : ℕ) → x ≡ mask t 64 p → r ≡ count t (min k 64) p) ⌝ }
-{
-    let length = smaller(k, 64);
-    if length == 0 {
-        return 0;
-    }
-    count_part(x, 0, length)
-}
-
 // Looks a map's test up between two places: the first that passes, of those not before `from` and before `to`, or the greater of the two.
 pub fn least_in(map: &[u64; WORDS], from: usize, to: usize) -> usize
-    ensures { λ r. ⌜ ((t : ℕ → Bool) (m : ℕ) → Holds t (now (map .entry)) m → to ≤ 64 * m → m ≤ 2116 → r ≡ least t (to - from) from) ⌝ }
+    ensures { λ r. ⌜ (from ≤ r) × ((t : ℕ → Bool) (m : ℕ) → Holds t (now (map .entry)) m → to ≤ 64 * m → m ≤ 2116 → r ≡ least t (to - from) from) ⌝ }
 {
     let end = smaller(to, PLACES);
     if end <= from {
@@ -248,7 +251,7 @@ pub fn least_in(map: &[u64; WORDS], from: usize, to: usize) -> usize
 
 // Counts the places that pass a map's test, of those not before `from` and before `to`.
 pub fn count_in(map: &[u64; WORDS], from: usize, to: usize) -> usize
-    ensures { λ r. ⌜ ((t : ℕ → Bool) (m : ℕ) → Holds t (now (map .entry)) m → to ≤ 64 * m → m ≤ 2116 → r ≡ count t (to - from) from) ⌝ }
+    ensures { λ r. ⌜ (r ≤ 135552) × ((t : ℕ → Bool) (m : ℕ) → Holds t (now (map .entry)) m → to ≤ 64 * m → m ≤ 2116 → r ≡ count t (to - from) from) ⌝ }
 {
     let end = smaller(to, PLACES);
     if end <= from {
@@ -260,7 +263,7 @@ pub fn count_in(map: &[u64; WORDS], from: usize, to: usize) -> usize
 // As least_in, where there is a place to look at: the rest of the first word, and then word by word.
 fn least_before(map: &[u64; WORDS], from: usize, to: usize) -> usize
     requires { ⌜ (from < to) × (to ≤ 135424) ⌝ }
-    ensures { λ r. ⌜ ((t : ℕ → Bool) (m : ℕ) → Holds t (now (map .entry)) m → to ≤ 64 * m → m ≤ 2116 → r ≡ least t (to - from) from) ⌝ }
+    ensures { λ r. ⌜ (from ≤ r) × ((t : ℕ → Bool) (m : ℕ) → Holds t (now (map .entry)) m → to ≤ 64 * m → m ≤ 2116 → r ≡ least t (to - from) from) ⌝ }
 {
     let mut w = from / 64;
     let first = map[w] << (from % 64);
@@ -281,7 +284,7 @@ fn least_before(map: &[u64; WORDS], from: usize, to: usize) -> usize
 // As count_in, where there is a place to look at: the first word, whole words, and what is left of the last.
 fn count_before(map: &[u64; WORDS], from: usize, to: usize) -> usize
     requires { ⌜ (from < to) × (to ≤ 135424) ⌝ }
-    ensures { λ r. ⌜ ((t : ℕ → Bool) (m : ℕ) → Holds t (now (map .entry)) m → to ≤ 64 * m → m ≤ 2116 → r ≡ count t (to - from) from) ⌝ }
+    ensures { λ r. ⌜ (r ≤ 135552) × ((t : ℕ → Bool) (m : ℕ) → Holds t (now (map .entry)) m → to ≤ 64 * m → m ≤ 2116 → r ≡ count t (to - from) from) ⌝ }
 {
     let a = from / 64;
     let b = to / 64;
@@ -377,6 +380,19 @@ fn on(x: u64, y: u64, k: usize) -> u64
     ensures { λ r. ⌜ ((t : ℕ → Bool) (p : ℕ) → x ≡ mask t 64 p → y ≡ mask t 64 (p + 64) → r ≡ mask (λ q. t (q + k)) 64 p) ⌝ }
 {
     (x << k) | (y >> (64 - k))
+}
+
+fn like_word(x: u64, passes: bool) -> u64
+    ensures { λ r. ⌜ ((t : ℕ → Bool) (p : ℕ) → x ≡ mask t 64 p → r ≡ mask (likeAt passes t) 64 p) ⌝ }
+{
+    if passes { x } else { !x }
+}
+
+fn keep_word(x: u64, y: u64, k: usize, passes: bool, a: u64) -> u64
+    requires { ⌜ (1 ≤ k) × (k < 64) ⌝ }
+    ensures { λ r. ⌜ ((s t : ℕ → Bool) (p : ℕ) → x ≡ mask s 64 p → y ≡ mask s 64 (p + 64) → a ≡ mask t 64 p → r ≡ mask (keptFrom k passes s t) 64 p) ⌝ }
+{
+    a & like_word(on(x, y, k), passes)
 }
 
 fn alone_word(x: u64, y: u64) -> u64

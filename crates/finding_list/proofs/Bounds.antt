@@ -16,10 +16,16 @@ use Rattle.cell_patterns.specs.Cells.{gapsOf}
 use Rattle.cell_patterns.proofs.Bounds.{gaps-few, inside-few}
 use Rattle.finding_rules.specs.Rules.{noRow, nth, trackRows, idRows, dataRows, sectorRows, gapRows, rows}
 use Rattle.finding_rules.specs.declared.Row.{Row}
-use Rattle.finding_list.specs.Findings.{rowAt}
-use Rattle.finding_list.specs.PrivateContracts.{BoundedSector, BoundedTrack, Narrow, sectorsIn}
+use Rattle.basis.specs.Lists.{joined}
+use Rattle.finding_list.specs.Findings.{rowAt, kinds, ofKind}
+use Rattle.finding_list.proofs.MostFindings.{few-findings}
+use Rattle.finding_list.proofs.Others.{length-kept}
+use Rattle.finding_list.specs.PrivateContracts.{BoundedSector, BoundedTrack, Within, Narrow, sectorsIn}
 use Rattle.mfm.specs.Coding.{byteOn, dataCell}
+use Rattle.layouts.specs.Layouts.{layoutOf}
+use Rattle.layouts.specs.declared.Density.{Density}
 use Rattle.layouts.specs.declared.Layout.{Layout}
+use Rattle.layouts.proofs.Soundness.{sound}
 use Rattle.layouts.specs.PrivateContracts.{Sound}
 use Rattle.sector_records.specs.Sectors.{markByteAt, leastData, dataFound, lengthOf, idByte, dataLength, endOfData, sectorAt, noSector, sectorsOf, kept}
 use Rattle.sector_records.specs.declared.Sector.{Sector}
@@ -81,6 +87,23 @@ near-sector layout sound bytes n i short = go (decLe (length (sectorsOf layout b
         let s = sector-of-mark layout bytes n i (lt-of-not-le h) in
         rw (s .made) (near-record layout sound (cell bytes n) (cell-lt bytes n) _ (omega (arith, s .below)))
 
+within-record : (layout : Layout) → Sound layout → (f : ℕ → ℕ) (n p : ℕ) → 20000 ≤ n → p ≤ n → Within n (sectorAt layout f p)
+unfolding sectorAt dataLength
+within-record layout sound f n p h l = record { id-inside = omega arith; data-inside = end (dataFound layout f p) refl }
+  where
+    end : (b : Bool) → dataFound layout f p ≡ b → cond b (endOfData (layout .«mark_length») (leastData layout f p) (cond b (lengthOf (idByte (layout .«mark_length») f p 3)) 0)) 0 ≤ n + n
+    end true e = omega (arith, sound .near, sound .mark, leb-true (leastData layout f p) (p + layout .reach) e, length-most (idByte (layout .«mark_length») f p 3))
+    end false e = omega arith
+
+within-sector : (layout : Layout) → Sound layout → (bytes : List ℕ) (n i : ℕ) → 20000 ≤ n → Within n (nth (sectorsOf layout bytes n) i)
+within-sector layout sound bytes n i long = go (decLe (length (sectorsOf layout bytes n)) i)
+  where
+    go : Dec (length (sectorsOf layout bytes n) ≤ i) → Within n (nth (sectorsOf layout bytes n) i)
+    go (yes h) = rw (List·getD-eq-default (sectorsOf layout bytes n) noSector h) record { id-inside = omega arith; data-inside = omega arith }
+    go (no h) =
+        let s = sector-of-mark layout bytes n i (lt-of-not-le h) in
+        rw (s .made) (within-record layout sound (cell bytes n) n _ long (omega (arith, s .below)))
+
 -- the sectors of a track, as the struct keeps them
 module _ (layout : Layout) (bytes : List ℕ) (n : ℕ) (ss : Sectors) (are : ss ≡ kept (sectorsOf layout bytes n)) (few : length (sectorsOf layout bytes n) ≤ 64) where
   pub sectors-kept : sectorsIn ss ≡ sectorsOf layout bytes n
@@ -89,10 +112,16 @@ module _ (layout : Layout) (bytes : List ℕ) (n : ℕ) (ss : Sectors) (are : ss
       let xs = sectorsOf layout bytes n in
       rw (are, take-take (length xs) 64 (xs ++ replicate 64 noSector) few) (take-at xs (replicate 64 noSector) (length xs) refl)
 
-  pub sectors-on : Sound layout → n ≤ 131072 → BoundedTrack n ss
+  pub sectors-on : Sound layout → 20000 ≤ n → n ≤ 131072 → BoundedTrack n ss
   unfolding kept
-  sectors-on sound short =
-      record { few = rw are record { few = few; long = full }; near = λ i. rw sectors-kept (near-sector layout sound bytes n i short); short = short }
+  sectors-on sound long short =
+      record {
+        few = rw are record { few = few; long = full };
+        near = λ i. rw sectors-kept (near-sector layout sound bytes n i short);
+        within = λ i. rw sectors-kept (within-sector layout sound bytes n i long);
+        long = long;
+        short = short;
+      }
     where
       full : length (take 64 (sectorsOf layout bytes n ++ replicate 64 noSector)) ≡ 64
       full =
@@ -177,3 +206,9 @@ row-narrow layout sound f N T ss h l k i near =
     (narrow-append (trackRows layout N (length ss) T) _ (narrow-track layout N (length ss) T h l)
     (on-sector (nth ss i) near _ _ (number (nth ss i) near), narrow-append (sectorRows layout f N T ss (nth ss i)) _ (narrow-sector (nth ss i) near layout sound f N T ss) (narrow-gaps layout f N h)))
     k
+
+-- a track has no more findings than there is room for
+pub few-kept : (density : Density) (bytes : List ℕ) (n track : ℕ) (ss : Sectors) → BoundedTrack n ss → length (joined (ofKind (layoutOf density) (cell bytes n) n track (sectorsIn ss)) kinds) ≤ 901
+few-kept density bytes n track ss b =
+    let size : length (sectorsIn ss) ≤ 64 = omega (arith, length-kept ss (b .few), b .few .few) in
+    few-findings (layoutOf density) (sound density) (cell bytes n) n track (sectorsIn ss) size

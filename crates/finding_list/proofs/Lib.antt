@@ -7,3 +7,4 @@ pub mod Numbers
 pub mod Others
 pub mod Outcome
 pub mod SingleDensity
+pub mod Apart

@@ -89,6 +89,30 @@ module _ (f : ℕ → List Finding) {before : List ℕ} {at : ℕ} where
       let m : length (joined f (i + 1)) ≡ length (joined f i) + length (f i) = rw joined-more (length-append (joined f i) (f i)) in
       record { long = first .long; fits = omega (arith, first .count) }
 
+-- findings joined kind by kind, and in a kind look by look: `g k` gives what kind k finds at a look, and c looks are all of it
+module _ (f : ℕ → List Finding) (g : ℕ → ℕ → List Finding) {before : List ℕ} {at : ℕ} where
+  pub looks-start : (k : ℕ) {numbers : List ℕ} {next : ℕ} → Added before at (joined f k) numbers next → Added before at (joined f k ++ joined (g k) 0) numbers next
+  looks-start k added = rw (joined-none, append-nil) added
+
+  pub looks-more : (k i : ℕ) {between after : List ℕ} {mid next : ℕ} → Added before at (joined f k ++ joined (g k) i) between mid → Added between mid (g k i) after next
+      → Added before at (joined f k ++ joined (g k) (i + 1)) after next
+  looks-more k i first second = rw joined-more (rw append-assoc at (added-then first second))
+
+  pub looks-end : (k c : ℕ) {numbers : List ℕ} {next : ℕ} → joined (g k) c ≡ f k → Added before at (joined f k ++ joined (g k) c) numbers next
+      → Added before at (joined f (k + 1) ++ joined (g (k + 1)) 0) numbers next
+  looks-end k c e added = looks-start (k + 1) (rw joined-more (rw e at added))
+
+  pub looks-room : (n k c i : ℕ) {between : List ℕ} {mid : ℕ} → k < n → i < c → joined (g k) c ≡ f k → Added before at (joined f k ++ joined (g k) i) between mid
+      → at + length (joined f n) ≤ mostFindings → Room between mid (g k i)
+  looks-room n k c i h l e first room =
+      let a : k + 1 + (n - (k + 1)) ≡ n = omega arith in
+      let b : i + 1 + (c - (i + 1)) ≡ c = omega arith in
+      let p = rw a at (joined-grows f (k + 1) (n - (k + 1))) in
+      let q = rw b at (joined-grows (g k) (i + 1) (c - (i + 1))) in
+      let r : length (joined f (k + 1)) ≡ length (joined f k) + length (f k) = rw joined-more (length-append (joined f k) (f k)) in
+      let s : length (joined (g k) (i + 1)) ≡ length (joined (g k) i) + length (g k i) = rw joined-more (length-append (joined (g k) i) (g k i)) in
+      record { long = first .long; fits = omega (arith, first .count, ap length e, length-append (joined f k) (joined (g k) i)) }
+
 -- all of them, from zeros on
 pub array-is : (xs : List Finding) (zeros after : List ℕ) (count : ℕ) → Added zeros 0 xs after count → (count ≡ length xs) × (after ≡ writtenOver (numbersOf xs) zeros)
 array-is xs zeros after count added =

@@ -1,6 +1,7 @@
 // The list of a track's findings, kind after kind and each kind by place (rule 7.32), as numbers put one after the other. A kind is given by
 // its index, from 0.
 use cell_patterns::Gaps;
+use cell_words::WORDS;
 use finding_rules::Row;
 use layouts::Density;
 use layouts::layout_of;
@@ -8,18 +9,20 @@ use refusals::Counted;
 use sector_records::Sector;
 use sector_records::Sectors;
 ghost use mathlib.Core.Path.{_≡_};
-ghost use Prim.Native.Nat.{_<_, _≤_};
+ghost use mathlib.Core.Bool.{true, false};
+ghost use Prim.Native.Nat.{ℕ, _<_, _≤_};
 ghost use lib.ListN.{length, getD, replicate};
 ghost use Rattle.basis.specs.Lists.{joined};
 ghost use Rattle.cells.specs.CellsAndBytes.{cell};
-ghost use Rattle.cell_patterns.specs.Cells.{gapsOf};
-ghost use Rattle.finding_rules.specs.Rules.{noRow, startsInData, someSector, sectorRows};
+ghost use Rattle.cell_patterns.specs.Cells.{GapsFound};
+ghost use Rattle.finding_rules.specs.Rules.{noRow, nth, startsInData, someSector, sectorRows};
 ghost use Rattle.finding_list.specs.Findings.{kinds, foundBy, ofKind, findingsOf};
 ghost use Rattle.finding_list.specs.Calls.{surveyAnswer, sectorsGiven, arrayAfter};
 ghost use Rattle.refusals.specs.RefusedCalls.{countedAnswer};
 ghost use Rattle.layouts.specs.Layouts.{layoutOf};
+ghost use Rattle.sector_records.specs.Maps.{TrackMaps};
 ghost use Rattle.sector_records.specs.Sectors.{sectorsOf};
-ghost use Rattle.finding_list.specs.PrivateContracts.{duplicateAt, AtMost64, BoundedTrack, Narrow, sectorsIn, Added, Room};
+ghost use Rattle.finding_list.specs.PrivateContracts.{duplicateAt, AtMost64, BoundedTrack, Within, Clear, SyncMap, Narrow, sectorsIn, Added, Room, Listed};
 
 // A finding (rule 7.31): its kind from 1 to 21, the kind's level, its place in cells, and its detail.
 #[repr(C)]
@@ -53,7 +56,9 @@ pub fn survey(
     ensures sectors { λ r. ⌜ r .sectors ≡ sectorsGiven (surveyAnswer (layoutOf density) (now (bytes .entry)) n track side) (length (sectorsOf (layoutOf density) (now (bytes .entry)) n)) ⌝ }
     ensures numbers { λ _. ⌜ now (numbers .exit) ≡ arrayAfter (surveyAnswer (layoutOf density) (now (bytes .entry)) n track side) (findingsOf (layoutOf density) (now (bytes .entry)) n track) (now (numbers .entry)) ⌝ }
 {
-    let listed = sectors::sectors_in(density, bytes, n, track, side);
+    let mut words = [0u64; WORDS];
+    let mut syncs = [0u64; WORDS];
+    let listed = sectors::sectors_with_maps(density, bytes, n, track, side, &mut words, &mut syncs);
     let ss = listed.sectors;
     let answer = listed.answer;
     match answer {
@@ -62,7 +67,7 @@ pub fn survey(
             answer: Counted::Refused(refusal),
         },
         Counted::Count(sectors) => {
-            let count = all_kinds(density, numbers, bytes, n, track, ss);
+            let count = all_kinds(density, numbers, bytes, n, &words, &syncs, track, ss);
             Found {
                 sectors,
                 answer: Counted::Count(count),
@@ -82,35 +87,87 @@ const SECTOR_KINDS: usize = 6;
 
 const GAP_KINDS: usize = 19;
 
+// How many kinds look at each sector by itself.
+const SECTOR_RULES: usize = 13;
+
 // Among the kinds on each sector by itself: the first of those on checks and data, and the one after these, SWS.
 const DATA_RULES: usize = 6;
 
 const OVERWRITTEN: usize = 11;
 
-// All findings of a track of n cells with the sectors ss; how many there are.
+// All findings of a track of n cells with the sectors ss, and with the maps of its ones and syncs; how many there are.
 fn all_kinds(
+    density: Density,
+    numbers: &mut [u32; NUMBERS],
+    bytes: &[u8],
+    n: usize,
+    words: &[u64; WORDS],
+    syncs: &[u64; WORDS],
+    track: u32,
+    ss: Sectors,
+) -> usize
+    requires { ⌜ BoundedTrack n ss ⌝ }
+    requires { ⌜ TrackMaps (layoutOf density) (now bytes) n (now words) (now syncs) ⌝ }
+    ensures { λ r. ⌜ Listed (layoutOf density) (now (bytes .entry)) n track ss kinds (now (numbers .exit)) r ⌝ }
+{
+    clear(numbers);
+    let gaps = cell_patterns::find_gaps(density, words, n);
+    let first = kinds_before(
+        density,
+        numbers,
+        bytes,
+        n,
+        track,
+        ss,
+        gaps,
+        0,
+        SECTOR_KINDS,
+        0,
+    );
+    let next = sector_kinds(density, numbers, bytes, n, syncs, track, ss, first);
+    kinds_before(
+        density,
+        numbers,
+        bytes,
+        n,
+        track,
+        ss,
+        gaps,
+        GAP_KINDS,
+        KINDS,
+        next,
+    )
+}
+
+// The functions below are handed `bytes` for what they promise: they look at the maps and the sectors.
+
+// The kinds from `from` and before `to`, of those that do not look at each sector by itself.
+fn kinds_before(
     density: Density,
     numbers: &mut [u32; NUMBERS],
     bytes: &[u8],
     n: usize,
     track: u32,
     ss: Sectors,
+    gaps: Gaps,
+    from: usize,
+    to: usize,
+    at: usize,
 ) -> usize
-    requires { ⌜ BoundedTrack n ss ⌝ }
-    ensures { λ r. ⌜ Added (replicate 3604 0) 0 (joined (ofKind (layoutOf density) (cell (now (bytes .entry)) n) n track (sectorsIn ss)) kinds) (now (numbers .exit)) r ⌝ }
+    requires { ⌜ BoundedTrack n ss × GapsFound (layoutOf density) (cell (now bytes) n) n gaps ⌝ }
+    requires { ⌜ (from ≤ to) × (to ≤ kinds) × ((k : ℕ) → from ≤ k → k < to → 6 ≤ k → 19 ≤ k) × Listed (layoutOf density) (now bytes) n track ss from (now numbers) at ⌝ }
+    ensures { λ r. ⌜ Listed (layoutOf density) (now (bytes .entry)) n track ss to (now (numbers .exit)) r ⌝ }
 {
-    clear(numbers);
-    let gaps = cell_patterns::find_gaps(density, bytes, n);
-    let mut at: usize = 0;
-    let mut k: usize = 0;
-    while k < KINDS {
-        at = one_kind(density, numbers, bytes, n, track, ss, gaps, k, at);
+    let mut next = at;
+    let mut k = from;
+    while k < to {
+        next = one_kind(density, numbers, bytes, n, track, ss, gaps, k, next);
         k += 1;
     }
-    at
+    next
 }
 
-// The findings of one kind.
+// The findings of one such kind.
 fn one_kind(
     density: Density,
     numbers: &mut [u32; NUMBERS],
@@ -122,8 +179,8 @@ fn one_kind(
     k: usize,
     at: usize,
 ) -> usize
-    requires { ⌜ BoundedTrack n ss ⌝ }
-    requires { ⌜ gaps ≡ gapsOf (layoutOf density) (cell (now bytes) n) n ⌝ }
+    requires { ⌜ BoundedTrack n ss × (6 ≤ k → 19 ≤ k) ⌝ }
+    requires { ⌜ GapsFound (layoutOf density) (cell (now bytes) n) n gaps ⌝ }
     requires { ⌜ (k < kinds) × Room (now numbers) at (ofKind (layoutOf density) (cell (now bytes) n) n track (sectorsIn ss) k) ⌝ }
     ensures { λ r. ⌜ Added (now (numbers .entry)) at (ofKind (layoutOf density) (cell (now (bytes .entry)) n) n track (sectorsIn ss) k) (now (numbers .exit)) r ⌝ }
 {
@@ -137,9 +194,6 @@ fn one_kind(
     }
     if k == DUPLICATES {
         return duplicates(numbers, ss, at);
-    }
-    if k < GAP_KINDS {
-        return each_sector(density, numbers, bytes, n, track, ss, k, at);
     }
     put(numbers, at, k, finding_rules::gap_rule(k - GAP_KINDS, gaps))
 }
@@ -178,31 +232,39 @@ fn duplicates(numbers: &mut [u32; NUMBERS], ss: Sectors, at: usize) -> usize
     to
 }
 
-// A kind on each sector by itself: kinds 7 to 19.
-fn each_sector(
+// The kinds on each sector by itself, 7 to 19: kind after kind, and in each sector after sector. Both run in one loop, since each function that is
+// handed the sectors gets a copy of all 64.
+fn sector_kinds(
     density: Density,
     numbers: &mut [u32; NUMBERS],
     bytes: &[u8],
     n: usize,
+    syncs: &[u64; WORDS],
     track: u32,
     ss: Sectors,
-    k: usize,
     at: usize,
 ) -> usize
-    requires { ⌜ BoundedTrack n ss ⌝ }
-    requires { ⌜ (6 ≤ k) × (k < 19) × Room (now numbers) at (ofKind (layoutOf density) (cell (now bytes) n) n track (sectorsIn ss) k) ⌝ }
-    ensures { λ r. ⌜ Added (now (numbers .entry)) at (ofKind (layoutOf density) (cell (now (bytes .entry)) n) n track (sectorsIn ss) k) (now (numbers .exit)) r ⌝ }
+    requires { ⌜ BoundedTrack n ss × SyncMap (layoutOf density) (now bytes) n (now syncs) ⌝ }
+    requires { ⌜ Listed (layoutOf density) (now bytes) n track ss 6 (now numbers) at ⌝ }
+    ensures { λ r. ⌜ Listed (layoutOf density) (now (bytes .entry)) n track ss 19 (now (numbers .exit)) r ⌝ }
 {
+    let apart = are_apart(n as u32, ss);
     let count = ss.count;
     let mut to = at;
+    let mut k: usize = 0;
     let mut i: usize = 0;
-    while i < count {
+    while k < SECTOR_RULES {
+        if count <= i {
+            k += 1;
+            i = 0;
+            continue;
+        }
         let s = ss.all[i];
         to = put(
             numbers,
             to,
-            k,
-            sector_rule(density, bytes, n, track, ss, k - SECTOR_KINDS, s),
+            SECTOR_KINDS + k,
+            sector_rule(density, bytes, n, syncs, track, ss, apart, k, s),
         );
         i += 1;
     }
@@ -214,12 +276,14 @@ fn sector_rule(
     density: Density,
     bytes: &[u8],
     n: usize,
+    syncs: &[u64; WORDS],
     track: u32,
     ss: Sectors,
+    apart: bool,
     k: usize,
     s: Sector,
 ) -> Row
-    requires { ⌜ BoundedTrack n ss × (k < 13) ⌝ }
+    requires { ⌜ BoundedTrack n ss × (k < 13) × SyncMap (layoutOf density) (now bytes) n (now syncs) × Within n s × (apart ≡ true → someSector (startsInData n s) (sectorsIn ss) ≡ false) ⌝ }
     ensures { λ r. ⌜ r ≡ getD (sectorRows (layoutOf density) (cell (now (bytes .entry)) n) n track (sectorsIn ss) s) k noRow ⌝ }
 {
     if k < DATA_RULES {
@@ -230,24 +294,27 @@ fn sector_rule(
     }
     if k == OVERWRITTEN {
         return Row {
-            holds: overwritten(n as u32, ss, s),
+            holds: overwritten(apart, n as u32, ss, s),
             place: s.place as usize,
             detail: s.number as usize,
         };
     }
-    let syncs = cell_patterns::syncs_inside(density, bytes, n, s);
+    let inside = cell_patterns::syncs_inside(density, n, syncs, s);
     Row {
-        holds: 0 < syncs,
+        holds: 0 < inside,
         place: s.place as usize,
-        detail: syncs,
+        detail: inside,
     }
 }
 
-// SWS: does the sector s start in the data of another?
-fn overwritten(n: u32, ss: Sectors, s: Sector) -> bool
-    requires { ⌜ AtMost64 ss ⌝ }
+// SWS: does the sector s start in the data of another? Where the sectors are known to lie apart, none is looked at.
+fn overwritten(apart: bool, n: u32, ss: Sectors, s: Sector) -> bool
+    requires { ⌜ AtMost64 ss × (apart ≡ true → someSector (startsInData n s) (sectorsIn ss) ≡ false) ⌝ }
     ensures { λ r. ⌜ r ≡ someSector (startsInData n s) (sectorsIn ss) ⌝ }
 {
+    if apart {
+        return false;
+    }
     let count = ss.count;
     let mut j: usize = 0;
     while j < count {
@@ -259,6 +326,44 @@ fn overwritten(n: u32, ss: Sectors, s: Sector) -> bool
     }
     false
 }
+
+// Do the sectors lie one behind the other, each with its data, and all before the track's end? Then none starts in the data of another.
+fn are_apart(n: u32, ss: Sectors) -> bool
+    requires { ⌜ BoundedTrack n ss ⌝ }
+    ensures { λ r. ⌜ (r ≡ true → (i : ℕ) → i < ss .count → someSector (startsInData n (nth (sectorsIn ss) i)) (sectorsIn ss) ≡ false) ⌝ }
+{
+    let count = ss.count;
+    let mut free: u32 = 0;
+    let mut i: usize = 0;
+    while i < count {
+        let s = ss.all[i];
+        if s.place < free {
+            return false;
+        }
+        free = free_after(s);
+        i += 1;
+    }
+    free <= n
+}
+
+// The first cell behind a sector and its data; one that no track has where the data is not behind the ID.
+fn free_after(s: Sector) -> u32
+    requires { ⌜ s .place ≤ 131072 ⌝ }
+    ensures { λ r. ⌜ (r ≤ 200000 → Clear s r) ⌝ }
+{
+    if s.data_mark == 0 {
+        return s.place + 1;
+    }
+    if s.data_place < s.place {
+        return NOWHERE;
+    }
+    if s.data_end <= s.place {
+        return NOWHERE;
+    }
+    s.data_end
+}
+
+const NOWHERE: u32 = 0xFFFF_FFFF;
 
 // What a row finds, put after the `at` findings that are in the list; how many there are then.
 fn put(numbers: &mut [u32; NUMBERS], at: usize, k: usize, row: Row) -> usize

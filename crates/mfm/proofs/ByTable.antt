@@ -7,8 +7,8 @@ use lib.ListN.{getD}
 use Rattle.basis.specs.Lists.{listed}
 use Rattle.basis.proofs.Tables.{entry-of}
 use Rattle.mfm.specs.Coding.{byteCells, encoded}
-use Rattle.mfm.specs.PrivateContracts.{entryOf, codedBy}
-use Rattle.mfm.specs.Table.{cellsOfEntry, cellTable}
+use Rattle.mfm.specs.PrivateContracts.{codedBy}
+use Rattle.mfm.specs.Table.{cellsOfEntry, cellTable, entryOf}
 use Rattle.mfm.proofs.Coder.{encoded-none, encoded-more, coded-by-none, coded-by-more}
 
 listed-by-rule : cellTable ≡ listed cellsOfEntry 512

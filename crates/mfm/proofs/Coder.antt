@@ -17,7 +17,8 @@ use Rattle.cells.specs.CellsAndBytes.{bitOf, word, listCell, packedByte, packed
 use Rattle.cells.proofs.Packing.{packed-append}
 use Rattle.cells.proofs.Words.{word-split, word-lt}
 use Rattle.mfm.specs.Coding.{dataBits, clock, bitCells, encoded, byteCells}
-use Rattle.mfm.specs.PrivateContracts.{entryOf, codedBy}
+use Rattle.mfm.specs.PrivateContracts.{codedBy}
+use Rattle.mfm.specs.Table.{entryOf}
 use Rattle.mfm.proofs.Cells.{length-cells, cells-are, cells-append, last-of-byte, of-byte}
 
 -- a byte at a time: two bytes of cells, and the rest after its lowest bit

@@ -1,12 +1,8 @@
 -- What only the contracts of private functions need: coding by a table that is lent. With `cellTable` for the table it is what the clock rule gives
 -- (`by-table`, in proofs/ByTable). Assumes nothing.
-use Prim.Native.Nat.{ℕ, _+_, _*_, _/_, _%_}
+use Prim.Native.Nat.{ℕ, _/_, _%_}
 use mathlib.Core.List.{List, [], _∷_}
-use lib.ListN.{getD}
-
--- what a table has for a byte after a data bit
-abbrev pub entryOf : List ℕ → ℕ → ℕ → ℕ
-entryOf table before byte = getD table (before * 256 + byte) 0
+use Rattle.mfm.specs.Table.{entryOf}
 
 -- bytes coded by a table, entry by entry: two bytes of cells for each, the high one first. Its lowest bit is the bit before the next byte
 unfoldable pub codedBy : List ℕ → ℕ → List ℕ → List ℕ

@@ -1,7 +1,8 @@
 -- Section 1 of the specification, rule 1.20: the table by which bytes are coded. The main property: the code's
 -- table is this one (`cell_table`). Assumes nothing.
-use Prim.Native.Nat.{ℕ, _/_, _%_}
+use Prim.Native.Nat.{ℕ, _+_, _*_, _/_, _%_}
 use mathlib.Core.List.{List}
+use lib.ListN.{getD}
 use Rattle.basis.specs.Lists.{listed}
 use Rattle.mfm.specs.Coding.{byteCells}
 
@@ -13,3 +14,7 @@ cellsOfEntry i = byteCells (i / 256) (i % 256)
 -- proofs/ByTable)
 unfoldable pub cellTable : List ℕ
 cellTable = listed cellsOfEntry 512
+
+-- 1.20: what a table has for a byte after a data bit
+abbrev pub entryOf : List ℕ → ℕ → ℕ → ℕ
+entryOf table before byte = getD table (before * 256 + byte) 0

@@ -12,8 +12,8 @@ ghost use Rattle.basis.specs.Lists.{writtenOver};
 ghost use Rattle.refusals.specs.RefusedCalls.{countedAnswer};
 ghost use Rattle.cells.specs.CellsAndBytes.{cell, word};
 ghost use Rattle.mfm.specs.Coding.{byteCells, dataCell, byteOn, encoded, decoded};
-ghost use Rattle.mfm.specs.PrivateContracts.{entryOf, codedBy};
-ghost use Rattle.mfm.specs.Table.{cellTable};
+ghost use Rattle.mfm.specs.PrivateContracts.{codedBy};
+ghost use Rattle.mfm.specs.Table.{cellTable, entryOf};
 ghost use Rattle.mfm.specs.Calls.{codingAnswer, decodingAnswer, encodedAfter, decodedAfter};
 
 // The most bytes that one call codes, and the most bytes of cells that one call decodes.
@@ -61,7 +61,14 @@ pub fn byte_cells(before: bool, byte: u8) -> u16
     ensures { λ r. ⌜ r ≡ byteCells (cond before 1 0) byte ⌝ }
 {
     let table = cell_table();
-    entry(&table, before as u8, byte)
+    cells_by(&table, before, byte)
+}
+
+// What a lent table has for a byte after a data bit. A loop makes the table once and asks here: where each byte made it, it would be copied for each.
+pub fn cells_by(table: &[u16; 512], before: bool, byte: u8) -> u16
+    ensures { λ r. ⌜ r ≡ entryOf (now (table .entry)) (cond before 1 0) byte ⌝ }
+{
+    entry(table, before as u8, byte)
 }
 
 // The table by which bytes are coded: entry 256 * bit + byte has the cells of a byte after a data bit.

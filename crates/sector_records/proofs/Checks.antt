@@ -1,6 +1,6 @@
 -- Check words of the bytes on a track. Assumes nothing.
-use Prim.Native.Nat.{ℕ, zero, suc, _+_, _-_, _*_, _/_, _%_, _^_, _<_, _≤_}
-use mathlib.Core.Path.{_≡_, refl, sym, ap, _∙_}
+use Prim.Native.Nat.{ℕ, zero, _+_, _-_, _*_, _/_, _%_, _^_, _<_, _≤_}
+use mathlib.Core.Path.{_≡_, sym, ap, _∙_}
 use mathlib.Core.List.{List}
 use native.Mathlib.Decide.{ℕ-discrete}
 use native.Mathlib.Nat.{zero-add}
@@ -9,7 +9,6 @@ use native.Mathlib.Omega.{arith}
 use lib.Dec.{eqb}
 use lib.ListN.{length, getD, set, take, length-set}
 use lib.Seq.{getD-set-same, getD-set-other}
-use Rattle.basis.specs.Lists.{listed}
 use Rattle.basis.proofs.Lists.{take-listed, listed-same}
 use Rattle.cells.specs.CellsAndBytes.{word}
 use Rattle.cells.proofs.Words.{word-same}
@@ -32,6 +31,10 @@ byte-in-four f bit q o k m x e g =
     ∙ word-middle (dataCell f q) (λ i. bit (q + (2 * i + 1))) o 8 m 0
     ∙ ap (word (dataCell f q) 8) (zero-add o ∙ g)
     ∙ data-byte f q k
+
+-- the first of them
+pub byte-first : (f : ℕ → ℕ) → ((i : ℕ) → f i < 2) → (q x : ℕ) → x ≡ word (dataCell f q) 32 0 → x / 2 ^ 24 % 256 ≡ byteOn f q
+byte-first f bit q x e = let z : q + 16 * 0 ≡ q = omega arith in byte-in-four f bit q 0 0 24 x e (omega arith) ∙ ap (byteOn f) z
 
 -- a buffer whose first i bytes are those from p on
 pub Decoded : (ℕ → ℕ) → ℕ → List ℕ → ℕ → Type 0

@@ -1,3 +1,4 @@
 pub mod Marks
+pub mod Maps
 pub mod Sectors
 pub mod PrivateContracts

@@ -8,18 +8,18 @@ ghost use mathlib.Core.Bool.{true, cond, _&&_};
 ghost use mathlib.Core.List.{[]};
 ghost use Prim.Native.Nat.{_+_, _-_, _*_, _/_, _%_, _<_, _≤_};
 ghost use lib.Dec.{ltb, leb};
-ghost use Rattle.basis.specs.Lists.{joined};
 ghost use Rattle.basis.specs.Search.{least};
-ghost use lib.ListN.{length};
+ghost use lib.ListN.{replicate};
 ghost use Rattle.cells.specs.CellsAndBytes.{cell};
 ghost use Rattle.cell_words.specs.Words.{Holds};
 ghost use Rattle.crc.specs.CheckWord.{checkWordFrom};
 ghost use Rattle.mfm.specs.Coding.{byteOn};
 ghost use Rattle.layouts.specs.Layouts.{layoutOf};
 ghost use Rattle.layouts.specs.PrivateContracts.{Sound};
-ghost use Rattle.sector_records.specs.Marks.{markAt, markByte, markOf, idMarkAt, dataMarkAt};
-ghost use Rattle.sector_records.specs.PrivateContracts.{MarkMap};
-ghost use Rattle.sector_records.specs.Sectors.{bytesFrom, checkBytes, checkGood, leastData, lengthOf, idByte, sectorAt, endOfData, noSector, sectorsAt, sectorsOf, kept};
+ghost use Rattle.sector_records.specs.Marks.{markByte, markOf, idMarkAt, dataMarkAt};
+ghost use Rattle.sector_records.specs.Maps.{TrackMaps};
+ghost use Rattle.sector_records.specs.PrivateContracts.{likelyAt, MarkMap};
+ghost use Rattle.sector_records.specs.Sectors.{bytesFrom, checkBytes, checkGood, leastData, lengthOf, idByte, sectorAt, endOfData, noSector, sectorsOf, kept};
 
 // The most cells of a track, and the most sectors that it may have.
 pub const MOST_CELLS: usize = 131072;
@@ -63,18 +63,34 @@ pub struct Sectors {
 pub fn track_sectors(density: Density, bytes: &[u8], n: usize) -> Sectors
     ensures { λ r. ⌜ r ≡ kept (cond (ltb 131072 n) [] (sectorsOf (layoutOf density) (now (bytes .entry)) n)) ⌝ }
 {
+    let mut words = [0u64; WORDS];
+    let mut syncs = [0u64; WORDS];
+    sectors_with_maps(density, bytes, n, &mut words, &mut syncs)
+}
+
+// The same. The maps by which they are found stand in two lent arrays then, for what else looks at the cells: those of the ones and of the syncs. A
+// track with too many cells has none.
+pub fn sectors_with_maps(
+    density: Density,
+    bytes: &[u8],
+    n: usize,
+    words: &mut [u64; WORDS],
+    syncs: &mut [u64; WORDS],
+) -> Sectors
+    ensures sectors { λ r. ⌜ r ≡ kept (cond (ltb 131072 n) [] (sectorsOf (layoutOf density) (now (bytes .entry)) n)) ⌝ }
+    ensures maps { λ _. ⌜ (n ≤ 131072 → TrackMaps (layoutOf density) (now (bytes .entry)) n (now (words .exit)) (now (syncs .exit))) ⌝ }
+{
     if MOST_CELLS < n {
         return no_sectors();
     }
-    list(layout_of(density), bytes, n)
+    make_maps(density, bytes, n, words, syncs);
+    list(density, bytes, n, words, syncs)
 }
 
-// Single density, as a layout has it, and its marks, of 16 cells each.
+// Single density, as a layout has it, and its data marks, of 16 cells each.
 const SINGLE_DENSITY: u8 = 1;
 
 const WORD_CELLS: usize = 16;
-
-const ID_WORD: u64 = 0xF57E;
 
 const DATA_WORD: u64 = 0xF56F;
 
@@ -82,6 +98,10 @@ const DELETED_DATA_WORD: u64 = 0xF56A;
 
 // The cells that the three syncs of a mark of double density take.
 const SYNC_CELLS: usize = 48;
+
+// Where the second data cell of a mark's byte stands from the mark on. It is a one in the byte of each mark that is looked for, and not in A1: so a
+// long row of syncs has no marks to look at.
+const SECOND_DATA_CELL: usize = 51;
 
 // How many size codes there are to the controller.
 const SIZE_CODES: u8 = 4;
@@ -100,28 +120,55 @@ const LAST_DATA_MARK: u8 = 0xFB;
 
 // The functions below take a layout, of which they ask that its numbers are small (`Sound`); where one number is enough they take that.
 
-// The sectors of a track, with a map of its marks that is made once.
-fn list(layout: Layout, bytes: &[u8], n: usize) -> Sectors
-    requires { ⌜ Sound layout × (n ≤ 131072) ⌝ }
-    ensures { λ r. ⌜ r ≡ kept (sectorsOf layout (now (bytes .entry)) n) ⌝ }
+// Makes the two maps of a track. They go on past its end: that of the syncs by 64 words, since data may begin there, that of the ones by the words that
+// the maps made of it lose.
+fn make_maps(
+    density: Density,
+    bytes: &[u8],
+    n: usize,
+    words: &mut [u64; WORDS],
+    syncs: &mut [u64; WORDS],
+)
+    requires { ⌜ n ≤ 131072 ⌝ }
+    ensures { λ _. ⌜ TrackMaps (layoutOf density) (now (bytes .entry)) n (now (words .exit)) (now (syncs .exit)) ⌝ }
 {
+    clear(words);
+    clear(syncs);
+    cell_words::load(bytes, n, words, n / 64 + 68);
+    let layout = layout_of(density);
+    cell_words::word_map(words, layout.sync, syncs, n / 64 + 64);
+}
+
+// What a lent array held is not read.
+fn clear(map: &mut [u64; WORDS])
+    ensures { λ _. ⌜ now (map .exit) ≡ replicate 2116 0 ⌝ }
+{
+    *map = [0; WORDS];
+}
+
+// The sectors of a track, out of its two maps. In single density that of the syncs is the map of the ID marks.
+fn list(
+    density: Density,
+    bytes: &[u8],
+    n: usize,
+    words: &[u64; WORDS],
+    syncs: &[u64; WORDS],
+) -> Sectors
+    requires { ⌜ (n ≤ 131072) × TrackMaps (layoutOf density) (now bytes) n (now words) (now syncs) ⌝ }
+    ensures { λ r. ⌜ r ≡ kept (sectorsOf (layoutOf density) (now (bytes .entry)) n) ⌝ }
+{
+    let layout = layout_of(density);
+    if layout.density == SINGLE_DENSITY {
+        return list_by(layout, bytes, n, syncs);
+    }
     let mut marks = [0u64; WORDS];
-    find_marks(layout, bytes, n, &mut marks);
+    cell_words::thrice_map(syncs, &mut marks, n / 64 + 63);
+    cell_words::keep_map(words, SECOND_DATA_CELL, true, &mut marks, n / 64 + 63);
     list_by(layout, bytes, n, &marks)
 }
 
-// Makes the map of the marks of double density. In single density marks are looked for as words.
-fn find_marks(layout: Layout, bytes: &[u8], n: usize, marks: &mut [u64; WORDS])
-    requires { ⌜ n ≤ 131072 ⌝ }
-    ensures { λ _. ⌜ (length (now (marks .entry)) ≡ 2116 → MarkMap layout (cell (now (bytes .entry)) n) n (now (marks .exit))) ⌝ }
-{
-    if layout.density == SINGLE_DENSITY {
-        return;
-    }
-    cell_words::mark_map(bytes, n, marks, n / 64 + 64);
-}
-
-// The sectors of a track, in one pass from ID mark to ID mark.
+// The sectors of a track, in one pass from ID mark to ID mark. Past the first 64 they are only counted, and no records are made of them. The struct is
+// changed in place: a function that took it and gave it back would copy all its records.
 fn list_by(layout: Layout, bytes: &[u8], n: usize, marks: &[u64; WORDS]) -> Sectors
     requires { ⌜ Sound layout × (n ≤ 131072) × MarkMap layout (cell (now bytes) n) n (now marks) ⌝ }
     ensures { λ r. ⌜ r ≡ kept (sectorsOf layout (now (bytes .entry)) n) ⌝ }
@@ -129,34 +176,17 @@ fn list_by(layout: Layout, bytes: &[u8], n: usize, marks: &[u64; WORDS]) -> Sect
     let mut sectors = no_sectors();
     let mut p = find_id_mark(layout, bytes, n, marks, 0, n);
     while p < n {
-        sectors = add_at(sectors, layout, bytes, n, marks, p);
+        let at = sectors.count;
+        sectors.count = at + 1;
+        if MOST_SECTORS <= at {
+            p = find_id_mark(layout, bytes, n, marks, p + 1, n);
+            continue;
+        }
+        let sector = sector_at(layout, bytes, n, marks, p);
+        sectors.all[at] = sector;
         p = find_id_mark(layout, bytes, n, marks, p + 1, n);
     }
     sectors
-}
-
-// The sectors before p, and the one at p. Past the first 64 it is only counted, and no record is made of it.
-fn add_at(
-    sectors: Sectors,
-    layout: Layout,
-    bytes: &[u8],
-    n: usize,
-    marks: &[u64; WORDS],
-    p: usize,
-) -> Sectors
-    requires { ⌜ Sound layout × (p < 131072) × (sectors ≡ kept (joined (sectorsAt layout (cell (now bytes) n)) p)) × (idMarkAt layout (cell (now bytes) n) p ≡ true) × MarkMap layout (cell (now bytes) n) n (now marks) × (p ≤ n) ⌝ }
-    ensures { λ r. ⌜ r ≡ kept (joined (sectorsAt layout (cell (now (bytes .entry)) n)) (p + 1)) ⌝ }
-{
-    let at = sectors.count;
-    let mut next = sectors;
-    next.count = at + 1;
-    if at < MOST_SECTORS {
-        let sector = sector_at(layout, bytes, n, marks, p);
-        next.all[at] = sector;
-        next
-    } else {
-        next
-    }
 }
 
 // No sectors: their number is 0, and each record is all zeros.
@@ -197,7 +227,7 @@ fn sector_at(layout: Layout, bytes: &[u8], n: usize, marks: &[u64; WORDS], p: us
     requires { ⌜ Sound layout × (p < 131072) × MarkMap layout (cell (now bytes) n) n (now marks) × (p ≤ n) ⌝ }
     ensures { λ r. ⌜ r ≡ sectorAt layout (cell (now (bytes .entry)) n) p ⌝ }
 {
-    let mark = mfm::byte_on(bytes, n, p + layout.byte_place);
+    let mark = byte_at(bytes, n, p + layout.byte_place);
     let track = id_byte(layout.mark_length, bytes, n, p, 0);
     let side = id_byte(layout.mark_length, bytes, n, p, 1);
     let number = id_byte(layout.mark_length, bytes, n, p, 2);
@@ -232,7 +262,7 @@ fn id_byte(mark: usize, bytes: &[u8], n: usize, p: usize, i: usize) -> u8
     requires { ⌜ (mark ≤ 64) × (p < 131072) × (i < 4) ⌝ }
     ensures { λ r. ⌜ r ≡ idByte mark (cell (now (bytes .entry)) n) p i ⌝ }
 {
-    mfm::byte_on(bytes, n, p + mark + BYTE_LENGTH * i)
+    byte_at(bytes, n, p + mark + BYTE_LENGTH * i)
 }
 
 // Where the data mark of the ID mark at p stands; one past the reach where there is none.
@@ -259,7 +289,7 @@ fn mark_if(found: bool, place: usize, bytes: &[u8], n: usize, q: usize) -> u8
     ensures { λ r. ⌜ r ≡ cond found (byteOn (cell (now (bytes .entry)) n) (q + place)) 0 ⌝ }
 {
     if found {
-        mfm::byte_on(bytes, n, q + place)
+        byte_at(bytes, n, q + place)
     } else {
         0
     }
@@ -335,6 +365,13 @@ fn check_word(start: u16, bytes: &[u8], n: usize, p: usize, k: usize) -> u16
     crc::check_word_from(start, &decoded[..k])
 }
 
+// The byte that is coded from p on.
+fn byte_at(bytes: &[u8], n: usize, p: usize) -> u8
+    ensures { λ r. ⌜ r ≡ byteOn (cell (now (bytes .entry)) n) p ⌝ }
+{
+    low_byte(mfm::data_cells(cell_words::word_from(bytes, n, p)) >> 24)
+}
+
 fn low_byte(x: u64) -> u8
     ensures { λ r. ⌜ r ≡ x % 256 ⌝ }
 {
@@ -346,7 +383,7 @@ fn check_bytes(bytes: &[u8], n: usize, p: usize) -> u16
     requires { ⌜ p ≤ 300000 ⌝ }
     ensures { λ r. ⌜ r ≡ checkBytes (cell (now (bytes .entry)) n) p ⌝ }
 {
-    wide(mfm::byte_on(bytes, n, p)) * 256 + wide(mfm::byte_on(bytes, n, p + BYTE_LENGTH))
+    wide(byte_at(bytes, n, p)) * 256 + wide(byte_at(bytes, n, p + BYTE_LENGTH))
 }
 
 fn wide(byte: u8) -> u16
@@ -368,7 +405,7 @@ fn find_id_mark(
     ensures { λ r. ⌜ r ≡ least (idMarkAt layout (cell (now (bytes .entry)) n)) (to - from) from ⌝ }
 {
     if layout.density == SINGLE_DENSITY {
-        return cells::find_word(bytes, n, ID_WORD, WORD_CELLS, from, to);
+        return cell_words::least_in(marks, from, to);
     }
     find_mark(bytes, n, marks, FIRST_ID_MARK, LAST_ID_MARK, from, to)
 }
@@ -403,7 +440,7 @@ fn find_mark(
     from: usize,
     to: usize,
 ) -> usize
-    requires { ⌜ (from ≤ to) × (to ≤ n + 1000) × Holds (markAt (cell (now bytes) n)) (now marks) (n / 64 + 64) × (n ≤ 131072) ⌝ }
+    requires { ⌜ (from ≤ to) × (to ≤ n + 1000) × Holds (likelyAt (cell (now bytes) n)) (now marks) (n / 64 + 63) × (n ≤ 131072) × (0xC0 ≤ low) ⌝ }
     ensures { λ r. ⌜ r ≡ least (markOf (cell (now (bytes .entry)) n) low high) (to - from) from ⌝ }
 {
     let mut p = cell_words::least_in(marks, from, to);
@@ -421,6 +458,6 @@ fn has_byte(bytes: &[u8], n: usize, p: usize, low: u8, high: u8) -> bool
     requires { ⌜ p < 200000 ⌝ }
     ensures { λ r. ⌜ r ≡ (leb low (markByte (cell (now (bytes .entry)) n) p) && leb (markByte (cell (now (bytes .entry)) n) p) high) ⌝ }
 {
-    let byte = mfm::byte_on(bytes, n, p + SYNC_CELLS);
+    let byte = byte_at(bytes, n, p + SYNC_CELLS);
     (low <= byte) & (byte <= high)
 }

@@ -7,7 +7,7 @@ use native.Mathlib.Omega.{arith}
 use borrow.Author.Tests.{lt-ltb, le-ltb, le-leb, lt-leb, eq-eqb, ne-eqb, ltb-false}
 use lib.Dec.{ltb, leb}
 use lib.ListN.{length}
-use Rattle.basis.proofs.Bools.{or-right}
+use Rattle.basis.proofs.Bools.{or-left, or-right}
 use Rattle.cells.specs.CellsAndBytes.{cell, bytesFor}
 use Rattle.refusals.specs.RefusedCalls.{Answer, bufferAfter}
 use Rattle.refusals.specs.RefusedCalls.Answer.{gives, refused}
@@ -108,21 +108,21 @@ few-accepted count m next e = go (ltb 64 count) refl e
     go true t g = let z : _≡_ {A = ℕ} 0 1 = cc in absurd (omega arith)
     go false t g = ltb-false 64 count t
 
-few-cells : (bytes : List ℕ) (N T H m : ℕ) (next : Answer ℕ) → trackJudged bytes N T H next ≡ gives m → N ≤ 131072
+cells-accepted : (bytes : List ℕ) (N T H m : ℕ) (next : Answer ℕ) → trackJudged bytes N T H next ≡ gives m → (20000 ≤ N) × (N ≤ 131072)
 unfolding trackJudged
-few-cells bytes N T H m next e = go _ (ltb 83 T || ltb 1 H) (ltb N 20000 || ltb 131072 N) refl e
+cells-accepted bytes N T H m next e = go _ (ltb 83 T || ltb 1 H) (ltb N 20000 || ltb 131072 N) refl e
   where
-    go : (rest : Answer ℕ) (b c : Bool) → (ltb N 20000 || ltb 131072 N) ≡ c → cond b (refused 1 0) (cond c (refused 2 N) rest) ≡ gives m → N ≤ 131072
+    go : (rest : Answer ℕ) (b c : Bool) → (ltb N 20000 || ltb 131072 N) ≡ c → cond b (refused 1 0) (cond c (refused 2 N) rest) ≡ gives m → (20000 ≤ N) × (N ≤ 131072)
     go rest true c f g = let z : _≡_ {A = ℕ} 0 1 = cc in absurd (omega arith)
     go rest false true f g = let z : _≡_ {A = ℕ} 0 1 = cc in absurd (omega arith)
-    go rest false false f g = most-cells N f
+    go rest false false f g = (ltb-false N 20000 (or-left (ltb N 20000) (ltb 131072 N) f), most-cells N f)
 
 -- what is judged after 1 to 4 gives what was accepted, on a track of at most 131,072 cells with at most 64 sectors
 pub judged-accepted : (bytes : List ℕ) (N T H sectors m : ℕ) (next : Answer ℕ) → trackJudged bytes N T H (countJudged sectors next) ≡ gives m
     → (next ≡ gives m) × (sectors ≤ 64) × (N ≤ 131072)
 judged-accepted bytes N T H sectors m next e =
     let j = sym (follows-track _ _ _ (follows-self (countJudged sectors next)) bytes N T H .accepted m e) ∙ e in
-    (sym (follows-count _ _ _ (follows-self next) sectors .accepted m j) ∙ j, few-accepted sectors m next j, few-cells bytes N T H m (countJudged sectors next) e)
+    (sym (follows-count _ _ _ (follows-self next) sectors .accepted m j) ∙ j, few-accepted sectors m next j, cells-accepted bytes N T H m (countJudged sectors next) e .1)
 
 module _ (layout : Layout) (bytes : List ℕ) (N T H : ℕ) where
   abbrev count : ℕ
@@ -136,6 +136,10 @@ module _ (layout : Layout) (bytes : List ℕ) (N T H : ℕ) where
       let g = j .0 in
       let s : m ≡ count = cc in
       (s, rw s (j .1), j .2)
+
+  pub enough-cells : (m : ℕ) → sectorsAnswer layout bytes N T H ≡ gives m → 20000 ≤ N
+  unfolding sectorsAnswer
+  enough-cells m e = cells-accepted bytes N T H m (countJudged count (gives count)) e .0
 
   -- a sector by index is judged after the list, and reading out after the sector by index
   pub index-follows : (index : ℕ) → Follows (sectorsAnswer layout bytes N T H) (indexAnswer layout bytes N T H index) (indexJudged (length (sectorsOf layout bytes N)) index (gives (length (sectorsOf layout bytes N))))

@@ -1,4 +1,5 @@
 // The calls on the sectors of a track: the sectors, the sector by index, and reading out.
+use cell_words::WORDS;
 pub use layouts::Density;
 use layouts::layout_of;
 use refusals::Counted;
@@ -10,12 +11,14 @@ pub use sector_records::Sector;
 pub use sector_records::Sectors;
 ghost use mathlib.Core.Path.{_≡_};
 ghost use mathlib.Core.List.{[]};
-ghost use Prim.Native.Nat.{_≤_};
+ghost use Prim.Native.Nat.{ℕ, _≤_};
 ghost use lib.ListN.{length};
 ghost use Rattle.basis.specs.Lists.{writtenOver};
 ghost use Rattle.cells.specs.CellsAndBytes.{cell};
 ghost use Rattle.refusals.specs.RefusedCalls.{refusedWith, countedAnswer, bufferAfter};
+ghost use Rattle.refusals.specs.RefusedCalls.Answer.{gives};
 ghost use Rattle.layouts.specs.Layouts.{doubleDensity, layoutOf};
+ghost use Rattle.sector_records.specs.Maps.{TrackMaps};
 ghost use Rattle.sector_records.specs.Sectors.{bytesFrom, noSector, sectorsOf, kept, dataBytes};
 ghost use Rattle.sectors.specs.Calls.{sectorsAnswer, sectorsBeside, indexAnswer, recordBeside, sectorOf, readOutAnswer, dataJudged, dataAnswer, dataAfter};
 
@@ -81,6 +84,25 @@ pub fn sectors_in(density: Density, bytes: &[u8], n: usize, track: u32, side: u3
     ensures answer { λ r. ⌜ countedAnswer (r .answer) ≡ sectorsAnswer (layoutOf density) (now (bytes .entry)) n track side ⌝ }
     ensures sectors { λ r. ⌜ r .sectors ≡ sectorsBeside (sectorsAnswer (layoutOf density) (now (bytes .entry)) n track side) (sectorsOf (layoutOf density) (now (bytes .entry)) n) ⌝ }
 {
+    let mut words = [0u64; WORDS];
+    let mut syncs = [0u64; WORDS];
+    sectors_with_maps(density, bytes, n, track, side, &mut words, &mut syncs)
+}
+
+// The same. Where the call is not refused, the maps of the track's ones and syncs stand in two lent arrays then, for what else looks at its cells.
+pub fn sectors_with_maps(
+    density: Density,
+    bytes: &[u8],
+    n: usize,
+    track: u32,
+    side: u32,
+    words: &mut [u64; WORDS],
+    syncs: &mut [u64; WORDS],
+) -> TrackSectors
+    ensures answer { λ r. ⌜ countedAnswer (r .answer) ≡ sectorsAnswer (layoutOf density) (now (bytes .entry)) n track side ⌝ }
+    ensures sectors { λ r. ⌜ r .sectors ≡ sectorsBeside (sectorsAnswer (layoutOf density) (now (bytes .entry)) n track side) (sectorsOf (layoutOf density) (now (bytes .entry)) n) ⌝ }
+    ensures maps { λ r. ⌜ ((count : ℕ) → countedAnswer (r .answer) ≡ gives count → TrackMaps (layoutOf density) (now (bytes .entry)) n (now (words .exit)) (now (syncs .exit))) ⌝ }
+{
     if (LAST_TRACK < track) | (LAST_SIDE < side) {
         return no_list(Refusal::TrackOrSide);
     }
@@ -91,7 +113,7 @@ pub fn sectors_in(density: Density, bytes: &[u8], n: usize, track: u32, side: u3
     if bytes.len() < needed {
         return no_list(Refusal::TooFewBytes(needed));
     }
-    let sectors = sector_records::track_sectors(density, bytes, n);
+    let sectors = sector_records::sectors_with_maps(density, bytes, n, words, syncs);
     let count = sectors.count;
     if MOST_SECTORS < count {
         return no_list(Refusal::TooManySectors(count));

@@ -15,6 +15,9 @@ use lib.Seq.{sets-eq, take-at, drop-at, drop-drop, drop-cons, length-take-le}
 use Rattle.basis.specs.Lists.{writtenOver}
 use Rattle.crc.specs.CheckWord.{afterByte}
 use Rattle.mfm.specs.Coding.{byteCells}
+use Rattle.mfm.specs.Table.{cellTable, entryOf}
+use Rattle.mfm.proofs.ByTable.{entry-is}
+use Rattle.mfm.proofs.Cells.{bit-lt}
 use Rattle.refusals.specs.RefusedCalls.Answer.{gives, refused}
 use Rattle.track_writer.specs.declared.Writer.{Writer}
 use Rattle.track_writer.specs.WriteTrack.Piece.{coded, syncA1, syncC2}
@@ -30,6 +33,10 @@ odd-is x = go (x % 2) (omega arith)
     go zero h = refl
     go (suc zero) h = refl
     go (suc (suc r)) h = absurd (omega arith)
+
+-- the table has the cells of each byte after either bit
+pub cells-in : {table : List ℕ} → table ≡ cellTable → (before : Bool) (byte : ℕ) → byte < 256 → entryOf table (cond before 1 0) byte ≡ byteCells (cond before 1 0) byte
+cells-in e before byte h = rw e (entry-is (cond before 1 0) byte (bit-lt before) h)
 
 -- ---- a count that may stop early tells what the refusals ask
 counted-few : (n r : ℕ) → UpToMost n r → r ≤ 8192 → r ≡ n

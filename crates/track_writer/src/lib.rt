@@ -6,6 +6,7 @@ ghost use Prim.Native.Nat.{_<_, _≤_, _+_, _*_, _/_, _%_};
 ghost use lib.ListN.{length, take, drop};
 ghost use mathlib.Core.List.{_++_};
 ghost use Rattle.basis.specs.Lists.{writtenOver};
+ghost use Rattle.mfm.specs.Table.{cellTable};
 ghost use Rattle.refusals.specs.RefusedCalls.{countedAnswer};
 ghost use Rattle.track_writer.specs.WriteTrack.{written, piecesOf};
 ghost use Rattle.track_writer.specs.PrivateContracts.{packedFor, next, twoBytes, piecesFor, UpToMost};
@@ -65,6 +66,7 @@ fn write_list(list: &[u8], cells: &mut [u8])
     requires { ⌜ length (written (now list)) ≤ length (now cells) ⌝ }
     ensures { λ _. ⌜ now (cells .exit) ≡ writtenOver (written (now (list .entry))) (now (cells .entry)) ⌝ }
 {
+    let table = mfm::cell_table();
     let mut writer = Writer {
         word: crc::START,
         odd: false,
@@ -74,7 +76,7 @@ fn write_list(list: &[u8], cells: &mut [u8])
     let mut i: usize = 0;
     while i < list.len() {
         let byte = list[i];
-        at = put_byte(writer, byte, cells, at);
+        at = put_byte(&table, writer, byte, cells, at);
         writer = step(writer, byte);
         i += 1;
     }
@@ -122,9 +124,9 @@ fn step(writer: Writer, byte: u8) -> Writer
     }
 }
 
-// Puts the cells of a byte of the list at `at`, and gives the place behind them.
-fn put_byte(writer: Writer, byte: u8, cells: &mut [u8], at: usize) -> usize
-    requires { ⌜ at + length (packedFor writer byte) ≤ length (now cells) ⌝ }
+// Puts the cells of a byte of the list at `at`, and gives the place behind them. The table is that by which bytes are coded.
+fn put_byte(table: &[u16; 512], writer: Writer, byte: u8, cells: &mut [u8], at: usize) -> usize
+    requires { ⌜ (now table ≡ cellTable) × (at + length (packedFor writer byte) ≤ length (now cells)) ⌝ }
     ensures { λ r. ⌜ (r ≡ at + length (packedFor writer byte)) × (now (cells .exit) ≡ take at (now (cells .entry)) ++ (packedFor writer byte ++ drop (at + length (packedFor writer byte)) (now (cells .entry)))) ⌝ }
 {
     if byte == 0xF5 {
@@ -139,11 +141,11 @@ fn put_byte(writer: Writer, byte: u8, cells: &mut [u8], at: usize) -> usize
     if byte == 0xF7 {
         let high = high_byte(writer.word);
         let low = low_byte(writer.word);
-        put(cells, at, mfm::byte_cells(odd, high));
-        put(cells, at + 2, mfm::byte_cells(high % 2 == 1, low));
+        put(cells, at, mfm::cells_by(table, odd, high));
+        put(cells, at + 2, mfm::cells_by(table, high % 2 == 1, low));
         return at + 4;
     }
-    put(cells, at, mfm::byte_cells(odd, byte));
+    put(cells, at, mfm::cells_by(table, odd, byte));
     at + 2
 }
 

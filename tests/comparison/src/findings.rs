@@ -1,6 +1,6 @@
 //! Section 7 of the specification: the list of a track's findings.
 
-use crate::densities::{Calls, DOUBLE};
+use crate::densities::{Calls, DOUBLE, SINGLE};
 use crate::report::{Element, Group, Report};
 use crate::terms::{self, answer};
 use second_program::cells;
@@ -221,6 +221,50 @@ pub fn edges(report: &mut Report) {
     for kind in 1..=21 {
         group.same(seen[kind] > 0, true, || format!("kind {kind} was reached"));
     }
+    group.close(report);
+}
+
+/// What goes by words of 64 cells, in every phase: runs of zeros of all lengths that a word or two can hold and of NFA's, also over the index and two as
+/// long, on tracks that end anywhere in a word; and rows of syncs before an ID mark, and before data, that lie over the borders of words.
+pub fn borders_of_words(report: &mut Report) {
+    let mut group = Group::new("findings at the borders of words of 64 cells");
+    let mut seen = [0; 22];
+    let mut random = Random::new(64);
+    for n in [20_000, 20_031, 50_000, 99_967, 99_968, 99_969, 100_031, 131_071, 131_072] {
+        for run in [1, 62, 63, 64, 65, 126, 127, 128, 129, 999, 1_000, 1_001, 1_064] {
+            let mut track_cells: Vec<u8> = (0..n).map(|place| u8::from(place % 3 == 0)).collect();
+            let start = if random.one_in(3) { n - random.below(run as u64 + 2) as usize } else { random.below(n as u64) as usize };
+            let other = start + n / 2 + random.below(64) as usize;
+            for (from, length) in [(start, run), (other, run - random.below(2) as usize)] {
+                for place in from..from + length {
+                    track_cells[place % n] = 0;
+                }
+                track_cells[(from + length) % n] = 1;
+                track_cells[(from + n - 1) % n] = 1;
+            }
+            for calls in [&DOUBLE, &SINGLE] {
+                packed_track(calls, &mut group, &mut seen, (&cells::pack(&track_cells), n), (0, 0));
+            }
+        }
+    }
+    group.same(seen[20] > 0 && seen[21] > 0, true, || "kinds 20 and 21 were reached".to_string());
+    for syncs in 0..12 {
+        for _ in 0..12 {
+            let mut builder = TrackBuilder::new();
+            for _ in 0..syncs {
+                builder.write_sync_a1();
+            }
+            builder.write_id(0xFE, [0, 0, 3, 2], 0);
+            builder.write_gap_cells(300 + random.below(64) as usize);
+            for _ in 0..syncs {
+                builder.write_sync_a1();
+            }
+            builder.write_data(0xF8 + random.below(4) as u8, &[0x4E; 512], 0);
+            let track_cells = turn(&filled(builder.cells().to_vec(), 100_000 - random.below(64) as usize), random.below(100_000) as usize % 99_936);
+            whole_track(&mut group, &mut seen, &track_cells, (0, 0));
+        }
+    }
+    group.same(seen[3] > 0, true, || "kind 3 was reached".to_string());
     group.close(report);
 }
 

@@ -40,7 +40,7 @@ use std::thread;
 type Part = fn(&mut Report);
 
 /// The parts, by their modules. The long ones come first, so that no worker is left alone with one at the end.
-const PARTS: [(&str, Part); 81] = [
+const PARTS: [(&str, Part); 82] = [
     ("converter", converter::old_files),
     ("files", files::in_memory),
     ("findings", findings::any_tracks),
@@ -59,6 +59,7 @@ const PARTS: [(&str, Part); 81] = [
     ("blocks", blocks::portions),
     ("findings", findings::edges),
     ("findings", findings::size_codes),
+    ("findings", findings::borders_of_words),
     ("sectors", sectors::size_codes),
     ("program", program::portions),
     ("converter_program", converter_program::portions),

@@ -50,6 +50,13 @@ pub fn checks(repository: &Repository) -> Vec<Check> {
             ),
             good,
         ));
+        checks.push((
+            format!(
+                "what the edit {} of {} changes stands there once",
+                edit.name, edit.krate
+            ),
+            edit.applies,
+        ));
     }
     for function in &repository.functions {
         let good = function.promises

@@ -95,10 +95,16 @@ pub fn read(root: &Path) -> Repository {
                 &text(&path),
             ));
         }
-        for path in with_ending(folder.join("must-fail"), "edit") {
-            repository
-                .edits
-                .push(edit(krate, &stem(&path), &text(&path)));
+        for (part, before) in [("must-fail", ""), ("must-fail/more", "more/")] {
+            for path in with_ending(folder.join(part), "edit") {
+                let read = |file: &str| fs::read_to_string(folder.join(file)).ok();
+                repository.edits.push(edit(
+                    krate,
+                    &format!("{before}{}", stem(&path)),
+                    &text(&path),
+                    read,
+                ));
+            }
         }
     }
     repository

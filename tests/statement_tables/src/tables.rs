@@ -217,7 +217,10 @@ pub mod tests {
             sections: sections(specification),
             definitions: definitions::definitions("separator", "Rule", specs),
             functions: functions::functions("separator", "src/lib.rt", source),
-            edits: vec![edit("separator", "half_window_1001", edit_text)],
+            edits: vec![Edit {
+                applies: true,
+                ..edit("separator", "half_window_1001", edit_text, |_| None)
+            }],
             cited: definitions::cited(specs)
                 .into_iter()
                 .map(|number| (number, "separator/specs/Rule".to_string()))

@@ -19,9 +19,12 @@ count-part-requires : tie.Need-count-part-requires
 count-part-requires c κs = search needs
 
 returns : tie.Need-returns
-returns c t m h g b =
-    let a = c .before .before .before .args in
-    count-within t (a .from) (a .to) _ (c .count-part .ensures .1 t (64 * (a .from / 64)) (holds-at t (a .map .now) m (a .from / 64) h (search needs)))
+returns c = (
+  search needs,
+  λ t m h g b.
+      let a = c .before .before .before .args in
+      count-within t (a .from) (a .to) _ (c .count-part .ensures .1 t (64 * (a .from / 64)) (holds-at t (a .map .now) m (a .from / 64) h (search needs))),
+)
 
 mul-count-part-2 : tie.Need-mul-count-part-2
 mul-count-part-2 c = search needs
@@ -45,11 +48,14 @@ add-result : tie.Need-add-result
 add-result c = search needs
 
 returns-2 : tie.Need-returns-2
-returns-2 c t m h g b =
-    let a = c .before .before .before .before .before .args in
-    count-two t (a .from) (a .to) (search needs) _ _
-    (c .before .before .count-part2 .ensures .1 t (64 * (a .from / 64)) (holds-at t (a .map .now) m (a .from / 64) h (search needs)))
-    (c .before .count-words .ensures .1 t m h (search needs)) (c .if2 .taken)
+returns-2 c = (
+  search needs,
+  λ t m h g b.
+      let a = c .before .before .before .before .before .args in
+      count-two t (a .from) (a .to) (search needs) _ _
+      (c .before .before .count-part2 .ensures .1 t (64 * (a .from / 64)) (holds-at t (a .map .now) m (a .from / 64) h (search needs)))
+      (c .before .count-words .ensures .1 t m h (search needs)) (c .if2 .taken),
+)
 
 add-result-2 : tie.Need-add-result-2
 add-result-2 c = search needs
@@ -67,12 +73,15 @@ add-result-3 : tie.Need-add-result-3
 add-result-3 c = search needs
 
 returns-3 : tie.Need-returns-3
-returns-3 c t m h g b =
-    let a = c .before .before .before .before .before .before .before .args in
-    count-three t (a .from) (a .to) (search needs) _ _
-    (c .before .before .before .before .count-part2 .ensures .1 t (64 * (a .from / 64)) (holds-at t (a .map .now) m (a .from / 64) h (search needs)))
-    (c .before .before .before .count-words .ensures .1 t m h (search needs)) _
-    (c .count-part3 .ensures .1 t (64 * (a .to / 64)) (holds-at t (a .map .now) m (a .to / 64) h (search needs)))
+returns-3 c = (
+  search needs,
+  λ t m h g b.
+      let a = c .before .before .before .before .before .before .before .args in
+      count-three t (a .from) (a .to) (search needs) _ _
+      (c .before .before .before .before .count-part2 .ensures .1 t (64 * (a .from / 64)) (holds-at t (a .map .now) m (a .from / 64) h (search needs)))
+      (c .before .before .before .count-words .ensures .1 t m h (search needs)) _
+      (c .count-part3 .ensures .1 t (64 * (a .to / 64)) (holds-at t (a .map .now) m (a .to / 64) h (search needs))),
+)
 
 pub count-before-spec : {M : Type 1} → statement M
 count-before-spec =

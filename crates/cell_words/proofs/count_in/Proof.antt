@@ -12,19 +12,25 @@ smaller-requires : tie.Need-smaller-requires
 smaller-requires c κs = search needs
 
 returns : tie.Need-returns
-returns c t m h g b =
-    let a = c .before .before .args in
-    count-none t (a .from) (a .to) (search needs)
+returns c = (
+  search needs,
+  λ t m h g b.
+      let a = c .before .before .args in
+      count-none t (a .from) (a .to) (search needs),
+)
 
 count-before-requires : tie.Need-count-before-requires
 count-before-requires c κs = search needs
 
 returns-2 : tie.Need-returns-2
-returns-2 c t m h g b =
-    let s = c .before .before in
-    let a = s .before .args in
-    let e : s .smaller .result ≡ a .to = omega arith in
-    c .count-before .ensures t m h (search needs) b ∙ ap (λ (k : ℕ). count t (k - a .from) (a .from)) e
+returns-2 c = (
+  c .count-before .ensures .0,
+  λ t m h g b.
+      let s = c .before .before in
+      let a = s .before .args in
+      let e : s .smaller .result ≡ a .to = omega arith in
+      c .count-before .ensures .1 t m h (search needs) b ∙ ap (λ (k : ℕ). count t (k - a .from) (a .from)) e,
+)
 
 pub count-in-spec : {M : Type 1} → statement M
 count-in-spec = tie.close (tie.spec smaller-requires returns count-before-requires returns-2)

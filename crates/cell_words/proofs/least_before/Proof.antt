@@ -2,7 +2,6 @@
 use Prim.Native.Nat.{ℕ, _-_, _*_, _/_, _≤_}
 use mathlib.Core.Path.{_≡_}
 use mathlib.Core.Bool.{Bool}
-use native.Mathlib.Omega.{arith}
 use Rattle.basis.specs.Search.{least}
 use Rattle.cell_words.specs.Words.{Holds}
 use Rattle.cell_words.proofs.Words.{holds-at}
@@ -38,10 +37,13 @@ smaller-requires : tie.Need-smaller-requires Inv-loop μ-loop
 smaller-requires c κs = search needs
 
 returns : tie.Need-returns Inv-loop μ-loop
-returns c t m h g b =
-    let a = c .before .before .before .before .args in
-    first-hits t (a .from) (a .to) m (search needs) g _ (holds-at t (a .map .now) m (a .from / 64) h (search needs)) _ _
-    (c .before .before .if1 .taken) (c .before .zeros-before .ensures .1) (c .smaller .ensures .0)
+returns c = (
+  search needs,
+  λ t m h g b.
+      let a = c .before .before .before .before .args in
+      first-hits t (a .from) (a .to) m (search needs) g _ (holds-at t (a .map .now) m (a .from / 64) h (search needs)) _ _
+      (c .before .before .if1 .taken) (c .before .zeros-before .ensures .1) (c .smaller .ensures .0),
+)
 
 add-w : tie.Need-add-w Inv-loop μ-loop
 add-w c = search needs
@@ -77,12 +79,15 @@ smaller-requires-2 : tie.Need-smaller-requires-2 Inv-loop μ-loop
 smaller-requires-2 c κs = search needs
 
 returns-2 : tie.Need-returns-2 Inv-loop μ-loop
-returns-2 c t m h g b =
-    let l = c .before .before .before .before .before in
-    let a = l .before .before .before .args in
-    let w = l .loop .w in
-    later-hits t (a .from) (a .to) m (search needs) g w (l .loop .inv .2 t m h g) _ (holds-at t (a .map .now) m w h (search needs)) (search needs) _ _
-    (c .before .before .if2 .taken) (c .before .zeros-before2 .ensures .1) (c .smaller2 .ensures .0)
+returns-2 c = (
+  search needs,
+  λ t m h g b.
+      let l = c .before .before .before .before .before in
+      let a = l .before .before .before .args in
+      let w = l .loop .w in
+      later-hits t (a .from) (a .to) m (search needs) g w (l .loop .inv .2 t m h g) _ (holds-at t (a .map .now) m w h (search needs)) (search needs) _ _
+      (c .before .before .if2 .taken) (c .before .zeros-before2 .ensures .1) (c .smaller2 .ensures .0),
+)
 
 add-w-2 : tie.Need-add-w-2 Inv-loop μ-loop
 add-w-2 c = search needs
@@ -102,10 +107,13 @@ loop-again c =
     )
 
 returns-3 : tie.Need-returns-3 Inv-loop μ-loop
-returns-3 c t m h g b =
-    let l = c .before in
-    let a = l .before .before .before .args in
-    nowhere t (a .from) (a .to) m (search needs) g (l .loop .w) (l .loop .inv .2 t m h g) (search needs)
+returns-3 c = (
+  search needs,
+  λ t m h g b.
+      let l = c .before in
+      let a = l .before .before .before .args in
+      nowhere t (a .from) (a .to) m (search needs) g (l .loop .w) (l .loop .inv .2 t m h g) (search needs),
+)
 
 pub least-before-spec : {M : Type 1} → statement M
 least-before-spec =

@@ -12,19 +12,25 @@ smaller-requires : tie.Need-smaller-requires
 smaller-requires c κs = search needs
 
 returns : tie.Need-returns
-returns c t m h g b =
-    let a = c .before .before .args in
-    sym (least-end t (a .from) (a .to) (search needs))
+returns c = (
+  search needs,
+  λ t m h g b.
+      let a = c .before .before .args in
+      sym (least-end t (a .from) (a .to) (search needs)),
+)
 
 least-before-requires : tie.Need-least-before-requires
 least-before-requires c κs = search needs
 
 returns-2 : tie.Need-returns-2
-returns-2 c t m h g b =
-    let s = c .before .before in
-    let a = s .before .args in
-    let e : s .smaller .result ≡ a .to = omega arith in
-    c .least-before .ensures t m h (search needs) b ∙ ap (λ (k : ℕ). least t (k - a .from) (a .from)) e
+returns-2 c = (
+  c .least-before .ensures .0,
+  λ t m h g b.
+      let s = c .before .before in
+      let a = s .before .args in
+      let e : s .smaller .result ≡ a .to = omega arith in
+      c .least-before .ensures .1 t m h (search needs) b ∙ ap (λ (k : ℕ). least t (k - a .from) (a .from)) e,
+)
 
 pub least-in-spec : {M : Type 1} → statement M
 least-in-spec = tie.close (tie.spec smaller-requires returns least-before-requires returns-2)

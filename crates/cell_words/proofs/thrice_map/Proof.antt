@@ -1,23 +1,23 @@
 -- `cell_words::thrice_map` meets its contract: each turn makes a word more. Assumes nothing.
-use Prim.Native.Nat.{ℕ, _+_, _-_, _*_, _^_, _≤_, _<_}
+use Prim.Native.Nat.{ℕ, _+_, _-_, _*_, _≤_}
 use mathlib.Core.Path.{_≡_, refl, _∙_}
 use mathlib.Core.Bool.{Bool}
 use native.Mathlib.Omega.{arith}
-use lib.ListN.{length, getD, length-set}
-use Rattle.cell_words.specs.Words.{mask, Holds}
+use lib.ListN.{length, length-set}
+use Rattle.cell_words.specs.Words.{Holds}
 use Rattle.cell_words.specs.Tests.{thriceAt}
-use Rattle.cell_words.proofs.Words.{holds-none, holds-more, holds-at, holds-next, Rest, rest-none, rest-more, rest-at, rest-next}
+use Rattle.cell_words.proofs.Words.{holds-none, holds-more, holds-at, holds-next}
 use borrow.Author.Needs.{needs}
 use Rattle.cell_words.proofs.thrice_map.Statement.{statement}
 use Rattle.cell_words.proofs.thrice_map.Tie as tie
 
 abbrev Inv-loop : tie.InvT-loop
-Inv-loop map₀ m end w₀ map w =
-    (w ≤ end) × (end ≤ m) × (end ≤ 2115) × (length map ≡ length map₀) × Rest map map₀ w
-    × ((t : ℕ → Bool) → Holds t map₀ (m + 1) → length map₀ ≡ 2116 → Holds (thriceAt t) map w)
+Inv-loop words map₀ m end w₀ map w =
+    (w ≤ end) × (end ≤ m) × (end ≤ 2115) × (length map ≡ length map₀)
+    × ((t : ℕ → Bool) → Holds t words (m + 1) → length map₀ ≡ 2116 → Holds (thriceAt t) map w)
 
 abbrev μ-loop : tie.MeasureT-loop
-μ-loop map₀ m end w₀ map w = end - w
+μ-loop words map₀ m end w₀ map w = end - w
 
 sub-smaller : tie.Need-sub-smaller Inv-loop μ-loop
 sub-smaller c = search needs
@@ -26,7 +26,7 @@ smaller-requires : tie.Need-smaller-requires Inv-loop μ-loop
 smaller-requires c κs = search needs
 
 loop-holds : tie.Need-loop-holds Inv-loop μ-loop
-loop-holds c = (search needs, search needs, search needs, refl, rest-none _, λ t h n. holds-none _ _)
+loop-holds c = (search needs, search needs, search needs, refl, λ t h n. holds-none _ _)
 
 mul-thrice-word : tie.Need-mul-thrice-word Inv-loop μ-loop
 mul-thrice-word c = search needs
@@ -68,19 +68,18 @@ loop-again c =
       search needs,
       search needs,
       simp length-set (l .loop .inv .3),
-      rest-more _ _ w _ (l .loop .inv .4),
       λ t h n.
           let e = l .loop .inv .3 in
           let d = l .loop .inv .1 in
-          holds-more (thriceAt t) (l .loop .map) w _ (l .loop .inv .5 t h n) (omega arith)
-          (c .thrice-word .ensures t (64 * w) (rest-at t (l .loop .map) (a .map .now) (a .m + 1) w (l .loop .inv .4) h (omega arith)) (rest-next t (l .loop .map) (a .map .now) (a .m + 1) w (l .loop .inv .4) h (omega arith))),
+          holds-more (thriceAt t) (l .loop .map) w _ (l .loop .inv .4 t h n) (omega arith)
+          (c .thrice-word .ensures t (64 * w) (holds-at t (a .words .now) (a .m + 1) w h (omega arith)) (holds-next t (a .words .now) (a .m + 1) w h (omega arith))),
     )
 
 returns : tie.Need-returns Inv-loop μ-loop
 returns c t h u n =
     let l = c .before .loop in
     let e : l .w ≡ c .before .before .before .args .m = omega (arith, c .loop-test .left, c .before .before .smaller .ensures .0, l .inv .0) in
-    (l .inv .3 ∙ n, rw (← e) (l .inv .5 t h n))
+    (l .inv .3 ∙ n, rw (← e) (l .inv .4 t h n))
 
 pub thrice-map-spec : {M : Type 1} → statement M
 thrice-map-spec =

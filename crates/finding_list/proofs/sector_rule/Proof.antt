@@ -4,6 +4,7 @@ use mathlib.Core.Path.{_≡_, sym, ap, _∙_}
 use native.Mathlib.Omega.{arith}
 use denote.Ref.{now}
 use Rattle.cells.specs.CellsAndBytes.{cell}
+use Rattle.cells.proofs.Places.{cell-round}
 use Rattle.finding_rules.specs.Rules.{noRow, idRows}
 use lib.ListN.{getD}
 use Rattle.finding_rules.proofs.Rows.{row-id, row-data, row-sws, row-sid}
@@ -45,11 +46,11 @@ cast-overwritten c = search needs
 overwritten-requires : tie.Need-overwritten-requires
 overwritten-requires c κs = search needs
 
-cast-t15 : tie.Need-cast-t15
-cast-t15 c = search needs
+cast-t17 : tie.Need-cast-t17
+cast-t17 c = search needs
 
-cast-t16 : tie.Need-cast-t16
-cast-t16 c = search needs
+cast-t18 : tie.Need-cast-t18
+cast-t18 c = search needs
 
 returns-3 : tie.Need-returns-3
 returns-3 c =
@@ -60,8 +61,8 @@ returns-3 c =
 syncs-inside-requires : tie.Need-syncs-inside-requires
 syncs-inside-requires c κs = tt
 
-cast-t17 : tie.Need-cast-t17
-cast-t17 c = search needs
+cast-t19 : tie.Need-cast-t19
+cast-t19 c = search needs
 
 returns-4 : tie.Need-returns-4
 returns-4 c =
@@ -69,7 +70,8 @@ returns-4 c =
     let f = cell (now (a .bytes)) (a .n) in
     let low : 11 ≤ a .k = c .before .before .before .if2 .left in
     let is : a .k ≡ 12 = omega (arith, c .before .before .before .before .before .before .pre .1, c .before .before .if3 .left) in
-    rw (c .before .syncs-inside .ensures) (sym (row-sid (layoutOf (a .density)) f (a .n) (a .track) (sectorsIn (a .ss)) (a .s) (a .k) is))
+    let p = c .before .before .before .before .before .before .pre in
+    rw (c .before .syncs-inside .ensures f (cell-round (now (a .bytes)) (a .n)) (p .0 .short) (p .2) (p .3 .id-inside) (p .3 .data-inside)) (sym (row-sid (layoutOf (a .density)) f (a .n) (a .track) (sectorsIn (a .ss)) (a .s) (a .k) is))
 
 pub sector-rule-spec : {M : Type 1} → statement M
 sector-rule-spec =
@@ -83,9 +85,9 @@ sector-rule-spec =
     returns-2
     cast-overwritten
     overwritten-requires
-    cast-t15
-    cast-t16
+    cast-t17
+    cast-t18
     returns-3
     syncs-inside-requires
-    cast-t17
+    cast-t19
     returns-4)

@@ -2,7 +2,7 @@
 use mathlib.Core.Path.{_∙_}
 use native.Mathlib.Omega.{arith}
 use Rattle.mfm.proofs.ByTable.{entry-is}
-use Rattle.mfm.proofs.Cells.{bit-lt, cast-bit}
+use Rattle.mfm.proofs.Cells.{bit-lt}
 use borrow.Author.Needs.{needs}
 use Rattle.mfm.proofs.byte_cells.Statement.{statement}
 use Rattle.mfm.proofs.byte_cells.Tie as tie
@@ -10,16 +10,13 @@ use Rattle.mfm.proofs.byte_cells.Tie as tie
 cell-table-requires : tie.Need-cell-table-requires
 cell-table-requires c κs = search needs
 
-cast-entry : tie.Need-cast-entry
-cast-entry c = search needs
-
-entry-requires : tie.Need-entry-requires
-entry-requires c κs = search needs
+cells-by-requires : tie.Need-cells-by-requires
+cells-by-requires c κs = search needs
 
 returns : tie.Need-returns
 returns c =
     let a = c .before .before .before .args in
-    c .entry .ensures ∙ rw (c .before .before .cell-table .ensures, cast-bit (a .before)) (entry-is _ (a .byte) (bit-lt (a .before)) (omega arith))
+    c .cells-by .ensures ∙ rw (c .before .before .cell-table .ensures) (entry-is _ (a .byte) (bit-lt (a .before)) (omega arith))
 
 pub byte-cells-spec : {M : Type 1} → statement M
-byte-cells-spec = tie.close (tie.spec cell-table-requires cast-entry entry-requires returns)
+byte-cells-spec = tie.close (tie.spec cell-table-requires cells-by-requires returns)

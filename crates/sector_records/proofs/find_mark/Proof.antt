@@ -2,9 +2,10 @@
 use Prim.Native.Nat.{_+_, _-_}
 use mathlib.Core.Path.{_≡_, refl, sym, _∙_}
 use native.Mathlib.Omega.{arith}
-use Rattle.basis.proofs.Search.{least-hit, least-step, least-end, least-low}
+use Rattle.basis.proofs.Search.{least-hit, least-step, least-end}
 use Rattle.cells.specs.CellsAndBytes.{cell}
-use Rattle.sector_records.specs.Marks.{markAt}
+use Rattle.cells.proofs.Places.{cell-lt}
+use Rattle.sector_records.specs.PrivateContracts.{likelyAt}
 use Rattle.sector_records.proofs.Marks.{Sought, sought-next, mark-of}
 use borrow.Author.Needs.{needs}
 use Rattle.sector_records.proofs.find_mark.Statement.{statement}
@@ -20,7 +21,7 @@ least-in-requires : tie.Need-least-in-requires Inv-loop μ-loop
 least-in-requires c κs = search needs
 
 loop-holds : tie.Need-loop-holds Inv-loop μ-loop
-loop-holds c = sought-next _ _ _ _ _ _ _ (c .before .before .pre .0) (c .least-in .ensures _ _ (c .before .before .pre .2) (search needs) (search needs)) refl
+loop-holds c = let a = c .before .before .args in sought-next _ (cell-lt (a .bytes .now) (a .n)) _ _ _ _ _ _ (c .before .before .pre .4) (c .before .before .pre .0) (c .least-in .ensures .1 _ _ (c .before .before .pre .2) (search needs) (search needs)) refl
 
 has-byte-requires : tie.Need-has-byte-requires Inv-loop μ-loop
 has-byte-requires c κs = search needs
@@ -28,6 +29,7 @@ has-byte-requires c κs = search needs
 returns : tie.Need-returns Inv-loop μ-loop
 returns c =
     let l = c .before .before .before in
+    let a = l .before .before .before .args in
     let inv = l .loop .inv in
     let h = c .before .before .loop-test .taken in
     sym (least-hit _ _ _ h (mark-of _ _ _ _ _ (inv .on h) (c .before .has-byte .ensures) ∙ c .if1 .taken)) ∙ inv .same
@@ -39,11 +41,7 @@ least-in-requires-2 : tie.Need-least-in-requires-2 Inv-loop μ-loop
 least-in-requires-2 c κs = search needs
 
 loop-less : tie.Need-loop-less Inv-loop μ-loop
-loop-less c =
-    let l = c .before .before .before .before in
-    let a = l .before .before .before .args in
-    let h = c .before .before .before .loop-test .taken in
-    omega (arith, h, c .least-in2 .ensures (markAt (cell (a .bytes .now) (a .n))) _ (l .before .before .before .pre .2) (search needs) (search needs), least-low (markAt (cell (a .bytes .now) (a .n))) (a .to - (l .loop .p + 1)) (l .loop .p + 1))
+loop-less c = omega (arith, c .before .before .before .loop-test .taken, c .least-in2 .ensures .0)
 
 loop-again : tie.Need-loop-again Inv-loop μ-loop
 loop-again c =
@@ -52,7 +50,7 @@ loop-again c =
     let inv = l .loop .inv in
     let h = c .before .before .before .loop-test .taken in
     let s = least-step _ _ _ h (mark-of _ _ _ _ _ (inv .on h) (c .before .before .has-byte .ensures) ∙ c .before .if1 .left) in
-    sought-next _ _ _ _ _ (l .loop .p + 1) _ (omega arith) (c .least-in2 .ensures (markAt (cell (a .bytes .now) (a .n))) _ (l .before .before .before .pre .2) (search needs) (search needs)) (sym s ∙ inv .same)
+    sought-next _ (cell-lt (a .bytes .now) (a .n)) _ _ _ _ (l .loop .p + 1) _ (l .before .before .before .pre .4) (omega arith) (c .least-in2 .ensures .1 (likelyAt (cell (a .bytes .now) (a .n))) _ (l .before .before .before .pre .2) (search needs) (search needs)) (sym s ∙ inv .same)
 
 returns-2 : tie.Need-returns-2 Inv-loop μ-loop
 returns-2 c =

@@ -7,16 +7,16 @@ use borrow.Author.Needs.{needs}
 use Rattle.sector_records.proofs.has_byte.Statement.{statement}
 use Rattle.sector_records.proofs.has_byte.Tie as tie
 
-add-byte-on : tie.Need-add-byte-on
-add-byte-on c = search needs
+add-byte-at : tie.Need-add-byte-at
+add-byte-at c = search needs
 
-byte-on-requires : tie.Need-byte-on-requires
-byte-on-requires c κs = search needs
+byte-at-requires : tie.Need-byte-at-requires
+byte-at-requires c κs = search needs
 
 returns : tie.Need-returns
 returns c =
     let a = c .before .before .args in
-    ap (λ (byte : ℕ). leb (a .low) byte && leb byte (a .high)) (c .byte-on .ensures)
+    ap (λ (byte : ℕ). leb (a .low) byte && leb byte (a .high)) (c .byte-at .ensures)
 
 pub has-byte-spec : {M : Type 1} → statement M
-has-byte-spec = tie.close (tie.spec add-byte-on byte-on-requires returns)
+has-byte-spec = tie.close (tie.spec add-byte-at byte-at-requires returns)

@@ -1,5 +1,5 @@
--- `sector_records::list_by` meets its contract: at each turn the sectors before p are kept. Assumes nothing.
-use Prim.Native.Nat.{ℕ, _+_, _-_, _≤_, _<_}
+-- `sector_records::list_by` meets its contract: at each turn the sectors before p are kept, as many as there is room for. Assumes nothing.
+use Prim.Native.Nat.{ℕ, _+_, _-_, _≤_}
 use mathlib.Core.Path.{_≡_, sym, ap, _∙_}
 use native.Mathlib.Omega.{arith}
 use Rattle.basis.specs.Lists.{joined}
@@ -7,8 +7,10 @@ use Rattle.basis.proofs.Joined.{joined-none}
 use Rattle.basis.proofs.Search.{least-low}
 use Rattle.cells.specs.CellsAndBytes.{cell}
 use Rattle.sector_records.specs.Marks.{idMarkAt}
-use Rattle.sector_records.specs.Sectors.{sectorsAt, sectorsOf, kept}
-use Rattle.sector_records.proofs.Listing.{Before, before-next}
+use Rattle.sector_records.specs.Sectors.{sectorAt, sectorsAt, sectorsOf, kept}
+use Rattle.sector_records.specs.declared.Sectors.{Sectors}
+use Rattle.sector_records.proofs.Kept.{kept-count, kept-more, kept-full}
+use Rattle.sector_records.proofs.Listing.{Before, before-next, sectors-few, sectors-here}
 use borrow.Author.Needs.{needs}
 use Rattle.sector_records.proofs.list_by.Statement.{statement}
 use Rattle.sector_records.proofs.list_by.Tie as tie
@@ -31,11 +33,15 @@ loop-holds c =
     let f = cell (a .bytes .now) (a .n) in
     before-next (a .layout) f (a .n) _ 0 _ (omega arith) (c .find-id-mark .ensures) (c .before .no-sectors .ensures ∙ ap kept (sym (joined-none (sectorsAt (a .layout) f))))
 
-add-at-requires : tie.Need-add-at-requires Inv-loop μ-loop
-add-at-requires c κs =
+add-sectors : tie.Need-add-sectors Inv-loop μ-loop
+add-sectors c =
     let l = c .before in
-    let h : l .loop .p < 131072 = omega (arith, c .loop-test .taken, l .before .before .before .before .pre .1) in
-    (l .before .before .before .before .pre .0, h, l .loop .inv .are, l .loop .inv .on (c .loop-test .taken), l .before .before .before .before .pre .2, omega (arith, c .loop-test .taken))
+    let s = l .before .before .before .before in
+    let a = s .args in
+    let f = cell (a .bytes .now) (a .n) in
+    let xs = joined (sectorsAt (a .layout) f) (l .loop .p) in
+    let e : l .loop .sectors .count ≡ kept xs .count = ap (λ (x : Sectors). x .count) (l .loop .inv .are) in
+    omega (arith, e, kept-count xs, sectors-few (a .layout) f (l .loop .p), c .loop-test .taken, s .pre .1)
 
 add-find-id-mark : tie.Need-add-find-id-mark Inv-loop μ-loop
 add-find-id-mark c = search needs
@@ -53,8 +59,48 @@ loop-again : tie.Need-loop-again Inv-loop μ-loop
 loop-again c =
     let l = c .before .before .before in
     let a = l .before .before .before .before .args in
-    let h : l .loop .p + 1 ≤ a .n = omega (arith, c .before .before .loop-test .taken) in
-    before-next (a .layout) (cell (a .bytes .now) (a .n)) (a .n) _ (l .loop .p + 1) _ h (c .find-id-mark2 .ensures) (c .before .add-at .ensures)
+    let f = cell (a .bytes .now) (a .n) in
+    let xs = joined (sectorsAt (a .layout) f) (l .loop .p) in
+    let h = c .before .before .loop-test .taken in
+    let b : l .loop .p + 1 ≤ a .n = omega (arith, h) in
+    before-next (a .layout) f (a .n) _ (l .loop .p + 1) _ b (c .find-id-mark2 .ensures)
+    (rw (sectors-here (a .layout) f (l .loop .p) (l .loop .inv .on h)) (kept-full xs (sectorAt (a .layout) f (l .loop .p)) (l .loop .sectors) (l .loop .inv .are) (c .before .if1 .taken)))
+
+sector-at-requires : tie.Need-sector-at-requires Inv-loop μ-loop
+sector-at-requires c κs =
+    let l = c .before .before in
+    let s = l .before .before .before .before in
+    let h = c .before .loop-test .taken in
+    (s .pre .0, omega (arith, h, s .pre .1), s .pre .2, omega (arith, h))
+
+mul-sector : tie.Need-mul-sector Inv-loop μ-loop
+mul-sector c = search needs
+
+element-set-from-sector : tie.Need-element-set-from-sector Inv-loop μ-loop
+element-set-from-sector c = search needs
+
+add-find-id-mark-2 : tie.Need-add-find-id-mark-2 Inv-loop μ-loop
+add-find-id-mark-2 c = search needs
+
+find-id-mark-requires-3 : tie.Need-find-id-mark-requires-3 Inv-loop μ-loop
+find-id-mark-requires-3 c κs = search needs
+
+loop-less-2 : tie.Need-loop-less-2 Inv-loop μ-loop
+loop-less-2 c =
+    let l = c .before .before .before .before in
+    let a = l .before .before .before .before .args in
+    omega (arith, c .before .before .before .loop-test .taken, c .find-id-mark3 .ensures, least-low (idMarkAt (a .layout) (cell (a .bytes .now) (a .n))) (a .n - (l .loop .p + 1)) (l .loop .p + 1))
+
+loop-again-2 : tie.Need-loop-again-2 Inv-loop μ-loop
+loop-again-2 c =
+    let l = c .before .before .before .before in
+    let a = l .before .before .before .before .args in
+    let f = cell (a .bytes .now) (a .n) in
+    let xs = joined (sectorsAt (a .layout) f) (l .loop .p) in
+    let h = c .before .before .before .loop-test .taken in
+    let b : l .loop .p + 1 ≤ a .n = omega (arith, h) in
+    before-next (a .layout) f (a .n) _ (l .loop .p + 1) _ b (c .find-id-mark3 .ensures)
+    (rw (c .before .sector-at .ensures, sectors-here (a .layout) f (l .loop .p) (l .loop .inv .on h)) (kept-more xs (sectorAt (a .layout) f (l .loop .p)) (l .loop .sectors) (l .loop .inv .are) (c .before .before .if1 .left)))
 
 returns : tie.Need-returns Inv-loop μ-loop
 unfolding sectorsOf
@@ -73,9 +119,16 @@ list-by-spec =
     no-sectors-requires
     find-id-mark-requires
     loop-holds
-    add-at-requires
+    add-sectors
     add-find-id-mark
     find-id-mark-requires-2
     loop-less
     loop-again
+    sector-at-requires
+    mul-sector
+    element-set-from-sector
+    add-find-id-mark-2
+    find-id-mark-requires-3
+    loop-less-2
+    loop-again-2
     returns)

@@ -5,11 +5,11 @@ use borrow.Author.Needs.{needs}
 use Rattle.sector_records.proofs.sector_at.Statement.{statement}
 use Rattle.sector_records.proofs.sector_at.Tie as tie
 
-add-byte-on : tie.Need-add-byte-on
-add-byte-on c = search needs
+add-byte-at : tie.Need-add-byte-at
+add-byte-at c = search needs
 
-byte-on-requires : tie.Need-byte-on-requires
-byte-on-requires c κs = search needs
+byte-at-requires : tie.Need-byte-at-requires
+byte-at-requires c κs = search needs
 
 id-byte-requires : tie.Need-id-byte-requires
 id-byte-requires c κs = search needs
@@ -59,15 +59,15 @@ cast-t20 c = omega (arith, c .before .before .before .before .before .before .be
 returns : tie.Need-returns
 returns c =
     record-is _ _ _ _ _ _ _ _ _ _ _ _ _ _ _
-    (c .before .before .before .before .before .before .before .before .before .before .before .before .byte-on .ensures) (c .before .before .before .before .before .before .before .before .before .before .before .id-byte .ensures) (c .before .before .before .before .before .before .before .before .before .before .id-byte2 .ensures) (c .before .before .before .before .before .before .before .before .before .id-byte3 .ensures) (c .before .before .before .before .before .before .before .before .id-byte4 .ensures) (c .before .before .before .before .before .before .before .check-good .ensures)
+    (c .before .before .before .before .before .before .before .before .before .before .before .before .byte-at .ensures) (c .before .before .before .before .before .before .before .before .before .before .before .id-byte .ensures) (c .before .before .before .before .before .before .before .before .before .before .id-byte2 .ensures) (c .before .before .before .before .before .before .before .before .before .id-byte3 .ensures) (c .before .before .before .before .before .before .before .before .id-byte4 .ensures) (c .before .before .before .before .before .before .before .check-good .ensures)
     (c .before .before .before .before .before .before .find-data .ensures .0) (c .before .before .before .before .place-if .ensures) (c .before .before .before .mark-if .ensures) (c .before .before .length-if .ensures .0) (c .before .data-good .ensures) (c .end-if .ensures)
 
 pub sector-at-spec : {M : Type 1} → statement M
 sector-at-spec =
     tie.close
     (tie.spec
-    add-byte-on
-    byte-on-requires
+    add-byte-at
+    byte-at-requires
     id-byte-requires
     id-byte-requires-2
     id-byte-requires-3

@@ -7,10 +7,13 @@ use Rattle.track_writer.proofs.write_list.Statement.{statement}
 use Rattle.track_writer.proofs.write_list.Tie as tie
 
 abbrev Inv-loop : tie.InvT-loop
-Inv-loop list cells₀ writer₀ at₀ i₀ cells writer at i = (i ≤ length list) × Wrote list cells₀ writer cells at i
+Inv-loop list cells₀ table writer₀ at₀ i₀ cells writer at i = (i ≤ length list) × Wrote list cells₀ writer cells at i
 
 abbrev μ-loop : tie.MeasureT-loop
-μ-loop list cells₀ writer₀ at₀ i₀ cells writer at i = length list - i
+μ-loop list cells₀ table writer₀ at₀ i₀ cells writer at i = length list - i
+
+cell-table-requires : tie.Need-cell-table-requires Inv-loop μ-loop
+cell-table-requires c κs = search needs
 
 loop-holds : tie.Need-loop-holds Inv-loop μ-loop
 loop-holds c = (search needs, wrote-none _ _)
@@ -20,10 +23,10 @@ shared-slice-read-byte c = search needs
 
 put-byte-requires : tie.Need-put-byte-requires Inv-loop μ-loop
 put-byte-requires c κs =
-    let b3 = c .before .before .before in
-    let b6 = b3 .before .before .before in
-    let l = b3 .loop in
-    wrote-fits _ _ (l .writer) (l .cells) (l .at) (l .i) (l .inv .1) (c .before .before .loop-test .taken) (b6 .pre)
+    let b4 = c .before .before .before .before in
+    let b5 = b4 .before in
+    let l = b4 .loop in
+    (b5 .cell-table .ensures, wrote-fits _ _ (l .writer) (l .cells) (l .at) (l .i) (l .inv .1) (c .before .before .before .loop-test .taken) (b5 .before .before .before .pre))
 
 step-requires : tie.Need-step-requires Inv-loop μ-loop
 step-requires c κs = search needs
@@ -37,10 +40,11 @@ loop-less c = search needs
 loop-again : tie.Need-loop-again Inv-loop μ-loop
 loop-again c =
     let b7 = c .before .before .before .before .before .before .before in
-    let l = b7 .loop in (
+    let b8 = b7 .before in
+    let l = b8 .loop in (
       search needs,
-      wrote-step _ _ (l .writer) (l .cells) (l .at) (l .i) (l .inv .1) (c .before .before .before .before .before .before .loop-test .taken) _ _ _
-          (b7 .before .before .before .pre)
+      wrote-step _ _ (l .writer) (l .cells) (l .at) (l .i) (l .inv .1) (b7 .loop-test .taken) _ _ _
+          (b8 .before .before .before .before .pre)
           (c .step .ensures) (c .before .before .before .put-byte .ensures),
     )
 
@@ -56,6 +60,7 @@ write-list-spec =
     (tie.spec
     Inv-loop
     μ-loop
+    cell-table-requires
     loop-holds
     shared-slice-read-byte
     put-byte-requires
