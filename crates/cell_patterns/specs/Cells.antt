@@ -52,7 +52,8 @@ gapsOf layout f n =
       longest = longestRun f n;
     }
 
--- 7.21, 7.41, 7.42: the longest run, as NFA asks for it: its start and its length where it has 1,000 zeros or more, and else only that it has fewer
+-- 7.21, 7.41, 7.42: the longest run, as NFA asks for it: its start and its length where it has 1,000 zeros or more, and else only that it has fewer. Both numbers
+-- are at most n
 pub record LongRun (f : ℕ → ℕ) (n start longest : ℕ) : Type 0 where
   pub long : 1000 ≤ longestRun f n → (start ≡ longestStart f n) × (longest ≡ longestRun f n)
   pub short : longestRun f n < 1000 → longest < 1000

@@ -19,7 +19,8 @@ ghost use Rattle.sector_records.specs.Marks.{wordMarkAt};
 ghost use Rattle.cell_patterns.specs.Cells.{violation, GapsFound, syncsBetween, syncsInside};
 
 // What MTV and NFA look at: the first one whose next one is too near or too far, n where there is none, and how many there
-// are; the start of the longest run of zeros, of equal ones the least, and its length.
+// are; the start of the longest run of zeros, of equal ones the least, and its length, where it has 1,000 zeros or more. Of shorter runs `longest` is
+// only some number below 1,000.
 pub struct Gaps {
     pub first: usize,
     pub violations: usize,

@@ -11,8 +11,13 @@ use Rattle.basis.proofs.Bools.{and-left, and-right}
 use Rattle.cells.specs.CellsAndBytes.{word}
 use Rattle.cells.proofs.Words.{word-lt, word-split, word-front}
 use Rattle.cell_words.specs.Words.{digit, mask}
-use Rattle.cell_words.specs.Tests.{oneAt, likeAt, keptFrom, aloneAt, sevenFrom, syncFrom, standsAt, syncTest}
+use Rattle.cell_words.specs.Tests.{oneAt, likeAt, keptFrom, aloneAt, standsAt}
+use Rattle.cell_words.specs.PrivateContracts.{sevenFrom, syncFrom}
 use Rattle.cell_words.proofs.Words.{word-ones}
+
+-- 4489 as these tests find it
+unfoldable syncTest : (ℕ → ℕ) → ℕ → Bool
+syncTest f = syncFrom (oneAt f) (sevenFrom (oneAt f) (aloneAt (oneAt f)))
 
 -- a rule of a truth value holds where it holds of both
 both : (Bool → Bool) → Bool
@@ -130,7 +135,7 @@ module _ (f : ℕ → ℕ) (bit : (i : ℕ) → f i < 2) where
     unfolding oneAt
     some-is e = eq-eqb (f p) 1 e
 
-  pub sync-is : (p : ℕ) → syncTest f p ≡ eqb (word f 16 p) 0x4489
+  sync-is : (p : ℕ) → syncTest f p ≡ eqb (word f 16 p) 0x4489
   unfolding syncTest syncFrom
   sync-is p =
       let s = sevenFrom (oneAt f) (aloneAt (oneAt f)) in

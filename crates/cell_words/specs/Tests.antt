@@ -24,14 +24,6 @@ keptFrom k passes s t q = t q && likeAt passes s (q + k)
 unfoldable pub aloneAt : (ℕ → Bool) → ℕ → Bool
 aloneAt t q = t q && not (t (q + 1) || t (q + 2))
 
--- with ones for s and the places of 100 for t, the cells 1000100
-unfoldable pub sevenFrom : (ℕ → Bool) → (ℕ → Bool) → ℕ → Bool
-sevenFrom s t q = t q && (not (s (q + 3)) && t (q + 4))
-
--- with ones for s and the places of 1000100 for t, the cells 0 1000100 1000100 1, which are 4489
-unfoldable pub syncFrom : (ℕ → Bool) → (ℕ → Bool) → ℕ → Bool
-syncFrom s t q = (t (q + 1) && t (q + 8)) && (s (q + 15) && not (s q))
-
 -- with ones for s and the places of 100 for t, a one whose next one is 1 cell on, or more than 4
 unfoldable pub gapFrom : (ℕ → Bool) → (ℕ → Bool) → ℕ → Bool
 gapFrom s t q = (s q && s (q + 1)) || (t q && not (s (q + 3) || s (q + 4)))
@@ -43,7 +35,3 @@ thriceAt t q = t q && (t (q + 16) && t (q + 32))
 -- a word of 16 cells stands at q
 unfoldable pub standsAt : (ℕ → ℕ) → ℕ → ℕ → Bool
 standsAt f w q = eqb (word f 16 q) w
-
--- 4489 as these tests find it
-unfoldable pub syncTest : (ℕ → ℕ) → ℕ → Bool
-syncTest f = syncFrom (oneAt f) (sevenFrom (oneAt f) (aloneAt (oneAt f)))

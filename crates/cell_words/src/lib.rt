@@ -9,7 +9,8 @@ ghost use lib.ListN.{length};
 ghost use Rattle.basis.specs.Search.{least, count};
 ghost use Rattle.cells.specs.CellsAndBytes.{cellAt, cell, word};
 ghost use Rattle.cell_words.specs.Words.{mask, Holds, MapOf};
-ghost use Rattle.cell_words.specs.Tests.{oneAt, likeAt, bothAt, keptFrom, aloneAt, sevenFrom, syncFrom, gapFrom, thriceAt, standsAt};
+ghost use Rattle.cell_words.specs.Tests.{oneAt, likeAt, bothAt, keptFrom, aloneAt, gapFrom, thriceAt, standsAt};
+ghost use Rattle.cell_words.specs.PrivateContracts.{sevenFrom, syncFrom};
 use basis::smaller;
 
 // The words of a map: enough for a track of 131,072 cells, and for 4,352 places past its end.
@@ -67,7 +68,7 @@ pub fn load(bytes: &[u8], n: usize, words: &mut [u64; WORDS], m: usize)
     }
 }
 
-// The functions below make the first m words of a map out of one word more of others, or change a map in place.
+// The functions below make the first m words of a map out of those of others, of which some need up to three words more, or change a map in place.
 
 // The map of the places where a test passes, or of those where it fails.
 pub fn like_map(words: &[u64; WORDS], passes: bool, map: &mut [u64; WORDS], m: usize)

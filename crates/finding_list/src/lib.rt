@@ -232,8 +232,8 @@ fn duplicates(numbers: &mut [u32; NUMBERS], ss: Sectors, at: usize) -> usize
     to
 }
 
-// The kinds on each sector by itself, 7 to 19: kind after kind, and in each sector after sector. Both run in one loop, since each function that is
-// handed the sectors gets a copy of all 64.
+// The kinds on each sector by itself, 7 to 19: kind after kind, and in each sector after sector. Both run in one loop: a function for
+// each kind would get a copy of all 64 sectors, and the compiler puts `sector_rule` into the loop.
 fn sector_kinds(
     density: Density,
     numbers: &mut [u32; NUMBERS],

@@ -59,17 +59,8 @@ pub struct Sectors {
     pub count: usize,
 }
 
-// The sectors of a track of n cells, packed in `bytes`; none where it has more cells than a track may have.
-pub fn track_sectors(density: Density, bytes: &[u8], n: usize) -> Sectors
-    ensures { λ r. ⌜ r ≡ kept (cond (ltb 131072 n) [] (sectorsOf (layoutOf density) (now (bytes .entry)) n)) ⌝ }
-{
-    let mut words = [0u64; WORDS];
-    let mut syncs = [0u64; WORDS];
-    sectors_with_maps(density, bytes, n, &mut words, &mut syncs)
-}
-
-// The same. The maps by which they are found stand in two lent arrays then, for what else looks at the cells: those of the ones and of the syncs. A
-// track with too many cells has none.
+// The sectors of a track of n cells, packed in `bytes`; none where it has more cells than a track may have. The maps by which they are found stand in two
+// lent arrays then, for what else looks at the cells: those of the ones and of the syncs. A track with too many cells has none.
 pub fn sectors_with_maps(
     density: Density,
     bytes: &[u8],
@@ -120,8 +111,8 @@ const LAST_DATA_MARK: u8 = 0xFB;
 
 // The functions below take a layout, of which they ask that its numbers are small (`Sound`); where one number is enough they take that.
 
-// Makes the two maps of a track. They go on past its end: that of the syncs by 64 words, since data may begin there, that of the ones by the words that
-// the maps made of it lose.
+// Makes the two maps of a track. They go on past its end: that of the syncs by 64 words, since data may begin there; that of the ones goes further, since
+// each map that is made of it comes out shorter.
 fn make_maps(
     density: Density,
     bytes: &[u8],
@@ -392,7 +383,7 @@ fn wide(byte: u8) -> u16
     byte as u16
 }
 
-// The least place from `from` and before `to` of an ID mark; `to` where there is none. Here and in the next function the densities part.
+// The least place from `from` and before `to` of an ID mark; `to` where there is none. Here, in the next function and in `list` the densities part.
 fn find_id_mark(
     layout: Layout,
     bytes: &[u8],

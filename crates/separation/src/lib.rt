@@ -18,7 +18,7 @@ ghost use Rattle.refusals.specs.RefusedCalls.{countedAnswer};
 ghost use Rattle.refusals.specs.RefusedCalls.Answer.{gives};
 ghost use Rattle.cells.specs.CellsAndBytes.{packedByte, withOne};
 ghost use Rattle.flux_timings.specs.Timings.{firstOut};
-ghost use Rattle.separator.specs.Rule.{takenAnswer, singleHalfWindow, stepAnswerBy, stepOffsetBy, stepResidualBy, borderPulsesAtBy};
+ghost use Rattle.separator.specs.Rule.{usable, takenAnswer, singleHalfWindow, stepAnswerBy, stepOffsetBy, stepResidualBy, borderPulsesAtBy};
 ghost use Rattle.separation.specs.Separation.{borderPulsesOf, borderPulsesCounted, separation, separatedCells, borderPulsesAfter, cellsOfBy, borderPulsesOfBy, separationBy, separatedCellsBy};
 ghost use Rattle.separation.specs.Demand3.{Demand3};
 ghost use Rattle.separation.specs.PrivateContracts.{IsHalfWindow};
@@ -142,18 +142,18 @@ fn fill(half_window: u32, timings: &[u32], room: &mut [u8]) -> Counts
     }
 }
 
-// A step, by half of the window. The choice stands here, inside the loops, and not at the division: so the compiler makes two loops of each,
-// and divides by a number that it knows in both.
+// A step from a residual that a step left, by half of the window. The choice stands here, inside the loops, and not at the division: so the compiler
+// makes two loops of each, and divides by a number that it knows in both.
 fn step_by(half_window: u32, state: Separator, timing: u32) -> Stepped
-    requires { ⌜ IsHalfWindow «half_window» ⌝ }
+    requires { ⌜ IsHalfWindow «half_window» × (usable «half_window» (state .residual) ≡ state .residual) ⌝ }
     ensures answer { λ r. ⌜ takenAnswer (r .given .taken) ≡ stepAnswerBy «half_window» (state .residual) timing ⌝ }
     ensures offset { λ r. ⌜ r .given .offset ≡ stepOffsetBy «half_window» (state .residual) timing ⌝ }
     ensures state { λ r. ⌜ r .next .residual ≡ stepResidualBy «half_window» (state .residual) timing ⌝ }
 {
     if half_window == DOUBLE_HALF_WINDOW {
-        return state.step(timing);
+        return state.step_on(timing);
     }
-    state.step_single(timing)
+    state.step_on_single(timing)
 }
 
 // The border pulses of an offset, by half of the window.

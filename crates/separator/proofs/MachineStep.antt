@@ -1,16 +1,18 @@
 -- The machine's arithmetic in a step: each number that it makes is the rule's, and a signed one fits an `i32`. Assumes nothing.
 use Prim.Native.Nat.{ℕ, zero, suc, _+_, _*_, _/_, _%_, _≤_, _<_}
 use mathlib.Core.Path.{_≡_, sym, _∙_, ap, subst}
+use mathlib.Core.Bool.{false}
 use native.Mathlib.Nat.{add-comm, mod-lt, mod-add-mod, mod-add-div, add-mul-div-left, div-lt-iff-lt-mul}
 use native.Mathlib.Omega.{arith}
+use borrow.Author.Tests.{ltb-false}
 use lib.IntN.{ℤ, pos, negsuc, negℤ, subℕ, _+ℤ_}
-use lib.Signed.{mag, quotZ}
+use lib.Signed.{ltZ, mag, quotZ}
 use mir.Syntax.{w32}
 use mir.Val.{SFits, toZ, ofZ}
 use mir.Facts.{toZ-ofZ, toZ-pos}
 use Rattle.separator.specs.Rule.{cellsAt, offsetAt}
 use Rattle.separator.proofs.Orders.{mag-sub}
-use Rattle.separator.proofs.Differences.{pos-sub, add-sub, sub-same}
+use Rattle.separator.proofs.Differences.{as-sub, pos-sub, add-sub, sub-same}
 use Rattle.separator.proofs.Lifted.{Kept, cells-is, offset-is}
 
 -- half of a number that fits
@@ -32,6 +34,13 @@ readBack z = toZ w32 (ofZ w32 z)
 -- below 2^31 the bits of a number are read as the number itself
 pub small-is : (n : ℕ) → n < 2147483648 → toZ w32 n ≡ pos n
 small-is n h = toZ-pos w32 {n = n} h
+
+-- a number below 4,000 and one that fits and is at most 999 have a sum that fits
+pub sum-fits : (m : ℕ) → m < 4000 → (z : ℤ) → SFits w32 z → ltZ (pos 999) z ≡ false → SFits w32 (toZ w32 m +ℤ z)
+sum-fits m h (pos a) f e = rw (small-is m (omega arith)) (record { sfits = omega (arith, ltb-false 999 a e) })
+sum-fits m h (negsuc a) f e =
+    let is = ap (λ (x : ℤ). x +ℤ negsuc a) (small-is m (omega arith) ∙ pos-sub m) ∙ ap (λ (x : ℤ). subℕ m 0 +ℤ x) (as-sub (negsuc a)) ∙ add-sub m 0 0 (suc a) in
+    subst (SFits w32) (sym is) (record { sfits = mag-sub (m + 0) (0 + suc a) 2147483648 (omega arith) (omega (arith, f .sfits)) })
 
 -- what a step asks: of half of the window, of the timing t, and of the residual r that is used
 pub record Steppable (half t : ℕ) (r : ℤ) : Type 0 where

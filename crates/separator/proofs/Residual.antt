@@ -78,6 +78,14 @@ module _ (half : ℕ) where
         let h : leZ (subℕ (k .lifted) half) (subℕ ((half - 1) / 2) 0) ≡ true = sure _ (sub-le (k .lifted) half ((half - 1) / 2) 0 (omega arith)) in
         sym (within-range (rw (least-sub, ← k .is) l) (rw (most-sub, ← k .is) h))
 
+    -- and is at most 999
+    pub kept-few : half ≤ 2000 → Kept half r → ltZ (pos 999) r ≡ true → ⊥
+    kept-few h k e =
+        let b = k .high in
+        let l : leZ (subℕ (k .lifted) half) (subℕ 999 0) ≡ true = sure _ (sub-le (k .lifted) half 999 0 (omega arith)) in
+        let m : leZ r (pos 999) ≡ true = rw (pos-sub 999, ← k .is) l in
+        subst T (sym m ∙ lt-not-le (pos 999) r e) tt
+
     kept-in-range : 0 < half → leZ least r ≡ true → leZ r most ≡ true → Kept half r
     kept-in-range some low high =
         let p = le-of (subℕ 0 (half / 2)) r (subst T (sym (rw least-sub at low)) tt) in

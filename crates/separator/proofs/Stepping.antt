@@ -20,6 +20,12 @@ module _ (half : ℕ) (r : ℤ) (t : ℕ) where
   unfolding stepAnswerBy stepOffsetBy stepResidualBy residualAfter
   step-taken e h n o q = (rw (e, n, h), (rw (e, o, h), rw (e, q, o, h)))
 
+  -- a residual that is used as it is steps as the one of which it was made
+  pub step-again : {u : ℤ} → inRange t ≡ true → u ≡ usable half r → usable half u ≡ u
+      → (stepAnswerBy half u t ≡ stepAnswerBy half r t) × ((stepOffsetBy half u t ≡ stepOffsetBy half r t) × (stepResidualBy half u t ≡ stepResidualBy half r t))
+  unfolding stepAnswerBy stepOffsetBy stepResidualBy
+  step-again e h k = (rw (e, k, h), (rw (e, k, h), rw (e, k, h)))
+
 -- in range, from a residual that a step left
 module _ (half : ℕ) (r : ℤ) (t : ℕ) (kept : Kept half r) (e : inRange t ≡ true) where
   pub step-answers : stepAnswerBy half r t ≡ gives (cellsAt half r t)

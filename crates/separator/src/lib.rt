@@ -12,7 +12,8 @@ ghost use mathlib.Core.Bool.{cond, _||_};
 ghost use Prim.Native.Nat.{ℕ, _*_, _/_, _%_, _≤_, _<_};
 ghost use lib.IntN.{pos, subℕ};
 ghost use lib.Signed.{leZ};
-ghost use Rattle.separator.specs.Rule.{halved, usable, takenAnswer, stepAnswer, stepOffset, stepResidual, borderPulsesAt, singleHalfWindow, stepAnswerBy, stepOffsetBy, stepResidualBy, borderPulsesAtBy};
+ghost use Rattle.refusals.specs.RefusedCalls.Answer.{refused};
+ghost use Rattle.separator.specs.Rule.{doubleHalfWindow, halved, usable, takenAnswer, stepAnswer, stepOffset, stepResidual, borderPulsesAt, singleHalfWindow, stepAnswerBy, stepOffsetBy, stepResidualBy, borderPulsesAtBy};
 
 // The separator's state: the residual, in nanoseconds.
 pub struct Separator {
@@ -63,7 +64,25 @@ impl Separator {
         self.step_by(SINGLE_HALF_WINDOW, timing)
     }
 
-    // One timing, by half of the window. Each of the two steps above hands over a number that the compiler knows: it divides by that much
+    // One timing from a residual that a step left: a loop over timings need not ask for that each time. Of another residual nothing is promised.
+    pub fn step_on(self, timing: u32) -> Stepped
+        ensures answer { λ r. ⌜ (usable doubleHalfWindow (self .residual) ≡ self .residual → takenAnswer (r .given .taken) ≡ stepAnswer (self .residual) timing) ⌝ }
+        ensures offset { λ r. ⌜ (usable doubleHalfWindow (self .residual) ≡ self .residual → r .given .offset ≡ stepOffset (self .residual) timing) ⌝ }
+        ensures state { λ r. ⌜ (usable doubleHalfWindow (self .residual) ≡ self .residual → r .next .residual ≡ stepResidual (self .residual) timing) ⌝ }
+    {
+        self.go_on(DOUBLE_HALF_WINDOW, timing)
+    }
+
+    // The same on a track of single density.
+    pub fn step_on_single(self, timing: u32) -> Stepped
+        ensures answer { λ r. ⌜ (usable singleHalfWindow (self .residual) ≡ self .residual → takenAnswer (r .given .taken) ≡ stepAnswerBy singleHalfWindow (self .residual) timing) ⌝ }
+        ensures offset { λ r. ⌜ (usable singleHalfWindow (self .residual) ≡ self .residual → r .given .offset ≡ stepOffsetBy singleHalfWindow (self .residual) timing) ⌝ }
+        ensures state { λ r. ⌜ (usable singleHalfWindow (self .residual) ≡ self .residual → r .next .residual ≡ stepResidualBy singleHalfWindow (self .residual) timing) ⌝ }
+    {
+        self.go_on(SINGLE_HALF_WINDOW, timing)
+    }
+
+    // One timing, by half of the window. Each of the steps above hands over a number that the compiler knows: it divides by that much
     // quicker than by one that it does not.
     fn step_by(self, half_window: u32, timing: u32) -> Stepped
         requires { ⌜ (1000 ≤ «half_window») × («half_window» ≤ 2000) ⌝ }
@@ -72,20 +91,30 @@ impl Separator {
         ensures state { λ r. ⌜ r .next .residual ≡ stepResidualBy «half_window» (self .residual) timing ⌝ }
     {
         if !timing_in_range(timing) {
-            let refused = Given {
-                taken: Taken::Refused(Refusal::TimingOutOfRange(0)),
-                offset: 0,
-            };
-            return Stepped {
-                given: refused,
-                next: self,
-            };
+            return self.refused();
+        }
+        let residual = usable_residual(half_window, self.residual);
+        let state = Separator { residual };
+        state.go_on(half_window, timing)
+    }
+
+    // The same from a residual that a step left, for which it is not asked: only that the sum below fits.
+    fn go_on(self, half_window: u32, timing: u32) -> Stepped
+        requires { ⌜ (1000 ≤ «half_window») × («half_window» ≤ 2000) ⌝ }
+        ensures answer { λ r. ⌜ (usable «half_window» (self .residual) ≡ self .residual → takenAnswer (r .given .taken) ≡ stepAnswerBy «half_window» (self .residual) timing) ⌝ }
+        ensures offset { λ r. ⌜ (usable «half_window» (self .residual) ≡ self .residual → r .given .offset ≡ stepOffsetBy «half_window» (self .residual) timing) ⌝ }
+        ensures state { λ r. ⌜ (usable «half_window» (self .residual) ≡ self .residual → r .next .residual ≡ stepResidualBy «half_window» (self .residual) timing) ⌝ }
+    {
+        if !timing_in_range(timing) {
+            return self.refused();
         }
         let residual = self.residual;
-        let r = usable_residual(half_window, residual);
+        if MOST_RESIDUAL < residual {
+            return self.refused();
+        }
         // u of rule 3.3 without the timing's whole windows: a division of u would make each step wait for the one before it.
         let window = 2 * half_window;
-        let part = ((timing % window) as i32) + r;
+        let part = ((timing % window) as i32) + residual;
         let cells = timing / window + cells_in(half_window, part);
         let e = offset_in(half_window, part);
         let next = Separator { residual: half(e) };
@@ -98,7 +127,24 @@ impl Separator {
             next: next,
         }
     }
+
+    // What a step gives for a timing that is out of range: the state stays as it is.
+    fn refused(self) -> Stepped
+        ensures { λ r. ⌜ (takenAnswer (r .given .taken) ≡ refused 8 0) × (r .given .offset ≡ pos 0) × (r .next .residual ≡ self .residual) ⌝ }
+    {
+        let given = Given {
+            taken: Taken::Refused(Refusal::TimingOutOfRange(0)),
+            offset: 0,
+        };
+        Stepped {
+            given: given,
+            next: self,
+        }
+    }
 }
+
+// The most residual that a step leaves, of either density.
+const MOST_RESIDUAL: i32 = 999;
 
 // How many nanoseconds half a window has, for each density.
 pub const DOUBLE_HALF_WINDOW: u32 = 1000;
@@ -159,7 +205,7 @@ fn usable_residual(half_window: u32, residual: i32) -> i32
 // The cells of a reading without the whole windows of its timing: none below half a window, else one.
 fn cells_in(half_window: u32, part: i32) -> u32
     requires { ⌜ «half_window» ≤ 2000 ⌝ }
-    ensures { λ r. ⌜ ((b : ℕ) → subℕ b «half_window» ≡ part → b < 4 * «half_window» → r ≡ b / (2 * «half_window»)) ⌝ }
+    ensures { λ r. ⌜ (r ≤ 1) × ((b : ℕ) → subℕ b «half_window» ≡ part → b < 4 * «half_window» → r ≡ b / (2 * «half_window»)) ⌝ }
 {
     if part < half_window as i32 { 0 } else { 1 }
 }

@@ -248,6 +248,7 @@ pub fn borders_of_words(report: &mut Report) {
         }
     }
     group.same(seen[20] > 0 && seen[21] > 0, true, || "kinds 20 and 21 were reached".to_string());
+    let mut seen = [0; 22];
     for syncs in 0..12 {
         for _ in 0..12 {
             let mut builder = TrackBuilder::new();
@@ -264,7 +265,7 @@ pub fn borders_of_words(report: &mut Report) {
             whole_track(&mut group, &mut seen, &track_cells, (0, 0));
         }
     }
-    group.same(seen[3] > 0, true, || "kind 3 was reached".to_string());
+    group.same(seen[12] > 0 && seen[12] < 144, true, || "kind 12 was reached on some of the tracks".to_string());
     group.close(report);
 }
 

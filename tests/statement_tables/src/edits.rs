@@ -2,6 +2,9 @@
 use crate::numbers::{numbers_of_list, Number};
 use std::collections::BTreeMap;
 
+/// What the name of an edit of the folder `more` begins with.
+pub const MORE: &str = "more/";
+
 pub struct Edit {
     pub krate: String,
     pub name: String,
@@ -23,35 +26,38 @@ pub fn edit(
         krate: krate.to_string(),
         name: name.to_string(),
         numbers: line.and_then(|list| numbers_of_list(list.trim())),
-        applies: applies(text, read).unwrap_or(false),
+        applies: applies(text, read),
     }
 }
 
-/// Whether there is something to change, and each text that is changed stands in its file once. None where a file or a text is missing. The gate
-/// does not try the edits of `more`, so it would not see there that a text has moved.
-fn applies(text: &str, read: impl Fn(&str) -> Option<String>) -> Option<bool> {
+/// Whether it changes something, and each text that it changes stands in its file once. The gate does not try the edits of `more`, so it would
+/// not see there that a text has moved.
+fn applies(text: &str, read: impl Fn(&str) -> Option<String>) -> bool {
     let mut files: BTreeMap<&str, String> = BTreeMap::new();
     let (mut file, mut old, mut pairs) = ("", None, 0);
     for line in text.lines() {
         if let Some(name) = line.strip_prefix("file: ") {
             file = name;
         } else if let Some(words) = line.strip_prefix("old: ") {
-            old = Some(words);
+            if old.replace(words).is_some() {
+                return false;
+            }
         } else if let Some(words) = line.strip_prefix("new:") {
             let words = words.strip_prefix(' ').unwrap_or(words);
-            let before = match files.remove(file) {
-                Some(before) => before,
-                None => read(file)?,
+            let Some(before) = files.remove(file).or_else(|| read(file)) else {
+                return false;
             };
-            let found = old.take()?;
+            let Some(found) = old.take().filter(|found| *found != words) else {
+                return false;
+            };
             if before.matches(found).count() != 1 {
-                return None;
+                return false;
             }
             files.insert(file, before.replace(found, words));
             pairs += 1;
         }
     }
-    Some(pairs > 0)
+    pairs > 0 && old.is_none()
 }
 
 #[cfg(test)]
@@ -90,5 +96,8 @@ mod tests {
         assert!(!applies("file: src/other.rt\nold: a +\nnew: a -\n"));
         assert!(!applies("file: src/lib.rt\nnew: a -\n"));
         assert!(!applies("rule: 3.3\n"));
+        assert!(!applies("file: src/lib.rt\nold: a +\nnew: a +\n"));
+        assert!(!applies("file: src/lib.rt\nold: a +\nold: - c\nnew: + c\n"));
+        assert!(!applies("file: src/lib.rt\nold: a +\nnew: a -\nold: - c\n"));
     }
 }

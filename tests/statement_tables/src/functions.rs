@@ -12,6 +12,8 @@ pub struct Function {
     pub requires: bool,
     /// Its file takes names from proofs, which no promise may cite.
     pub proofs: bool,
+    /// Other crates can call it: it stands in the crate's first file, or that file hands it on.
+    pub outside: bool,
 }
 
 /// Programs have no public function. These make their promises.
@@ -66,6 +68,7 @@ pub fn functions(krate: &str, file: &str, text: &str) -> Vec<Function> {
             names: named(&promise, &imports),
             promises: clause("ensures"),
             requires: clause("requires"),
+            outside: true,
             proofs: text
                 .lines()
                 .any(|line| line.starts_with("ghost use ") && line.contains("proofs.")),

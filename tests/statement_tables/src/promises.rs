@@ -22,7 +22,8 @@ impl Promises {
             }
         }
         let mut by_name: BTreeMap<Key, Vec<usize>> = BTreeMap::new();
-        for (i, function) in functions.iter().enumerate() {
+        let outside = |(_, function): &(usize, &Function)| function.outside;
+        for (i, function) in functions.iter().enumerate().filter(outside) {
             for name in &function.names {
                 by_name.entry(name.clone()).or_default().push(i);
             }
@@ -99,5 +100,19 @@ mod tests {
         assert_eq!(of("high"), [1]);
         assert!(of("alone").is_empty());
         assert_eq!(promises.of_all(&[&key("low"), &key("high")]), [1, 0]);
+    }
+
+    #[test]
+    fn a_function_that_no_other_crate_can_call_is_passed_over() {
+        let definitions = definitions("a", "F", "-- x\nabbrev pub low : ℕ\nlow = 1\n");
+        let text = "ghost use Rattle.a.specs.F.{low};\npub fn inner() -> u8\n    ensures { low }\n{\n}\n\npub fn outer() -> u8\n    ensures { low }\n{\n}\n";
+        let mut functions = functions("a", "src/inner.rt", text);
+        functions[0].outside = false;
+        let low = Key {
+            krate: "a".into(),
+            file: "F".into(),
+            name: "low".into(),
+        };
+        assert_eq!(Promises::new(&definitions, &functions).of_all(&[&low]), [1]);
     }
 }

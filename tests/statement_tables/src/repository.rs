@@ -1,6 +1,6 @@
 //! What the repository has: rules, definitions, functions, edits, and the tests that name a rule.
 use crate::definitions::{cited, definitions, Definition};
-use crate::edits::{edit, Edit};
+use crate::edits::{edit, Edit, MORE};
 use crate::functions::{functions, Function};
 use crate::numbers::{numbers_in, Number};
 use crate::specification::{sections, Section};
@@ -88,14 +88,19 @@ pub fn read(root: &Path) -> Repository {
                     .map(|number| (number, format!("{krate}/specs/{}", stem(&path)))),
             );
         }
+        let first = fs::read_to_string(folder.join("src/lib.rt")).unwrap_or_default();
         for path in with_ending(folder.join("src"), "rt") {
-            repository.functions.extend(functions(
-                krate,
-                &format!("src/{}.rt", stem(&path)),
-                &text(&path),
-            ));
+            let module = stem(&path);
+            let mut found = functions(krate, &format!("src/{module}.rt"), &text(&path));
+            if !["lib", "main"].contains(&module.as_str()) {
+                for function in &mut found {
+                    function.outside =
+                        first.contains(&format!("pub use {module}::{};", function.name));
+                }
+            }
+            repository.functions.extend(found);
         }
-        for (part, before) in [("must-fail", ""), ("must-fail/more", "more/")] {
+        for (part, before) in [("must-fail", ""), ("must-fail/more", MORE)] {
             for path in with_ending(folder.join(part), "edit") {
                 let read = |file: &str| fs::read_to_string(folder.join(file)).ok();
                 repository.edits.push(edit(

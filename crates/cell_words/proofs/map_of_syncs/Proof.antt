@@ -2,7 +2,8 @@
 use Prim.Native.Nat.{_+_}
 use mathlib.Core.Path.{_≡_}
 use native.Mathlib.Omega.{arith}
-use Rattle.cell_words.specs.Tests.{oneAt, aloneAt, sevenFrom, syncFrom, standsAt}
+use Rattle.cell_words.specs.Tests.{oneAt, aloneAt, standsAt}
+use Rattle.cell_words.specs.PrivateContracts.{sevenFrom, syncFrom}
 use Rattle.cell_words.proofs.Words.{holds-less, holds-same}
 use Rattle.cell_words.proofs.Tests.{sync-stands}
 use borrow.Author.Needs.{needs}

@@ -1,6 +1,6 @@
 -- `cell_words::seven_word` meets its contract. Assumes nothing.
 use Rattle.cell_words.proofs.Words.{Is, _and_, neg}
-use Rattle.cell_words.specs.Tests.{sevenFrom}
+use Rattle.cell_words.specs.PrivateContracts.{sevenFrom}
 use borrow.Author.Needs.{needs}
 use Rattle.cell_words.proofs.seven_word.Statement.{statement}
 use Rattle.cell_words.proofs.seven_word.Tie as tie

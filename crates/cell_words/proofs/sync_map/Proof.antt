@@ -5,7 +5,7 @@ use mathlib.Core.Bool.{Bool}
 use native.Mathlib.Omega.{arith}
 use lib.ListN.{length, getD, length-set}
 use Rattle.cell_words.specs.Words.{mask, Holds}
-use Rattle.cell_words.specs.Tests.{syncFrom}
+use Rattle.cell_words.specs.PrivateContracts.{syncFrom}
 use Rattle.cell_words.proofs.Words.{holds-none, holds-more, holds-at, holds-next, Rest, rest-none, rest-more, rest-at, rest-next}
 use borrow.Author.Needs.{needs}
 use Rattle.cell_words.proofs.sync_map.Statement.{statement}

@@ -1,6 +1,6 @@
 -- `cell_words::sync_word` meets its contract. Assumes nothing.
 use Rattle.cell_words.proofs.Words.{Is, _and_, neg}
-use Rattle.cell_words.specs.Tests.{syncFrom}
+use Rattle.cell_words.specs.PrivateContracts.{syncFrom}
 use borrow.Author.Needs.{needs}
 use Rattle.cell_words.proofs.sync_word.Statement.{statement}
 use Rattle.cell_words.proofs.sync_word.Tie as tie

@@ -7,6 +7,7 @@ use mir.Facts.{toZ-ofZ}
 use Rattle.separation.proofs.BorderPulses.{Passed, one-at-most, none-passed, one-passed, all-passed}
 use Rattle.separation.proofs.Walk.{Turn, turn, walk-small, walk-end}
 use Rattle.separation.proofs.Writing.{Filled, front-cleared, filled-start, filled-next, filled-end}
+use Rattle.separator.proofs.Residual.{kept-usable}
 use borrow.Author.Needs.{needs}
 use Rattle.separation.proofs.fill.Statement.{statement}
 use Rattle.separation.proofs.fill.Tie as tie
@@ -41,7 +42,9 @@ shared-slice-read-step-by : tie.Need-shared-slice-read-step-by Inv-loop μ-loop
 shared-slice-read-step-by c = search needs
 
 step-by-requires : tie.Need-step-by-requires Inv-loop μ-loop
-step-by-requires c κs = c .before .before .before .before .before .before .before .before .before .before .pre .2
+step-by-requires c κs =
+    let l = c .before .before in
+    (c .before .before .before .before .before .before .before .before .before .before .pre .2, kept-usable _ _ (l .loop .inv .0 .walked .kept))
 
 cells-given-requires : tie.Need-cells-given-requires Inv-loop μ-loop
 cells-given-requires c κs = search needs

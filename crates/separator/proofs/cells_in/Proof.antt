@@ -21,10 +21,10 @@ cast-if1 : tie.Need-cast-if1
 cast-if1 c = search needs
 
 returns : tie.Need-returns
-returns c b e h = none-below (c .before .args .half-window) b (below-half (c .before .args .half-window) b e (rw (same (c .before), half-is (c .before)) at (c .if1 .taken)))
+returns c = (omega arith, λ b e h. none-below (c .before .args .half-window) b (below-half (c .before .args .half-window) b e (rw (same (c .before), half-is (c .before)) at (c .if1 .taken))))
 
 returns-2 : tie.Need-returns-2
-returns-2 c b e h = one-past (c .before .args .half-window) b (past-half (c .before .args .half-window) b e (rw (same (c .before), half-is (c .before)) at (c .if1 .left))) h
+returns-2 c = (omega arith, λ b e h. one-past (c .before .args .half-window) b (past-half (c .before .args .half-window) b e (rw (same (c .before), half-is (c .before)) at (c .if1 .left))) h)
 
 pub cells-in-spec : {M : Type 1} → statement M
 cells-in-spec = tie.close (tie.spec cast-if1 returns returns-2)
