@@ -1,4 +1,6 @@
 // From a track block to cells, by way of a revolution's timings, and to the number of their border pulses.
+#![tactic(auto)]
+
 ghost use Rattle.std.specs.Prelude.{◌≡◌, ℕ, length};
 ghost use Rattle.refusals.specs.RefusedCalls.{counted_answer};
 ghost use Rattle.refusals.specs.RefusedCalls.Answer.{gives};

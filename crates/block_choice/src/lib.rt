@@ -1,16 +1,18 @@
 // What is to be listed of a track block, from the four words of a command line (rules 13.9 and 13.10).
+#![tactic(auto)]
+
 ghost use Rattle.std.specs.Prelude.{◌≡◌};
 ghost use Rattle.block_choice.specs.Arguments.{is_digit, argument_of, no_choice, chosen, choice_of};
 
 // One argument: a number from 0 to 255, or anything else.
-#[derive(Drop)]
+#[derive(Clone, Copy)]
 pub enum Argument {
     Byte(u8),
     Other,
 }
 
 // What is to be listed of a block, where the arguments are right.
-#[derive(Drop)]
+#[derive(Clone, Copy)]
 pub struct Choice {
     pub right: bool,
     pub revolutions: u8,

@@ -1,4 +1,6 @@
 // The listing of one revolution of a track block: that of the track with the cells which the separator makes of it.
+#![tactic(auto)]
+
 ghost use Rattle.std.specs.Prelude.{◌≡◌, ◌≤◌, length};
 ghost use Rattle.lines.specs.Lines.{out_after};
 ghost use Rattle.block_listing.specs.BlockListing.{room_for_cells, block_listing};

@@ -1,5 +1,7 @@
 // What the kinds MTV, NFA and SID count on the cells of a track (rules 7.38 to 7.42, 7.45, 7.46): ones too near or too far, the longest run
 // of zeros, and sync words. All of it goes over maps of 64 places a word (crate cell_words).
+#![tactic(auto)]
+
 mod zeros;
 
 ghost use Rattle.std.specs.Prelude.{◌≡◌, Bool, ℕ, ◌+◌, ◌-◌, ◌/◌, ◌<◌, ◌≤◌, length};
@@ -17,7 +19,7 @@ use sector_records::{BYTE_LENGTH, Sector};
 // What MTV and NFA look at: the first one whose next one is too near or too far, n where there is none, and how many there
 // are; the start of the longest run of zeros, of equal ones the least, and its length, where it has 1,000 zeros or more. Of shorter runs `longest` is
 // only some number below 1,000.
-#[derive(Drop)]
+#[derive(Clone, Copy)]
 pub struct Gaps {
     pub first: usize,
     pub violations: usize,

@@ -9,7 +9,7 @@ use cell_words::WORDS;
 use sector_records::MOST_CELLS;
 
 // A run of zeros.
-#[derive(Drop)]
+#[derive(Clone, Copy)]
 pub struct Run {
     pub start: usize,
     pub longest: usize,

@@ -1,4 +1,6 @@
 // Tests on cells, made at 64 places at once. The map of a test is a list of words with a bit for each place, the highest bit for the first.
+#![tactic(auto)]
+
 ghost use Rattle.std.specs.Prelude.{◌≡◌, Bool, List, ℕ, ◌+◌, ◌-◌, ◌*◌, ◌/◌, ◌%◌, ◌^◌, ◌<◌, ◌≤◌, eqb, length};
 ghost use Rattle.std.specs.Int.Count.{count_leading_zeros};
 ghost use Rattle.basis.specs.Search.{least, count};

@@ -1,4 +1,6 @@
 // The cells of a track, which form a ring: eight are kept in a byte, the first of them as its highest bit.
+#![tactic(auto)]
+
 ghost use Rattle.std.specs.Prelude.{◌≡◌, ℕ, ◌<◌, ◌≤◌, ◌*◌, ◌+◌, ◌-◌, ◌/◌, ◌%◌, ◌^◌, true, false, cond, eqb, length, get_or};
 ghost use Rattle.cells.specs.PrivateContracts.{Skipped};
 ghost use Rattle.cells.specs.CellsAndBytes.{cell_at, cell, word, word_at, least_place, cleared, with_one};

@@ -1,4 +1,6 @@
 // The check word, by section 2 of the specification: four bytes at a turn by a table, and single bytes by shifts.
+#![tactic(auto)]
+
 mod table;
 
 ghost use Rattle.std.specs.Prelude.{◌≡◌, ◌+◌, ◌*◌, ◌<◌, ◌≤◌, length, drop};

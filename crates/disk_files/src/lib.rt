@@ -1,4 +1,6 @@
 // The tracks of a disk, from track files: what a file brings is added to the two lists that the page of the disk is made of.
+#![tactic(auto)]
+
 ghost use Rattle.std.specs.Prelude.{◌≡◌};
 ghost use Rattle.std.proofs.lemmas.List.Edits.{sets};
 ghost use Rattle.refusals.specs.RefusedCalls.{counted_answer};

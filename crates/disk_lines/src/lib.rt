@@ -1,4 +1,6 @@
 // The line of an entry of a disk's page, as bytes: track and side, and the line of a finding.
+#![tactic(auto)]
+
 ghost use Rattle.std.specs.Prelude.{◌≡◌};
 ghost use Rattle.lines.specs.Lines.{digit as digitOf};
 ghost use Rattle.lines.specs.Writing.{Wrote};

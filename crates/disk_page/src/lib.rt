@@ -1,6 +1,8 @@
 // The page of a whole disk, as bytes: the findings of up to 168 tracks, given in any order, sorted by side and track, each as its line after
 // track and side. Tracks of one side that follow each other and have TNF share a line. What there is no room for is not written; the answer is
 // the number of bytes of the whole.
+#![tactic(auto)]
+
 ghost use Rattle.std.specs.Prelude.{◌≡◌, cond, ◌&&◌, ◌+◌, ◌*◌, ◌<◌, ◌≤◌, eqb, length};
 ghost use Rattle.basis.specs.Lists.{joined};
 ghost use Rattle.disk_tracks.specs.Given.{some, kind_at, findings_in};

@@ -1,4 +1,6 @@
 // The tracks of a disk and their findings, as they are handed over for its page, and whether they are accepted: section 16 of the specification.
+#![tactic(auto)]
+
 ghost use Rattle.std.specs.Prelude.{◌≡◌, true, not, ◌&&◌, ◌+◌, ◌*◌, ◌/◌, ◌<◌, ◌≤◌, eqb, length};
 ghost use Rattle.refusals.specs.RefusedCalls.{counted_answer};
 ghost use Rattle.disk_tracks.specs.Given.{some, before, tracks_in, findings_in};

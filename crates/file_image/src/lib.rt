@@ -1,4 +1,6 @@
 // The plain image of the track of a whole track file, at the end of its portions.
+#![tactic(auto)]
+
 ghost use Rattle.std.specs.Prelude.{◌≡◌, length};
 ghost use Rattle.refusals.specs.RefusedCalls.{counted_answer, buffer_after};
 ghost use Rattle.track_file.specs.Portions.{read_answer, finish_answer};

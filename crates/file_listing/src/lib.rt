@@ -1,4 +1,6 @@
 // The listing of a whole track file: at the end of its portions, or of a file in memory.
+#![tactic(auto)]
+
 ghost use Rattle.std.specs.Prelude.{◌≡◌, ◌≤◌, length};
 ghost use Rattle.lines.specs.Lines.{out_after};
 ghost use Rattle.track_file.specs.Portions.{read_answer, finish_answer};

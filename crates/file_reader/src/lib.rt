@@ -1,18 +1,20 @@
 // The reader of a track file, a byte at a time.
+#![tactic(auto)]
+
 ghost use Rattle.std.specs.Prelude.{◌≡◌, set};
 ghost use Rattle.file_reader.specs.Bytes.{number_after, after_place_count, after_cell_count, after_packed_byte, after_flux_count, in_place_count, in_cell_count, in_flux_count, reader_after_byte, cells_after_byte};
 
 use refusals::Refusal;
 
 // The place section: the drive's track and side.
-#[derive(Drop)]
+#[derive(Clone, Copy)]
 pub struct Place {
     pub track: u8,
     pub side: u8,
 }
 
 // The bytes so far of a number.
-#[derive(Drop)]
+#[derive(Clone, Copy)]
 pub enum Number {
     Empty,
     One(u8),
@@ -21,14 +23,14 @@ pub enum Number {
 }
 
 // A number with a byte more: still a part of it, or the whole.
-#[derive(Drop)]
+#[derive(Clone, Copy)]
 pub enum Extended {
     Part(Number),
     Whole(u32),
 }
 
 // Where the reading of a track file stands, with what the sections before have brought.
-#[derive(Drop)]
+#[derive(Clone, Copy)]
 pub enum Reader {
     PlaceCount(Number),
     Track,

@@ -1,5 +1,7 @@
 // The list of a track's findings, kind after kind and each kind by place (rule 7.32), as numbers put one after the other. A kind is given by
 // its index, from 0.
+#![tactic(auto)]
+
 ghost use Rattle.std.specs.Prelude.{◌≡◌, true, false, ℕ, ◌<◌, ◌≤◌, length, get_or, replicate};
 ghost use Rattle.basis.specs.Lists.{joined};
 ghost use Rattle.cells.specs.CellsAndBytes.{cell};
@@ -22,7 +24,7 @@ use sector_records::{Sector, Sectors};
 
 // A finding (rule 7.31): its kind from 1 to 21, the kind's level, its place in cells, and its detail.
 #[repr(C)]
-#[derive(Drop)]
+#[derive(Clone, Copy)]
 pub struct Finding {
     pub kind: u8,
     pub level: u8,
@@ -31,7 +33,7 @@ pub struct Finding {
 }
 
 // The number of sectors, 0 beside a refusal, and the number of findings or a refusal.
-#[derive(Drop)]
+#[derive(Clone, Copy)]
 pub struct Found {
     pub sectors: usize,
     pub answer: Counted,

@@ -1,5 +1,7 @@
 // The table of findings (rules 7.1 to 7.21): on the track's numbers, on one sector's record, on one record beside another, and on what was
 // counted on the cells. A kind is given by its place in its group, from 0.
+#![tactic(auto)]
+
 ghost use Rattle.std.specs.Prelude.{◌≡◌, ◌-◌, get_or};
 ghost use Rattle.finding_rules.specs.Rules.{track_rows, id_rows, data_rows, gap_rows, no_row, is_in_data, starts_in_data};
 
@@ -8,7 +10,7 @@ use layouts::Layout;
 use sector_records::Sector;
 
 // A row of the table: whether the rule holds, and if so at which place and with which detail.
-#[derive(Drop)]
+#[derive(Clone, Copy)]
 pub struct Row {
     pub holds: bool,
     pub place: usize,

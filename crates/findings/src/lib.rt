@@ -1,4 +1,6 @@
 // The copy-protection findings of a track, of 21 kinds, in the caller's list: kind after kind, and each kind by place (rule 7.32).
+#![tactic(auto)]
+
 mod lent;
 
 ghost use Rattle.std.specs.Prelude.{◌≡◌, ◌+◌, ◌*◌, ◌/◌, ◌%◌, ◌<◌, ◌≤◌, length, take};
@@ -50,7 +52,7 @@ pub fn findings_as_numbers_in(
 
 // What is to be done with a list that has room for so many findings: how many of the numbers go there, none beside a refusal, the
 // answer, and the number of sectors.
-#[derive(Drop)]
+#[derive(Clone, Copy)]
 struct Planned {
     pub count: usize,
     pub answer: Counted,

@@ -1,4 +1,6 @@
 // An old flux file, written anew with the cells that the separator makes of its timings.
+#![tactic(auto)]
+
 ghost use Rattle.std.specs.Prelude.{◌≡◌, ◌+◌, ◌≤◌, length};
 ghost use Rattle.basis.specs.Lists.{written_over};
 ghost use Rattle.refusals.specs.RefusedCalls.{counted_answer, buffer_after};

@@ -1,5 +1,7 @@
 // The old flux file, taken in portions that are cut anywhere between two bytes: `start`, then `feed` for each portion, then `finish`. The
 // cells that the separator makes of its timings go to a buffer that the caller lends to each call.
+#![tactic(auto)]
+
 ghost use Rattle.std.specs.Prelude.{◌≡◌, ◌≤◌, length, drop};
 ghost use Rattle.refusals.specs.RefusedCalls.{counted_answer};
 ghost use Rattle.track_file.specs.Portions.{start_cells, read_answer};
@@ -92,7 +94,7 @@ fn given_cells(place: Place, counted: Counted) -> Read
 }
 
 // How far a portion is fed, and the reader there.
-#[derive(Drop)]
+#[derive(Clone, Copy)]
 struct FedTo {
     reader: FluxReader,
     to: usize,

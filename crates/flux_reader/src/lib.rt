@@ -1,4 +1,6 @@
 // The reader of an old flux file, a byte at a time. Timings are stepped as they are read, so that none are kept.
+#![tactic(auto)]
+
 ghost use Rattle.std.specs.Prelude.{◌≡◌};
 ghost use Rattle.flux_reader.specs.Bytes.{after_place_count, after_cell_count, after_flux_count, after_timing, in_place_count, in_cell_count, in_flux_count, in_timing, in_timing_cells, reader_after_byte, cells_after_byte};
 
@@ -7,7 +9,7 @@ use refusals::Refusal;
 use taken_timings::TakenTimings;
 
 // Where the reading of an old flux file stands, with what the sections before have brought.
-#[derive(Drop)]
+#[derive(Clone, Copy)]
 pub enum FluxReader {
     PlaceCount(Number),
     Track,

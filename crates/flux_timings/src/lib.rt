@@ -1,4 +1,6 @@
 // Flux timings: the range of each, and the first of a list that is outside it.
+#![tactic(auto)]
+
 ghost use Rattle.std.specs.Prelude.{◌≡◌, true, length};
 ghost use Rattle.flux_timings.specs.Timings.{in_range, first_out};
 

@@ -1,4 +1,6 @@
 // The histogram of timings.
+#![tactic(auto)]
+
 ghost use Rattle.std.specs.Prelude.{◌≡◌, min, ◌≤◌, length, replicate};
 ghost use Rattle.histogram.specs.Histogram.{bin_of, counts_of, counting, counts_after, sum_after, sum_of};
 ghost use Rattle.refusals.specs.RefusedCalls.{counted_answer};
@@ -8,7 +10,7 @@ use flux_timings::{MOST_TIMINGS, first_out};
 use refusals::{Counted, Refusal};
 
 // A histogram: 256 counts, all zeros beside a refusal, and what the call answers.
-#[derive(Drop)]
+#[derive(Clone, Copy)]
 pub struct Histogram {
     pub counts: [u32; 256],
     pub answer: Counted,

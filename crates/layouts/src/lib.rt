@@ -1,17 +1,19 @@
 // What a track of single density (FM) and one of double density (MFM) differ in, as numbers.
+#![tactic(auto)]
+
 ghost use Rattle.std.specs.Prelude.{◌≡◌};
 ghost use Rattle.layouts.specs.Layouts.{layout_of};
 ghost use Rattle.layouts.specs.PrivateContracts.{Sound};
 
 // How a track is coded: FM or MFM.
-#[derive(Drop)]
+#[derive(Clone, Copy)]
 pub enum Density {
     Single,
     Double,
 }
 
 // The numbers of a density. Lengths and places are cells.
-#[derive(Drop)]
+#[derive(Clone, Copy)]
 pub struct Layout {
     // 1 for FM, 2 for MFM.
     pub density: u8,

@@ -1,4 +1,6 @@
 // The level of each kind of finding, by rule 7.33 of the specification: one constant table, from which every finding takes its level.
+#![tactic(auto)]
+
 ghost use Rattle.std.specs.Prelude.{◌≡◌, get_or};
 ghost use Rattle.levels.specs.Levels.{levels};
 

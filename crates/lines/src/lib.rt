@@ -1,5 +1,7 @@
 // Lines of text as bytes, made of numbers alone: the header of a listing, the line of a finding, the line of a refusal. What there is no room
 // for is not written. The functions without a place write to the front of the lent buffer and answer the number of bytes of the whole.
+#![tactic(auto)]
+
 ghost use Rattle.std.specs.Prelude.{◌≡◌, ◌∷◌, [], ◌++◌, ◌+◌, ◌<◌, ◌≤◌, length};
 ghost use Rattle.lines.specs.Lines.{digit, decimal_of, two_digits, name_of, header_of, finding_line, refused_line, out_after};
 ghost use Rattle.lines.specs.Writing.{Wrote};

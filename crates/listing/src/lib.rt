@@ -1,5 +1,7 @@
 // The listing of a track, as bytes: a header and a line for each finding, or `refused` and a number, at the front of a lent buffer. What
 // there is no room for is not written; the answer is the number of bytes of the whole.
+#![tactic(auto)]
+
 ghost use Rattle.std.specs.Prelude.{◌≡◌, ◌*◌, ◌≤◌, length};
 ghost use Rattle.basis.specs.Lists.{joined};
 ghost use Rattle.lines.specs.Lines.{out_after};

@@ -1,4 +1,6 @@
 // The reader of a revolution's values as one number, for callers that cannot hold it (rule 12.24).
+#![tactic(auto)]
+
 ghost use Rattle.std.specs.Prelude.{◌≡◌, ◌<◌};
 ghost use Rattle.reader_as_number.specs.Numbers.{held_number, held_from, number_of_reader, reader_of_number};
 

@@ -1,9 +1,11 @@
 // The refusals of section 8 of the specification: one variant for each row of its table, in the same order.
+#![tactic(auto)]
+
 ghost use Rattle.std.specs.Prelude.{◌≡◌};
 ghost use Rattle.refusals.specs.RefusedCalls.{number_of, value_of};
 
 // Why a call was refused, with the number that is given beside it.
-#[derive(Drop)]
+#[derive(Clone, Copy)]
 pub enum Refusal {
     // 1: the track is above 83 or the side above 1.
     TrackOrSide,
@@ -66,7 +68,7 @@ pub enum Refusal {
 }
 
 // What a call answers that counts something, as bytes written or findings: their number, or a refusal.
-#[derive(Drop)]
+#[derive(Clone, Copy)]
 pub enum Counted {
     Count(usize),
     Refused(Refusal),

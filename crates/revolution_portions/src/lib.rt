@@ -2,6 +2,8 @@
 //
 // Nothing may be written before a portion is judged, so it is passed over twice: to count its timings and to find one out of range, and then
 // to store them.
+#![tactic(auto)]
+
 ghost use Rattle.std.specs.Prelude.{◌≡◌, ◌≤◌, length};
 ghost use Rattle.refusals.specs.RefusedCalls.{counted_answer};
 ghost use Rattle.refusals.specs.declared.Counted.{Counted};
@@ -12,14 +14,14 @@ use refusals::{Counted, Refusal};
 use revolution_values::{Held, Passed, Unfinished};
 
 // Where the reading of a revolution's values stands (rule 12.16): the timing that has not ended, and how many have.
-#[derive(Drop)]
+#[derive(Clone, Copy)]
 pub struct RevolutionReader {
     pub unfinished: Unfinished,
     pub timings: u32,
 }
 
 // A portion taken: how many timings end in it, or a refusal, and the next state, which is the same beside a refusal.
-#[derive(Drop)]
+#[derive(Clone, Copy)]
 pub struct TakenPortion {
     pub answer: Counted,
     pub next: RevolutionReader,

@@ -22,7 +22,7 @@ unfinished_after_byte (High high) zeros byte = unfinished_after_value zeros (256
 
 -- 12.4, 12.15: a timing ends with the second byte of its value
 abbrev pub timings_of_byte : Held → ℕ → ℕ → List ℕ
-timings_of_byte Nothing zeros byte = []
+timings_of_byte Nothing _ byte = []
 timings_of_byte (High high) zeros byte = timings_of_value zeros (256 * high + byte)
 
 -- 12.16: what is unfinished after some bytes

@@ -1,6 +1,8 @@
 // A revolution's values, byte by byte: the timings that end in some bytes, and what the bytes leave unfinished.
 //
 // A value is two bytes. A 0 only adds to the next value, and any other value ends a timing.
+#![tactic(auto)]
+
 ghost use Rattle.std.specs.Prelude.{◌≡◌, cond, true, ◌+◌, ◌*◌, ◌≤◌, ◌<◌, min, eqb, length, drop, set};
 ghost use Rattle.std.proofs.lemmas.List.Edits.{sets};
 ghost use Rattle.flux_timings.specs.Timings.{in_range};
@@ -9,14 +11,14 @@ ghost use Rattle.revolution_values.specs.Values.{unfinished_after, timings_endin
 ghost use Rattle.revolution_values.specs.PrivateContracts.{PassedValue, PassedOver, no_zeros};
 
 // The first byte of a value, where the bytes ended between its two.
-#[derive(Drop)]
+#[derive(Clone, Copy)]
 pub enum Held {
     Nothing,
     High(u8),
 }
 
 // The timing that has not ended: the zeros before its value, counted up to 7, and what is held of the value.
-#[derive(Drop)]
+#[derive(Clone, Copy)]
 pub struct Unfinished {
     pub held: Held,
     pub zeros: u32,
@@ -24,7 +26,7 @@ pub struct Unfinished {
 
 // Bytes passed over: what they leave unfinished, how many timings end in them, and the index of the first that is out of range, or their
 // number where none is.
-#[derive(Drop)]
+#[derive(Clone, Copy)]
 pub struct Passed {
     pub unfinished: Unfinished,
     pub count: usize,
@@ -40,7 +42,7 @@ const UNIT: u32 = 25;
 const ADDED_BY_ZERO: u32 = 65_536;
 
 // The same between two values, when nothing is held.
-#[derive(Drop)]
+#[derive(Clone, Copy)]
 struct Seen {
     pub zeros: u32,
     pub count: usize,

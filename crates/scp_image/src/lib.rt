@@ -1,5 +1,7 @@
 // Whole SuperCard Pro images: the header, where the track blocks are, and the check sum. Of an image the first 688 bytes are handed over, and how
 // many bytes it has; no number in it is trusted.
+#![tactic(auto)]
+
 ghost use Rattle.std.specs.Prelude.{◌≡◌, ◌+◌, ◌*◌, ◌<◌, ◌≤◌, min, not, ◌||◌, length, drop, if◌then◌else◌, ◌==◌};
 ghost use Rattle.basis.specs.Bytes.{number};
 ghost use Rattle.basis.specs.Lists.{listed, written_over};

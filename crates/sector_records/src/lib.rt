@@ -1,4 +1,6 @@
 // The sectors of a track as records: marks, IDs, data, and their checks, in either density.
+#![tactic(auto)]
+
 ghost use Rattle.std.specs.Prelude.{◌≡◌, true, cond, ◌&&◌, [], ◌+◌, ◌-◌, ◌*◌, ◌/◌, ◌%◌, ◌<◌, ◌≤◌, ltb, leb, replicate};
 ghost use Rattle.basis.specs.Search.{least};
 ghost use Rattle.cells.specs.CellsAndBytes.{cell};
@@ -26,7 +28,7 @@ pub const BYTE_LENGTH: usize = 16;
 pub const CHECK_LENGTH: usize = 32;
 
 // A sector's record (rule 6.16). Places are cells; that of the data mark may be past the track's end.
-#[derive(Drop)]
+#[derive(Clone, Copy)]
 pub struct Sector {
     // Where its ID mark stands, and the mark's byte.
     pub place: u32,
@@ -49,7 +51,7 @@ pub struct Sector {
 }
 
 // The sectors of a track: how many there are, and the first 64 of them.
-#[derive(Drop)]
+#[derive(Clone, Copy)]
 pub struct Sectors {
     pub all: [Sector; 64],
     pub count: usize,

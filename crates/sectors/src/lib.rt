@@ -1,4 +1,6 @@
 // The calls on the sectors of a track: the sectors, the sector by index, and reading out.
+#![tactic(auto)]
+
 ghost use Rattle.std.specs.Prelude.{◌≡◌, [], ℕ, ◌≤◌, length};
 ghost use Rattle.basis.specs.Lists.{written_over};
 ghost use Rattle.cells.specs.CellsAndBytes.{cell};
@@ -25,21 +27,21 @@ pub const LAST_SIDE: u32 = 1;
 pub const FEWEST_CELLS: usize = 20000;
 
 // The sectors of a track and their number; none beside a refusal.
-#[derive(Drop)]
+#[derive(Clone, Copy)]
 pub struct TrackSectors {
     pub sectors: Sectors,
     pub answer: Counted,
 }
 
 // A sector by index and the number of sectors; the record is all zeros beside a refusal.
-#[derive(Drop)]
+#[derive(Clone, Copy)]
 pub struct Indexed {
     pub sector: Sector,
     pub answer: Counted,
 }
 
 // What reading out gives: the number of data bytes and whether their check is good, or a refusal.
-#[derive(Drop)]
+#[derive(Clone, Copy)]
 pub enum ReadOut {
     Data(usize, bool),
     Refused(Refusal),

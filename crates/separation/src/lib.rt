@@ -1,4 +1,6 @@
 // The separator on a whole list of timings: the cells, packed in a lent buffer, and the number of border pulses.
+#![tactic(auto)]
+
 ghost use Rattle.std.specs.Prelude.{◌≡◌, cond, ℕ, ◌+◌, ◌-◌, ◌≤◌, eqb, length};
 ghost use Rattle.basis.specs.Lists.{listed};
 ghost use Rattle.refusals.specs.RefusedCalls.{counted_answer};
@@ -98,7 +100,7 @@ fn separate_by(
 }
 
 // What timings have in all: cells, and border pulses.
-#[derive(Drop)]
+#[derive(Clone, Copy)]
 struct Counts {
     cells: usize,
     border_pulses: usize,

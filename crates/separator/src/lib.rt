@@ -1,5 +1,7 @@
 // The separator's rule, one timing at a time: on a state by value, and on one that the host lends. The functions of single density end in
 // `_single`; the others are of double density.
+#![tactic(auto)]
+
 mod lent;
 
 ghost use Rattle.std.specs.Prelude.{◌≡◌, cond, ◌||◌, ℕ, ◌*◌, ◌/◌, ◌%◌, ◌≤◌, ◌<◌, pos};
@@ -13,27 +15,27 @@ pub use lent::{step_in_place, step_lent, step_lent_single};
 use refusals::Refusal;
 
 // The separator's state: the residual, in nanoseconds.
-#[derive(Drop)]
+#[derive(Clone, Copy)]
 pub struct Separator {
     pub residual: i32,
 }
 
 // What a step answers: the number of cells of the timing, or a refusal.
-#[derive(Drop)]
+#[derive(Clone, Copy)]
 pub enum Taken {
     Cells(u32),
     Refused(Refusal),
 }
 
 // What a step gives: its answer, and beside it the offset e in nanoseconds, which is 0 beside a refusal.
-#[derive(Drop)]
+#[derive(Clone, Copy)]
 pub struct Given {
     pub taken: Taken,
     pub offset: i32,
 }
 
 // A step by value: what it gives, and the next state, which is the same beside a refusal.
-#[derive(Drop)]
+#[derive(Clone, Copy)]
 pub struct Stepped {
     pub given: Given,
     pub next: Separator,

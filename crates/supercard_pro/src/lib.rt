@@ -2,6 +2,8 @@
 //
 // A block is the letters TRK, the track number, a table with twelve bytes for each revolution, and the values of the revolutions, which
 // stand where the table says.
+#![tactic(auto)]
+
 ghost use Rattle.std.specs.Prelude.{◌≡◌, ◌+◌, ◌*◌, ◌≤◌, ◌<◌, length, drop};
 ghost use Rattle.basis.specs.Bytes.{number};
 ghost use Rattle.refusals.specs.RefusedCalls.{counted_answer};

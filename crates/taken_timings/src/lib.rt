@@ -1,4 +1,6 @@
 // Timings taken one by one: each is stepped, and its cells are put into a lent buffer after those so far. So none are kept.
+#![tactic(auto)]
+
 ghost use Rattle.std.specs.Prelude.{◌≡◌};
 ghost use Rattle.refusals.specs.RefusedCalls.{counted_answer};
 ghost use Rattle.taken_timings.specs.Timings.{none_taken, count_after, timing_cells, taken_after, taken_cells, timings_answer};
@@ -8,7 +10,7 @@ use separator::{Separator, Taken};
 
 // The timings taken so far: all in range, with their number, their cells in all and the separator's state; or the index of the first outside
 // its range.
-#[derive(Drop)]
+#[derive(Clone, Copy)]
 pub enum TakenTimings {
     InRange {
         timings: usize,

@@ -1,5 +1,7 @@
 // Answers, told to a caller in another language: a number, 0 where a call is accepted and else the refusal's, and what the call gives, or
 // what is given beside the refusal, stored behind a reference.
+#![tactic(auto)]
+
 ghost use Rattle.std.specs.Prelude.{◌≡◌, cond};
 ghost use Rattle.reader_as_number.specs.Numbers.{number_kept};
 ghost use Rattle.refusals.specs.RefusedCalls.{counted_answer};

@@ -6,6 +6,8 @@
 //
 // What the boundary asks of a caller in another language: each address is valid for its length, lent memory does not overlap what else is
 // passed, and a bool is 0 or 1. The routines ask nothing of the values.
+#![tactic(auto)]
+
 mod blocks;
 mod conversion;
 mod disks;

@@ -1,5 +1,7 @@
 // The track file, taken in portions that are cut anywhere between two bytes: `start`, then `feed` for each portion, then `finish`. The
 // cells go to a buffer that the caller lends to each call.
+#![tactic(auto)]
+
 ghost use Rattle.std.specs.Prelude.{◌≡◌, ◌≤◌, length, drop};
 ghost use Rattle.track_file.specs.Portions.{start_of, start_cells, reader_after, cells_after, is_stopped, AtOnce, read_answer, finish_answer, WholeFile};
 
@@ -10,7 +12,7 @@ use refusals::Refusal;
 pub const ROOM: usize = 16_384;
 
 // What a file gives: its place and the number of its cells, or a refusal.
-#[derive(Drop)]
+#[derive(Clone, Copy)]
 pub enum Read {
     Cells { track: u8, side: u8, count: usize },
     Refused(Refusal),
@@ -80,7 +82,7 @@ fn given(reader: Reader) -> Read
 }
 
 // How far a portion is fed, and the reader there.
-#[derive(Drop)]
+#[derive(Clone, Copy)]
 struct FedTo {
     reader: Reader,
     to: usize,

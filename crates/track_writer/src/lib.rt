@@ -1,4 +1,6 @@
 // The controller's command Write Track on a list of bytes, by section 17 of the specification.
+#![tactic(auto)]
+
 ghost use Rattle.std.specs.Prelude.{◌≡◌, ◌<◌, ◌≤◌, ◌+◌, ◌*◌, ◌/◌, ◌%◌, length, take, drop, ◌++◌};
 ghost use Rattle.basis.specs.Lists.{written_over};
 ghost use Rattle.mfm.specs.Table.{cell_table};
@@ -14,7 +16,7 @@ pub const MOST_PIECES: usize = 8192;
 
 // What a byte of the list depends on: the check word of the bytes before it, whether the data bit before it is a one, and whether the list has
 // F5 before it.
-#[derive(Drop)]
+#[derive(Clone, Copy)]
 struct Writer {
     word: u16,
     odd: bool,

@@ -1,5 +1,7 @@
 // Two reads of one sector, by section 14 of the specification: where they differ, and the part of a read whose check is good. A read is the
 // data bytes of a sector with the two check bytes behind them.
+#![tactic(auto)]
+
 ghost use Rattle.std.specs.Prelude.{◌≡◌, [], ◌∷◌, ◌≤◌, ◌<◌, ◌*◌, ◌+◌, length};
 ghost use Rattle.std.specs.Int.Bits.{bit_xor};
 ghost use Rattle.std.specs.Int.Count.{ones};
@@ -10,14 +12,14 @@ ghost use Rattle.two_reads.specs.GoodRead.{check_is_good, part_answer, part_give
 use refusals::{Counted, Refusal};
 
 // What comparing two reads gives: the four numbers of the finding, zeros where there is none, and how many findings, or a refusal.
-#[derive(Drop)]
+#[derive(Clone, Copy)]
 pub struct Compared {
     pub numbers: [u32; 4],
     pub answer: Counted,
 }
 
 // The part of a read whose check is good: whether it is of the second read, and how many of its first bytes. Or a refusal.
-#[derive(Drop)]
+#[derive(Clone, Copy)]
 pub enum GoodPart {
     Of { second: bool, count: usize },
     Refused(Refusal),

@@ -1,4 +1,6 @@
 // The cells of a whole track file in memory. The file is read into a buffer of our own, so that a refused call writes nothing.
+#![tactic(auto)]
+
 ghost use Rattle.std.specs.Prelude.{◌≡◌, ◌≤◌, length};
 ghost use Rattle.refusals.specs.RefusedCalls.{buffer_after};
 ghost use Rattle.refusals.specs.RefusedCalls.Answer.{gives};
