@@ -6,7 +6,6 @@ use lib.Dec.{lit≤}
 use lib.IntN.{pos}
 use lib.ListN.{length}
 use lib.Signed.{le_z_yes}
-use Rattle.basis.specs.Search.{least}
 use Rattle.cells.specs.CellsAndBytes.{packed}
 use Rattle.separation.specs.Separation.{cells_for}
 use Rattle.separation.specs.Demand3.{Reversal, Fair, last, more, Tolerable, cells_written, cells_in_all, refusal_table}

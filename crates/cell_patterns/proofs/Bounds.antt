@@ -1,9 +1,8 @@
 -- How large the numbers are that are counted on the cells. Assumes nothing.
-use Prim.Native.Nat.{ℕ, zero, suc, ◌+◌, ◌*◌, ◌≤◌}
+use Prim.Native.Nat.{ℕ, zero, suc, ◌+◌, ◌≤◌}
 use mathlib.Core.Bool.{Bool, true, false, cond}
 use native.Mathlib.Nat.{max-le}
 use native.Mathlib.Omega.{arith}
-use lib.Dec.{ltb}
 use Rattle.basis.specs.Search.{most}
 use Rattle.basis.proofs.Search.{least-high, count-few}
 use Rattle.cell_patterns.specs.Cells.{violation, zeros_from, run_from, longest_run, longest_start, gaps_of, syncs_between, syncs_inside}

@@ -5,7 +5,6 @@ use mathlib.Core.Bool.{Bool}
 use native.Mathlib.Omega.{arith}
 use lib.Dec.{eqb}
 use Rattle.basis.specs.Search.{count}
-use Rattle.cells.specs.CellsAndBytes.{word}
 use Rattle.cells.proofs.Words.{word_same}
 use Rattle.cell_words.proofs.Ranges.{count-join}
 use Rattle.sector_records.specs.Marks.{word_mark_at}

@@ -9,7 +9,6 @@ use lib.Dec.{ltb}
 use borrow.Author.Tests.{lt-ltb, ltb-true, ltb-false}
 use Rattle.basis.specs.Search.{least}
 use Rattle.basis.proofs.Search.{least-low, least-high, least-grows, least-longer, most-above}
-use Rattle.cells.specs.CellsAndBytes.{cell}
 use Rattle.cell_patterns.specs.Cells.{is_one, zeros_from, longest_run}
 
 -- a is the least of m places from p + 1, b that of one place more

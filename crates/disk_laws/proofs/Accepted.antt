@@ -23,9 +23,9 @@ unfolding is_at
 at_place tracks H T i e =
     (eqb-true _ _ (and_left (eqb (side_at tracks i) H) (eqb (track_at tracks i) T) e), eqb-true _ _ (and_right (eqb (side_at tracks i) H) (eqb (track_at tracks i) T) e))
 
-pub place_at : (tracks : List ℕ) (H T i : ℕ) → side_at tracks i ≡ H → track_at tracks i ≡ T → is_at tracks H T i ≡ true
+pub place-at : (tracks : List ℕ) (H T i : ℕ) → side_at tracks i ≡ H → track_at tracks i ≡ T → is_at tracks H T i ≡ true
 unfolding is_at
-place_at tracks H T i s t = rw (eq-eqb _ _ s, eq-eqb _ _ t)
+place-at tracks H T i s t = rw (eq-eqb _ _ s, eq-eqb _ _ t)
 
 -- a later kind, or the same and a later place
 abbrev pub Later : (k p l q : ℕ) → Type 0
@@ -37,9 +37,9 @@ later-than (inl a) (inr (e, b)) = inl (omega arith)
 later-than (inr (e, a)) (inl b) = inl (omega arith)
 later-than (inr (e, a)) (inr (g, b)) = inr (omega arith, omega arith)
 
-is_later : (k p l q : ℕ) → is_later k p l q ≡ true → Later k p l q
+is-later : (k p l q : ℕ) → is_later k p l q ≡ true → Later k p l q
 unfolding is_later
-is_later k p l q e = go (ltb k l) refl e
+is-later k p l q e = go (ltb k l) refl e
   where
     go : (b : Bool) → ltb k l ≡ b → (b || eqb k l && ltb p q) ≡ true → Later k p l q
     go true t h = inl (ltb-true _ _ t)
@@ -53,7 +53,7 @@ order-at : (T : ℕ) (findings : List ℕ) (start k : ℕ) → amiss_at T findin
 unfolding amiss_at
 order-at T findings start k e =
     let j = start + suc k in
-    is_later _ _ _ _
+    is-later _ _ _ _
     (order-holds (is_amiss T (kind_at findings j) (level_at findings j) (place_at findings j) (detail_at findings j)) _ _ e (lt-ltb 0 (suc k) (omega arith)))
 
 -- what TNF has
@@ -98,7 +98,7 @@ module _ {tracks findings : List ℕ} (ok : Accepted tracks findings) where
       let at_j = at_place tracks H T j b in
       let none = none-at (λ j. some (is_at tracks (side_at tracks j) (track_at tracks j)) j) (tracks_in tracks) j l ok.once in
       let here = some-hit (is_at tracks (side_at tracks j) (track_at tracks j)) j i h
-      (place_at tracks _ _ i (at_i.0 ∙ sym at_j.0) (at_i.1 ∙ sym at_j.1)) in
+      (place-at tracks _ _ i (at_i.0 ∙ sym at_j.0) (at_i.1 ∙ sym at_j.1)) in
       clash here none
 
   module _ (i : ℕ) (h : i < tracks_in tracks) where

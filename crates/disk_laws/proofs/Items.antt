@@ -15,7 +15,7 @@ use Rattle.disk_tracks.specs.Given.{tracks_in, track_at, side_at, own_at, before
 use Rattle.disk_tracks.proofs.Branches.{Accepted}
 use Rattle.disk_page.specs.Page.{Entry}
 use Rattle.disk_laws.specs.Once.{Item, item_at, given, is_item, stands_for}
-use Rattle.disk_laws.proofs.Accepted.{once, all-later, place_at}
+use Rattle.disk_laws.proofs.Accepted.{once, all-later, place-at}
 
 pub record Same (x y : Item) : Type 0 where
   pub side : y.side ≡ x.side
@@ -134,7 +134,7 @@ module _ {tracks findings : List ℕ} (ok : Accepted tracks findings) where
           go (inr q) = omega arith
 
   across-apart : (i j : ℕ) → i < j → j < tracks_in tracks → (k l : ℕ) → Apart (item_at tracks findings i k) (item_at tracks findings j l)
-  across-apart i j h l k m s t e p = once ok (side_at tracks j) (track_at tracks j) i j h l (place_at tracks _ _ i s t) (place_at tracks _ _ j refl refl)
+  across-apart i j h l k m s t e p = once ok (side_at tracks j) (track_at tracks j) i j h l (place-at tracks _ _ i s t) (place-at tracks _ _ j refl refl)
 
   pub given-apart : Ordered Apart (given tracks findings)
   unfolding given

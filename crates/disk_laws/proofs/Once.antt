@@ -14,7 +14,7 @@ use Rattle.disk_page.specs.Page.{Entry, entry, page_entries}
 use Rattle.refusals.specs.RefusedCalls.Answer.{gives}
 use Rattle.disk_laws.specs.Order.{Earlier}
 use Rattle.disk_laws.specs.Once.{Item, item_at, given, is_item, stands_for, times, EachOnce}
-use Rattle.disk_laws.proofs.Accepted.{clash, at_place, place_at, inside, tnf-at}
+use Rattle.disk_laws.proofs.Accepted.{clash, at_place, place-at, inside, tnf-at}
 use Rattle.disk_laws.proofs.Tnf.{tnf-given, given-tnf}
 use Rattle.disk_laws.proofs.Entries.{Comes, comes-page, on-page, brings-other, brings-first}
 use Rattle.disk_laws.proofs.Order.{page-ordered}
@@ -48,8 +48,8 @@ module _ {tracks findings : List ℕ} (ok : Accepted tracks findings) where
     later_first : a.first < b.first → ⊥
     later_first h = go c.from.how d.from.how
       where
-        go : ((kind_at findings (before tracks c.i + c.k) ≡ 4 → ⊥) × (c.from.new ≡ T))
-            ⊎ ((kind_at findings (before tracks c.i + c.k) ≡ 4) × (goes_on tracks findings H T ≡ false) × (c.from.new ≡ last_of tracks findings H T))
+        go : ((kind_at findings (before tracks c.i + c.k) ≡ 4 → ⊥) × (c.from.last ≡ T))
+            ⊎ ((kind_at findings (before tracks c.i + c.k) ≡ 4) × (goes_on tracks findings H T ≡ false) × (c.from.last ≡ last_of tracks findings H T))
             → ((kind_at findings (before tracks d.i + d.k) ≡ 4 → ⊥) × (d.from.last ≡ U))
             ⊎ ((kind_at findings (before tracks d.i + d.k) ≡ 4) × (goes_on tracks findings I U ≡ false) × (d.from.last ≡ last_of tracks findings I U)) → ⊥
         go (inl p) q = omega (arith, p.1, ap (λ (e : Entry). e.first) c.from.is, ap (λ (e : Entry). e.last) c.from.is, s.to, t.from)
@@ -79,14 +79,14 @@ module _ {tracks findings : List ℕ} (ok : Accepted tracks findings) where
   given-one : (x : Item) (H T : ℕ) (e : Entry) → Comes tracks findings H T e → Stands x e → 1 ≤ times (is_item x) (given tracks findings)
   given-one x H T e c s = go c.from.how
     where
-      is : e ≡ entry findings H T c.from.new (before tracks c.i + c.k)
+      is : e ≡ entry findings H T c.from.last (before tracks c.i + c.k)
       is = c.from.is
 
       at : (side_at tracks c.i ≡ H) × (track_at tracks c.i ≡ T)
       at = at_place tracks H T c.i c.at
 
-      go : ((kind_at findings (before tracks c.i + c.k) ≡ 4 → ⊥) × (c.from.new ≡ T))
-          ⊎ ((kind_at findings (before tracks c.i + c.k) ≡ 4) × (goes_on tracks findings H T ≡ false) × (c.from.new ≡ last_of tracks findings H T))
+      go : ((kind_at findings (before tracks c.i + c.k) ≡ 4 → ⊥) × (c.from.last ≡ T))
+          ⊎ ((kind_at findings (before tracks c.i + c.k) ≡ 4) × (goes_on tracks findings H T ≡ false) × (c.from.last ≡ last_of tracks findings H T))
           → 1 ≤ times (is_item x) (given tracks findings)
       go (inl p) =
           times-has (is_item x) (given tracks findings) (item_at tracks findings c.i c.k) (at-given tracks findings c.i c.k c.within c.own)
@@ -126,7 +126,7 @@ module _ {tracks findings : List ℕ} (ok : Accepted tracks findings) where
         let H = side_at tracks i in
         let T = track_at tracks i in
         times-has (stands_for x) (page_entries tracks findings) (entry findings H T T (before tracks i + k))
-        (on-page tracks findings H T i k _ bounds.1 bounds.0 h l (place_at tracks H T i refl refl) (brings-other tracks findings H T (before tracks i + k) n))
+        (on-page tracks findings H T i k _ bounds.1 bounds.0 h l (place-at tracks H T i refl refl) (brings-other tracks findings H T (before tracks i + k) n))
         (it-stands x _
         (record { side = s.side; from = omega (arith, s.track); to = omega (arith, s.track); kind = s.kind; level = s.level; place = s.place; detail = s.detail }))
 
@@ -143,7 +143,7 @@ module _ {tracks findings : List ℕ} (ok : Accepted tracks findings) where
         let j = before tracks g.i + g.k in
         times-has (stands_for x) (page_entries tracks findings) (entry findings H r.first (last_of tracks findings H r.first) j)
         (on-page tracks findings H r.first g.i g.k _ bounds.1 (omega (arith, bounds.0)) g.within g.own
-        (place_at tracks H r.first g.i g.side g.track) (brings-first tracks findings H r.first j g.kind r.begins))
+        (place-at tracks H r.first g.i g.side g.track) (brings-first tracks findings H r.first j g.kind r.begins))
         (it-stands x _
         (record {
           side = s.side;

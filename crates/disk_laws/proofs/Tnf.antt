@@ -12,7 +12,7 @@ use Rattle.disk_tracks.specs.Judgement.{is_at}
 use Rattle.disk_tracks.proofs.Some.{some-hit}
 use Rattle.disk_page.specs.Ranges.{has_tnf}
 use Rattle.disk_laws.specs.LastLine.{GivenTnf}
-use Rattle.disk_laws.proofs.Accepted.{clash, at_place, place_at}
+use Rattle.disk_laws.proofs.Accepted.{clash, at_place, place-at}
 
 -- a number below n that passes a test
 pub record Found (test : ℕ → Bool) (n : ℕ) : Type 0 where
@@ -45,4 +45,4 @@ module _ (tracks findings : List ℕ) (H T : ℕ) where
   given-tnf g =
       let here = some-hit (λ k. eqb (kind_at findings (before tracks g.i + k)) 4) (own_at tracks g.i) g.k g.own (eq-eqb _ _ g.kind) in
       some-hit (λ i. is_at tracks H T i && some (λ k. eqb (kind_at findings (before tracks i + k)) 4) (own_at tracks i)) (tracks_in tracks) g.i g.within
-      (rw (place_at tracks H T g.i g.side g.track, here))
+      (rw (place-at tracks H T g.i g.side g.track, here))

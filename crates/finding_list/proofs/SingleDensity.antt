@@ -1,6 +1,6 @@
 -- 7.47: in single density no finding is NSI or NSD, since a mark is one of three words, and their bytes are the usual ones. Assumes nothing.
 use Prim.Native.Nat.{ℕ, ◌-◌, ◌<◌, ◌≤◌}
-use mathlib.Core.Path.{◌≡◌, refl, sym, ap, ◌∙◌}
+use mathlib.Core.Path.{◌≡◌, sym, ap, ◌∙◌}
 use mathlib.Core.Bool.{Bool, true, false, not, ◌&&◌}
 use mathlib.Core.List.{List}
 use mathlib.Core.Logic.{◌⊎◌, inl, inr}
@@ -9,13 +9,13 @@ use lib.Dec.{eqb}
 use lib.ListN.{length, get_or}
 use Rattle.cells.specs.CellsAndBytes.{cell}
 use Rattle.layouts.specs.Layouts.{single_density}
-use Rattle.finding_rules.specs.Rules.{no_row, nth, nsi, nsd, id_rows}
+use Rattle.finding_rules.specs.Rules.{no_row, nth, nsi, id_rows}
 use Rattle.finding_rules.specs.declared.Row.{Row}
 use Rattle.finding_rules.proofs.Rows.{row-id}
-use Rattle.finding_list.specs.Findings.{looks, row_at}
+use Rattle.finding_list.specs.Findings.{looks}
 use Rattle.finding_list.proofs.Laws.{Stands, row_of, stands-exactly}
 use Rattle.finding_list.proofs.Looks.{looks-sectors, row-on-sector}
-use Rattle.sector_records.specs.Sectors.{has_data, no_sector, sectors_of}
+use Rattle.sector_records.specs.Sectors.{sectors_of}
 use Rattle.sector_records.specs.declared.Sector.{Sector}
 use Rattle.sector_records.proofs.MarkBytes.{single-mark, single-data-mark}
 

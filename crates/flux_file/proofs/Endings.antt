@@ -4,9 +4,7 @@ use mathlib.Core.Path.{◌≡◌, refl, ◌∙◌}
 use mathlib.Core.Bool.{false}
 use mathlib.Core.List.{List, [], ◌∷◌}
 use borrow.Author.Tests.{lt-ltb, le-ltb, eq-eqb, ne_eqb}
-use denote.Enum.Declared.{tag_of}
 use lib.ListN.{length}
-use types.Run.{OneOf, miss}
 use Rattle.cells.specs.CellsAndBytes.{cleared}
 use Rattle.refusals.specs.RefusedCalls.{Answer, refused_with, counted_answer}
 use Rattle.refusals.specs.RefusedCalls.Answer.{refused}
@@ -25,7 +23,6 @@ use Rattle.track_file.proofs.Endings as track-file
 use Rattle.flux_reader.specs.Bytes.{reader_after_byte}
 use Rattle.flux_reader.specs.declared.FluxReader.{FluxReader}
 use Rattle.flux_reader.specs.declared.FluxReader.TheVariants.{PlaceCount, Track, Side, CellCount, FluxCount, Timings, AllTimings, NotATrackFile, Stopped}
-use Rattle.flux_reader.specs.contracts.FluxReader.{the_type}
 use Rattle.flux_file.specs.FluxFile.{some_cells, placed}
 use Rattle.flux_file.specs.Portions.{start_of, reader_after, is_stopped, finish_answer}
 
@@ -72,21 +69,21 @@ module _ (reader : FluxReader) where
   unfolding finish_answer
   given-stopped e = rw e
 
--- anywhere else, by the number of the state, the file is short
-pub given-elsewhere : (reader : FluxReader) → OneOf (0 ∷ 1 ∷ 2 ∷ 3 ∷ 4 ∷ 5 ∷ 7 ∷ []) (tag_of the_type reader) → refused 15 0 ≡ finish_answer reader
+-- anywhere else the file is short
+pub given-elsewhere : (reader : FluxReader) → ((place : Place) (taken : TakenTimings) → reader ≡ AllTimings place taken → ⊥) → ((refusal : Refusal) → reader ≡ Stopped refusal → ⊥) → refused 15 0 ≡ finish_answer reader
 unfolding finish_answer
-given-elsewhere (PlaceCount number) h = refl
-given-elsewhere Track h = refl
-given-elsewhere (Side track) h = refl
-given-elsewhere (CellCount place number) h = refl
-given-elsewhere (FluxCount place number) h = refl
-given-elsewhere (Timings place left number taken) h = refl
-given-elsewhere (AllTimings place taken) h = absurd (miss (0 ∷ 1 ∷ 2 ∷ 3 ∷ 4 ∷ 5 ∷ 7 ∷ []) 6 tt h)
-given-elsewhere NotATrackFile h = refl
-given-elsewhere (Stopped refusal) h = absurd (miss (0 ∷ 1 ∷ 2 ∷ 3 ∷ 4 ∷ 5 ∷ 7 ∷ []) 8 tt h)
+given-elsewhere (PlaceCount number) h k = refl
+given-elsewhere Track h k = refl
+given-elsewhere (Side track) h k = refl
+given-elsewhere (CellCount place number) h k = refl
+given-elsewhere (FluxCount place number) h k = refl
+given-elsewhere (Timings place left number taken) h k = refl
+given-elsewhere (AllTimings place taken) h k = absurd (h place taken refl)
+given-elsewhere NotATrackFile h k = refl
+given-elsewhere (Stopped refusal) h k = absurd (k refusal refl)
 
 -- any state but the last goes on
-pub goes_on : (reader : FluxReader) → OneOf (0 ∷ 1 ∷ 2 ∷ 3 ∷ 4 ∷ 5 ∷ 6 ∷ 7 ∷ []) (tag_of the_type reader) → false ≡ is_stopped reader
+pub goes_on : (reader : FluxReader) → ((refusal : Refusal) → reader ≡ Stopped refusal → ⊥) → false ≡ is_stopped reader
 unfolding is_stopped
 goes_on (PlaceCount number) h = refl
 goes_on Track h = refl
@@ -96,4 +93,4 @@ goes_on (FluxCount place number) h = refl
 goes_on (Timings place left number taken) h = refl
 goes_on (AllTimings place taken) h = refl
 goes_on NotATrackFile h = refl
-goes_on (Stopped refusal) h = absurd (miss (0 ∷ 1 ∷ 2 ∷ 3 ∷ 4 ∷ 5 ∷ 6 ∷ 7 ∷ []) 8 tt h)
+goes_on (Stopped refusal) h = absurd (h refusal refl)

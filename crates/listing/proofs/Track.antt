@@ -2,7 +2,7 @@
 use Rattle.layouts.specs.Layouts.{double_density}
 use Rattle.layouts.specs.declared.Density.TheVariants.{Double}
 use Rattle.layouts.proofs.Soundness.{sound}
-use Prim.Native.Nat.{ℕ, ◌+◌, ◌*◌, ◌<◌, ◌≤◌}
+use Prim.Native.Nat.{ℕ, ◌*◌, ◌<◌, ◌≤◌}
 use mathlib.Core.Path.{◌≡◌, ap, ◌∙◌}
 use mathlib.Core.List.{List, ◌++◌}
 use native.Mathlib.Omega.{arith}

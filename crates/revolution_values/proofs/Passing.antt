@@ -181,7 +181,7 @@ passed-end zeros count out list h [] l e =
 passed-end zeros count out list h (byte ∷ []) l e =
     let p = passed-nothing (between zeros) count out list h in
     record { unfinished-is = e; count-is = p.count-is; out-is = p.out-is; list-is = p.list-is }
-passed-end zeros count out list h (byte ∷ next ∷ bytes) l e = absurd (omega arith)
+passed-end _ count out list h (byte ∷ next ∷ bytes) l e = absurd (omega arith)
 
 -- what is held at the end of a portion
 module _ (zeros : ℕ) (portion : List ℕ) (i : ℕ) where
@@ -201,7 +201,7 @@ pub record Reaches (zeros count out : ℕ) (bytes list : List ℕ) (z c o : ℕ)
       → PassedOver (between zeros) count out bytes list next total first after
 
 pub reach-start : (zeros count out : ℕ) (bytes list : List ℕ) → Reaches zeros count out bytes list zeros count out bytes list
-reach-start zeros count out bytes list = record { onward = λ p. p }
+reach-start _ count out bytes list = record { onward = λ p. p }
 
 -- the state of the loop over values at byte i
 pub record AtValue (zeros count out : ℕ) (portion : List ℕ) (from : ℕ) (list : List ℕ) (z c o i : ℕ) (l : List ℕ) : Type 0 where
@@ -240,7 +240,7 @@ two-more bytes i h =
 pub at_next : {zeros count out : ℕ} {portion : List ℕ} {from : ℕ} {list : List ℕ} {z c o i : ℕ} {l : List ℕ} → AtValue zeros count out portion from list z c o i l
     → 2 ≤ length portion - i → {value : ℕ} → value ≡ 256 * get_or portion i 0 + get_or portion (i + 1) 0 → {z' c' o' : ℕ} {l' : List ℕ}
     → PassedValue z c o value l z' c' o' l' → AtValue zeros count out portion from list z' c' o' (i + 2) l'
-at_next {zeros} {count} {out} {portion} {from} {list} {z} {c} {o} {i} {l} at h {value} is {z'} {c'} {o'} {l'} v =
+at_next {portion = portion} {z = z} {c = c} {o = o} {i = i} {l = l} at h {value = value} is v =
     let w = at.within in
     let s = two-more portion i h in
     record {

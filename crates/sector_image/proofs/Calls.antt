@@ -1,7 +1,7 @@
 -- The judgements of the call, where they refuse and where they do not, and what it is told of a track's sectors. Assumes nothing.
 use Prim.Native.Nat.{ℕ, ◌+◌, ◌<◌, ◌≤◌}
-use mathlib.Core.Path.{◌≡◌, refl, sym, ap, ◌∙◌}
-use mathlib.Core.Bool.{Bool, true, false, cond, ◌&&◌}
+use mathlib.Core.Path.{◌≡◌, sym, ap}
+use mathlib.Core.Bool.{true, false, ◌&&◌}
 use mathlib.Core.List.{List}
 use native.Mathlib.Omega.{arith}
 use borrow.Author.Tests.{lt-ltb, le-ltb, le-leb, lt-leb, eqb-true}
@@ -10,7 +10,7 @@ use lib.ListN.{length, get_or}
 use Rattle.basis.proofs.Bools.{and_left, and_right}
 use Rattle.cells.specs.CellsAndBytes.{cell}
 use Rattle.refusals.specs.RefusedCalls.{Answer, refused_with, buffer_after}
-use Rattle.refusals.specs.RefusedCalls.Answer.{gives, refused}
+use Rattle.refusals.specs.RefusedCalls.Answer.{gives}
 use Rattle.refusals.specs.declared.Refusal.TheVariants.{NoRoomForBytes, NoPlainImage}
 use Rattle.layouts.specs.Layouts.{double_density}
 use Rattle.layouts.specs.declared.Layout.{Layout}

@@ -1,16 +1,15 @@
 -- What the image of a track holds: each of its nine parts is what reading out the sector of that number gives. Assumes nothing.
-use Prim.Native.Nat.{ℕ, zero, suc, ◌+◌, ◌*◌, ◌-◌, ◌<◌, ◌≤◌}
+use Prim.Native.Nat.{ℕ, zero, suc, ◌+◌, ◌*◌, ◌<◌, ◌≤◌}
 use mathlib.Core.Path.{◌≡◌, refl, sym, ap, ◌∙◌}
 use mathlib.Core.Bool.{Bool, true, false, cond, not, ◌&&◌}
-use mathlib.Core.List.{List, [], ◌∷◌, ◌++◌, append_assoc}
+use mathlib.Core.List.{List, ◌++◌, append_assoc}
 use native.Mathlib.Decide.{ℕ_discrete}
 use native.Mathlib.Omega.{arith}
 use borrow.Author.Tests.{eq-eqb, eqb-true, leb-false}
-use lib.Dec.{eqb, ltb, leb}
+use lib.Dec.{eqb, leb}
 use lib.ListN.{length, get_or, take, drop, length-append}
 use lib.Seq.{take-append_seam, drop-append_seam}
 use Rattle.basis.specs.Lists.{joined}
-use Rattle.basis.specs.Search.{least}
 use Rattle.basis.proofs.Bools.{and_left, and_right}
 use Rattle.basis.proofs.Lists.{length-listed}
 use Rattle.basis.proofs.Search.{least-found}
@@ -18,7 +17,7 @@ use Rattle.cells.specs.CellsAndBytes.{cell}
 use Rattle.cells.proofs.Places.{cell-lt}
 use Rattle.refusals.specs.RefusedCalls.{Answer, buffer_after}
 use Rattle.refusals.specs.RefusedCalls.Answer.{gives, refused}
-use Rattle.layouts.specs.Layouts.{double_density, layout_of}
+use Rattle.layouts.specs.Layouts.{double_density}
 use Rattle.layouts.specs.declared.Density.TheVariants.{Double}
 use Rattle.sector_records.specs.Sectors.{byte_from, bytes_from, no_sector, data_found, data_length, check_good, least_data, has_data, sector_at, sectors_of, data_bytes}
 use Rattle.sector_records.specs.declared.Sector.{Sector}
@@ -26,7 +25,7 @@ use Rattle.sector_records.proofs.MarkBytes.{has-data}
 use Rattle.sector_records.proofs.Places.{sector-of-mark}
 use Rattle.sectors.specs.Calls.{DataRead, index_judged, data_judged, data_answer, data_after, sector_of}
 use Rattle.sectors.proofs.Calls.{judged-accepted, follows-given, follows-count, follows-track, index-accepted, data-accepted}
-use Rattle.sector_image.specs.Image.{is_plain, numbered, index_of, fits, first_unfit, some_outside, image_judged, image_of, image_answer, image_after}
+use Rattle.sector_image.specs.Image.{is_plain, numbered, index_of, fits, first_unfit, image_judged, image_of, image_answer, image_after}
 use Rattle.sector_image.proofs.Calls.{plain-sector}
 use Rattle.sector_image.proofs.Conditions.{all_fit, fits-plain, fits-there}
 use Rattle.sector_image.proofs.Parts.{part_of}

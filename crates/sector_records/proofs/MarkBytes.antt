@@ -21,7 +21,7 @@ use Rattle.layouts.specs.declared.Layout.{Layout}
 use Rattle.sector_records.specs.Marks.{mark_at, mark_byte, mark_of, word_mark_at, id_mark_at, data_mark_at}
 use Rattle.sector_records.specs.Sectors.{mark_byte_at, least_data, data_found, data_length, has_data, sector_at, no_sector, sectors_of}
 use Rattle.sector_records.specs.declared.Sector.{Sector}
-use Rattle.sector_records.proofs.Places.{within-found, SectorOf, sector-of-mark, data-least}
+use Rattle.sector_records.proofs.Places.{within-found, sector-of-mark, data-least}
 
 module _ (f : ℕ → ℕ) (bits : (i : ℕ) → f i < 2) (p : ℕ) where
   at_its_place : mark_byte_at single_density f p ≡ byte_on f p

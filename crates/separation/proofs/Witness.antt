@@ -1,7 +1,7 @@
 -- Demand 3's premises can be met, up to both ends of what D and J may be: all drift, with D = 124 and J = 3; all shaking, with D = 0 and
 -- J = 499; and between them at the figures that were asked first. Each track has a gap of two, of three and of four cells, cells of both
 -- lengths, and pulses off as far as they may be at either side. Assumes nothing.
-use Prim.Native.Nat.{ℕ, ◌+◌, ◌*◌, ◌≤◌}
+use Prim.Native.Nat.{ℕ, ◌≤◌}
 use mathlib.Core.Path.{refl}
 use mathlib.Core.List.{List, [], ◌∷◌}
 use native.Mathlib.Omega.{arith}

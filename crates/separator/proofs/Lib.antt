@@ -6,4 +6,3 @@ pub mod Residual
 pub mod MachineStep
 pub mod LastWindow
 pub mod Stepping
-pub mod Lending

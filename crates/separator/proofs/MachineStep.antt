@@ -73,7 +73,7 @@ module _ {half t : ℕ} {r : ℤ} (s : Steppable half t r) where
   r-fits = subst (SFits w32) s.kept.is (fits_sub b (omega (arith, bound)))
 
   -- u without the timing's whole windows
-  abbrev part : ℤ
+  abbrev pub part : ℤ
   part = to_z w32 (t % w) +ℤ read_back r
 
   part-lifted : part ≡ sub_ℕ (t % w + b) half

@@ -21,9 +21,9 @@ zero_is : (f : ℕ → ℕ) (p : ℕ) → f p ≡ 0 → is_one f p ≡ false
 unfolding is_one
 zero_is f p e = ne_eqb (f p) 1 (λ g. absurd (omega arith))
 
-is_one : (f : ℕ → ℕ) (p : ℕ) → is_one f p ≡ true → f p ≡ 1
+one-at : (f : ℕ → ℕ) (p : ℕ) → is_one f p ≡ true → f p ≡ 1
 unfolding is_one
-is_one f p e = eqb-true (f p) 1 e
+one-at f p e = eqb-true (f p) 1 e
 
 module _ (f d : ℕ → ℕ) (m : ℕ → Bool) (L : Lawful f d m) (n : ℕ) (big : 2 ≤ n) (again : (p : ℕ) → f (p + n) ≡ f p) where
   -- the law of ones asks for two cells before them, so it is taken one turn later
@@ -56,7 +56,7 @@ module _ (f d : ℕ → ℕ) (m : ℕ → Bool) (L : Lawful f d m) (n : ℕ) (bi
       go : (x : Bool) → is_one f p ≡ x → (x && (ltb (next_one f n p - p) 2 || ltb 4 (next_one f n p - p))) ≡ false
       go false g = refl
       go true g =
-          let s = next-near p (is_one f p g) in
+          let s = next-near p (one-at f p g) in
           let a = s.0 in
           let b = s.1 in
           rw (le-ltb (next_one f n p - p) 2 (omega arith), le-ltb 4 (next_one f n p - p) (omega arith))

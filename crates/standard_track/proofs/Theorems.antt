@@ -5,7 +5,7 @@ use mathlib.Core.Path.{◌≡◌, refl, sym, ap, ◌∙◌}
 use mathlib.Core.Bool.{Bool, true, false, cond, not}
 use mathlib.Core.List.Memᴰ
 use mathlib.Core.List.{List, [], ◌∷◌, ◌++◌, append-nil, Memᴰ}
-use mathlib.Core.Logic.{◌⊎◌, inl, ⊎_elim, ◌↔◌}
+use mathlib.Core.Logic.{inl, ⊎_elim, ◌↔◌}
 use native.Mathlib.Nat.{div-add-mod'}
 use native.Mathlib.Omega.{arith}
 use borrow.Author.Tests.{le-leb, lt-leb, le-ltb, eq-eqb, ne_eqb}
@@ -31,7 +31,7 @@ use Rattle.track_writer.specs.WriteTrack.{pieces_of, packed_from, written, cell_
 use Rattle.track_writer.specs.WriteTrack.Piece.{coded}
 use Rattle.track_writer.specs.Calls.{judged, write_answer, written_after}
 use Rattle.track_writer.proofs.Laws.{length-written, length-packed}
-use Rattle.standard_track.specs.StandardTrack.{sector_list_at, track_list, checked, standard_list, replaced, all_e5, Plain, PlainData}
+use Rattle.standard_track.specs.StandardTrack.{sector_list_at, track_list, checked, replaced, all_e5, Plain, PlainData}
 use Rattle.standard_track.specs.Claims.{HasRoom, Finds, ext_finding, ext_findings, sbd_finding, check_of, NoFindings, OnlyExt, AnyData, ChosenCheck, SbdExactly, ReadsBack}
 use Rattle.standard_track.proofs.Pieces.{Content, Bytes, block_at, track_pieces, pieces-long}
 use Rattle.standard_track.proofs.Sectors.{good_end, record_of, IdChecks, sectors-there, read-there}

@@ -149,7 +149,7 @@ module _ (block : List ℕ) (revolutions k : ℕ) where
   onward list count e {reader} {bytes} {given} calls (portion ∷ cut) whole =
       let ts = portion_timings reader portion in
       let answer = in-any-portions list count e calls portion (all_bytes cut) whole (length ts) (omega arith) in
-      let next = onward list count e (more portion (length ts) (length ts) calls answer) cut (append_assoc bytes portion (all_bytes cut) ∙ whole) in
+      let next = onward list count e {reader = portion_reader reader portion (length ts)} (more portion (length ts) (length ts) calls answer) cut (append_assoc bytes portion (all_bytes cut) ∙ whole) in
       ((answer, next.0), sym (append_assoc given ts (timings_through (portion_reader reader portion (length ts)) cut)) ∙ next.1)
 
   pub all-portions : (list : List ℕ) (count : ℕ) → block_answer block revolutions k (length list) ≡ gives count → (cut : List (List ℕ)) → all_bytes cut ≡ value_bytes block k

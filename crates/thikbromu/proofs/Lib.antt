@@ -1,3 +1,2 @@
-pub mod HandingOn
 mod RevolutionCalls
 pub mod ToldSteps

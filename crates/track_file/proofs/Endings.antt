@@ -6,9 +6,7 @@ use mathlib.Core.List.{List, [], ◌∷◌, append-nil}
 use native.Mathlib.Nat.{min-eq_left}
 use native.Mathlib.Omega.{arith}
 use borrow.Author.Tests.{lt-ltb, le-ltb}
-use denote.Enum.Declared.{tag_of}
 use lib.ListN.{length, replicate, length-replicate, drop_of_length-le}
-use types.Run.{OneOf, miss}
 use Rattle.cells.specs.CellsAndBytes.{cleared}
 use Rattle.refusals.specs.RefusedCalls.{refused_with}
 use Rattle.refusals.specs.RefusedCalls.Answer.{refused}
@@ -20,7 +18,6 @@ use Rattle.file_reader.specs.declared.Place.{Place}
 use Rattle.file_reader.specs.declared.Number.TheVariants.{Empty}
 use Rattle.file_reader.specs.declared.Reader.{Reader}
 use Rattle.file_reader.specs.declared.Reader.TheVariants.{PlaceCount, Track, Side, CellCount, PackedCells, FluxCount, AllCells, NotATrackFile, Stopped}
-use Rattle.file_reader.specs.contracts.Reader.{the_type}
 use Rattle.track_file.specs.declared.Read.TheVariants.{Cells}
 
 -- a buffer cleared whole
@@ -57,28 +54,29 @@ module _ (reader : Reader) where
   unfolding finish_answer
   given-stopped e = rw e
 
--- anywhere else, by the number of the state, the file is short
-pub given-elsewhere : (reader : Reader) → OneOf (0 ∷ 1 ∷ 2 ∷ 3 ∷ 4 ∷ 5 ∷ 7 ∷ []) (tag_of the_type reader) → refused 15 0 ≡ finish_answer reader
+-- anywhere else the file is short
+pub given-elsewhere : (reader : Reader) → ((place : Place) → (count : ℕ) → reader ≡ AllCells place count → ⊥) → ((refusal : Refusal) → reader ≡ Stopped refusal → ⊥)
+    → refused 15 0 ≡ finish_answer reader
 unfolding finish_answer
-given-elsewhere (PlaceCount number) h = refl
-given-elsewhere Track h = refl
-given-elsewhere (Side track) h = refl
-given-elsewhere (CellCount place number) h = refl
-given-elsewhere (PackedCells place count at) h = refl
-given-elsewhere (FluxCount place cells number) h = refl
-given-elsewhere (AllCells place count) h = absurd (miss (0 ∷ 1 ∷ 2 ∷ 3 ∷ 4 ∷ 5 ∷ 7 ∷ []) 6 tt h)
-given-elsewhere NotATrackFile h = refl
-given-elsewhere (Stopped refusal) h = absurd (miss (0 ∷ 1 ∷ 2 ∷ 3 ∷ 4 ∷ 5 ∷ 7 ∷ []) 8 tt h)
+given-elsewhere (PlaceCount number) a s = refl
+given-elsewhere Track a s = refl
+given-elsewhere (Side track) a s = refl
+given-elsewhere (CellCount place number) a s = refl
+given-elsewhere (PackedCells place count at) a s = refl
+given-elsewhere (FluxCount place cells number) a s = refl
+given-elsewhere (AllCells place count) a s = absurd (a place count refl)
+given-elsewhere NotATrackFile a s = refl
+given-elsewhere (Stopped refusal) a s = absurd (s refusal refl)
 
 -- any state but the last goes on
-pub goes_on : (reader : Reader) → OneOf (0 ∷ 1 ∷ 2 ∷ 3 ∷ 4 ∷ 5 ∷ 6 ∷ 7 ∷ []) (tag_of the_type reader) → false ≡ is_stopped reader
+pub goes_on : (reader : Reader) → ((refusal : Refusal) → reader ≡ Stopped refusal → ⊥) → false ≡ is_stopped reader
 unfolding is_stopped
-goes_on (PlaceCount number) h = refl
-goes_on Track h = refl
-goes_on (Side track) h = refl
-goes_on (CellCount place number) h = refl
-goes_on (PackedCells place count at) h = refl
-goes_on (FluxCount place cells number) h = refl
-goes_on (AllCells place count) h = refl
-goes_on NotATrackFile h = refl
-goes_on (Stopped refusal) h = absurd (miss (0 ∷ 1 ∷ 2 ∷ 3 ∷ 4 ∷ 5 ∷ 6 ∷ 7 ∷ []) 8 tt h)
+goes_on (PlaceCount number) s = refl
+goes_on Track s = refl
+goes_on (Side track) s = refl
+goes_on (CellCount place number) s = refl
+goes_on (PackedCells place count at) s = refl
+goes_on (FluxCount place cells number) s = refl
+goes_on (AllCells place count) s = refl
+goes_on NotATrackFile s = refl
+goes_on (Stopped refusal) s = absurd (s refusal refl)

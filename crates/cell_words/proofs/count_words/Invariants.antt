@@ -1,0 +1,13 @@
+-- `cell_words::count_words` meets its contract: each turn counts a word more. Assumes nothing.
+use Prim.Native.Nat.{ℕ, ◌-◌, ◌*◌, ◌≤◌}
+use mathlib.Core.Path.{◌≡◌}
+use mathlib.Core.Bool.{Bool}
+use Rattle.basis.specs.Search.{count}
+use Rattle.cell_words.specs.Words.{Holds}
+use Rattle.cell_words.proofs.count_words.Given as goal
+
+abbrev pub invariant-loop-w : goal.invariant-loop-w
+invariant-loop-w l = (l.a ≤ l.w) × (l.w ≤ l.b) × (l.found ≤ 64 * (l.w - l.a)) × ((t : ℕ → Bool) (m : ℕ) → Holds t l.map m → l.b ≤ m → l.found ≡ count t (64 * (l.w - l.a)) (64 * l.a))
+
+abbrev pub decreases-loop-w : goal.decreases-loop-w
+decreases-loop-w l = l.b - l.w

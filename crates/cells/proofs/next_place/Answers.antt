@@ -1,0 +1,12 @@
+-- `cells::next_place` meets its contract. Assumes nothing.
+use Prim.Native.Nat.{◌+◌, ◌<◌}
+use mathlib.Core.Path.{sym}
+use native.Mathlib.Nat.{mod_self, mod-eq_of_lt}
+use native.Mathlib.Omega.{arith}
+use Rattle.cells.proofs.next_place.Goals as goal
+
+pub returns-then-at-n : goal.returns-then-at-n
+returns-then-at-n c = rw c.if-at-n.true (sym (mod_self _))
+
+pub returns-else-at-n : goal.returns-else-at-n
+returns-else-at-n c = let h : c.args.at + 1 < c.args.n = omega arith in sym (mod-eq_of_lt h)

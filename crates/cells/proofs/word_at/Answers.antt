@@ -1,0 +1,21 @@
+-- `cells::word_at` meets its contract. Assumes nothing.
+use Prim.Native.Nat.{ℕ, ◌%◌, ◌^◌, min}
+use mathlib.Core.Path.{sym, ap, ◌∙◌}
+use native.Mathlib.Nat.{min-le_right}
+use Rattle.cells.specs.CellsAndBytes.{cell, word, word_at}
+use Rattle.cells.proofs.Places.{cell-lt}
+use Rattle.cells.proofs.Words.{small}
+use Rattle.cells.proofs.Standing.{word-without-cells}
+use Rattle.cells.proofs.word_at.Goals as goal
+
+pub returns-then-n-eq0 : goal.returns-then-n-eq0
+returns-then-n-eq0 c =
+    let a = c.args in
+    sym (word-without-cells a.bytes.now a.n a.k 0 a.p c.if-n-eq0.true)
+
+pub returns : goal.returns
+unfolding word_at
+returns c =
+    let a = c.args in
+    c.cells_from.ensures ∙ ap (λ (k : ℕ). word (cell a.bytes.now a.n) k a.p % 2 ^ 64) c.smaller.ensures.0
+    ∙ small (cell a.bytes.now a.n) (cell-lt a.bytes.now a.n) (min a.k 64) (min-le_right a.k 64) a.p

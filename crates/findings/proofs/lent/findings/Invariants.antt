@@ -1,0 +1,12 @@
+-- `findings::lent::findings` meets its contract: after i turns the first i findings are stored. Assumes nothing.
+use Prim.Native.Nat.{◌-◌, ◌≤◌}
+use mathlib.Core.Path.{◌≡◌}
+use Rattle.findings.specs.PrivateContracts.{finding_at}
+use Rattle.findings.proofs.Records.{filled}
+use Rattle.findings.proofs.lent.findings.Given as goal
+
+abbrev pub invariant-loop-i : goal.invariant-loop-i
+invariant-loop-i l = (l.i ≤ l.planned.count) × (l.list ≡ filled (finding_at l.numbers) l.initial.list l.i)
+
+abbrev pub decreases-loop-i : goal.decreases-loop-i
+decreases-loop-i l = l.planned.count - l.i

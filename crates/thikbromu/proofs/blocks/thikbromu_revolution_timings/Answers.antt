@@ -1,0 +1,14 @@
+-- `thikbromu::blocks::thikbromu_revolution_timings` meets its contract. Assumes nothing.
+use mathlib.Core.Path.{ap, ◌∙◌}
+use Rattle.telling.specs.Numbers.{number_in, value_in}
+use Rattle.thikbromu.proofs.blocks.thikbromu_revolution_timings.Goals as goal
+
+pub returns : goal.returns
+returns c =
+    let s = c.timings_with_border_pulses.ensures in
+    record {
+      number = c.told.ensures.0 ∙ ap number_in s.answer;
+      value = c.told.ensures.1 ∙ ap value_in s.answer;
+      list = s.list;
+      border_pulses = s.border_pulses;
+    }

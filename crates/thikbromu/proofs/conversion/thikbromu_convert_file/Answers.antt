@@ -1,0 +1,14 @@
+-- `thikbromu::conversion::thikbromu_convert_file` meets its contract. Assumes nothing.
+use mathlib.Core.Path.{ap, ◌∙◌}
+use Rattle.telling.specs.Numbers.{number_in, value_in}
+use Rattle.thikbromu.proofs.conversion.thikbromu_convert_file.Goals as goal
+
+pub returns : goal.returns
+returns c =
+    let s = c.convert_file.ensures in
+    record {
+      number = c.told.ensures.0 ∙ ap number_in s.answer;
+      value = c.told.ensures.1 ∙ ap value_in s.answer;
+      out = s.out;
+      demand3 = rw s.answer at s.demand3;
+    }

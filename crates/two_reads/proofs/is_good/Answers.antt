@@ -1,0 +1,14 @@
+-- `two_reads::is_good` meets its contract: the check word is carried on from the syncs and the mark to the data bytes. Assumes nothing.
+use mathlib.Core.Path.{sym}
+use native.Mathlib.Omega.{arith}
+use lib.Seq.{length-take-le}
+use Rattle.crc.specs.CheckWord.{check_word_from}
+use Rattle.two_reads.specs.GoodRead.{check_is_good}
+use Rattle.two_reads.proofs.is_good.Goals as goal
+
+pub slice_bounds-check_word_from-end : goal.slice_bounds-check_word_from-end
+slice_bounds-check_word_from-end c = sym (length-take-le _ _ (omega arith))
+
+pub returns : goal.returns
+unfolding check_word_from check_is_good
+returns c = rw (c.check_word_from-word.ensures, c.check_bytes.ensures, c.check_word-before.ensures)
