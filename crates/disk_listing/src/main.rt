@@ -5,12 +5,16 @@
 // Each file is read as track_listing reads its input, and its track goes on the page. One that is refused, or cannot be read to its end, is
 // named on standard error and left out; after the page the last line there says how many files are left out, if there are any. Where the page
 // itself is refused, nothing goes to standard output, and that last line is the one of the refusal.
+#![tactic(auto)]
+
 ghost use Rattle.std.specs.Prelude.{◌≡◌, ◌+◌, ◌<◌, ◌≤◌, length, take};
 ghost use Rattle.disk_listing.specs.DiskOfFiles.{TakenFile, AllFiles, FilesTaken, PagePrinted};
 ghost use Rattle.disk_listing.specs.PrivateContracts.{with_file, Small, Gathered};
 
-use libc::{STDERR_FILENO, STDOUT_FILENO};
 use refusals::Counted;
+use std::env::Env;
+use std::fs::Files;
+use std::io::Read;
 use track_input::Input;
 
 // Room for one track more than a page can have. With so many the page is refused, and the files after them are not read.
@@ -22,7 +26,7 @@ const FINDING_NUMBERS: usize = 609_076;
 const PART_ROOM: usize = 72_080;
 
 // What a file brought: a track with so many findings, or a refusal.
-#[derive(Drop)]
+#[derive(Clone, Copy)]
 enum File {
     Track(usize),
     Refused(u32),
@@ -30,7 +34,7 @@ enum File {
 }
 
 // How many numbers of the two lists are filled, how many files are left out, and how many of these cannot be read.
-#[derive(Drop)]
+#[derive(Clone, Copy)]
 struct Disk {
     tracks: usize,
     findings: usize,
@@ -39,7 +43,7 @@ struct Disk {
 }
 
 // How the page came to be printed: whole, with so many bytes.
-#[derive(Drop)]
+#[derive(Clone, Copy)]
 enum Printed {
     Whole(usize),
     Refused(u32),
@@ -47,7 +51,8 @@ enum Printed {
 }
 
 // Reads the file of this name, and adds its track and findings to the lists, from these indices on.
-fn take_file(
+fn take_file<F: Files>(
+    files: &F,
     name: &[u8],
     portion: &mut [u8],
     cells: &mut [u8],
@@ -59,18 +64,15 @@ fn take_file(
     requires { length cells.old ≡ 16384 }
     ensures { TakenFile result tracks.old tracks.new at findings.old findings.new from }
 {
-    let descriptor = os::open_read(name);
-    if descriptor < 0 {
-        return File::Unreadable;
+    match system_calls::open(files, name) {
+        Ok(mut input) => take_input(&mut input, portion, cells, tracks, at, findings, from),
+        Err(_) => File::Unreadable,
     }
-    let file = take_input(descriptor, portion, cells, tracks, at, findings, from);
-    libc::close(descriptor);
-    file
 }
 
 // The same of a file that is open.
-fn take_input(
-    descriptor: i32,
+fn take_input<R: Read>(
+    input: &mut R,
     portion: &mut [u8],
     cells: &mut [u8],
     tracks: &mut [u32],
@@ -82,7 +84,7 @@ fn take_input(
     ensures { TakenFile result tracks.old tracks.new at findings.old findings.new from }
 {
     let start = track_file::start(cells);
-    let input = track_input::read_all(descriptor, start, portion, cells);
+    let input = track_input::read_all(input, start, portion, cells);
     match input {
         Input::Ended(reader) => {
             let answer = disk_files::add_file(reader, cells, tracks, at, findings, from);
@@ -124,29 +126,31 @@ fn with_file(disk: Disk, file: File) -> Disk
 }
 
 // Names a file that is left out on standard error.
-fn tell_file(name: &[u8], file: File) {
+fn tell_file<P: Print>(to: &P, name: &[u8], file: File) {
     match file {
         File::Track(_) => {}
         File::Refused(number) => {
-            io::write_all(STDERR_FILENO, name);
-            io::write_all(STDERR_FILENO, b": ");
-            tell_refusal(number);
+            let _ = to.write_all(name);
+            let _ = to.write_all(b": ");
+            tell_refusal(to, number);
         }
         File::Unreadable => {
-            io::write_all(STDERR_FILENO, name);
-            io::write_all(STDERR_FILENO, b": cannot be read to its end\n");
+            let _ = to.write_all(name);
+            let _ = to.write_all(b": cannot be read to its end\n");
         }
     }
 }
 
-fn tell_refusal(number: u32) {
-    io::write_all(STDERR_FILENO, b"refused ");
-    io::print_decimal(STDERR_FILENO, number as u64);
-    io::write_all(STDERR_FILENO, b"\n");
+fn tell_refusal<P: Print>(to: &P, number: u32) {
+    let _ = to.write_all(b"refused ");
+    let _ = to.print(number);
+    let _ = to.write_all(b"\n");
 }
 
 // The next file, which is the program's argument i.
-fn next_file(
+fn next_file<S: Env + Files, P: Print>(
+    system: &S,
+    messages: &P,
     i: usize,
     disk: Disk,
     name: &mut [u8],
@@ -158,8 +162,9 @@ fn next_file(
     requires { Gathered disk tracks.old findings.old i × (disk.tracks ≤ 504) × (i < 0xFFFF_FFFF_FFFF_FFFF) × (length tracks.old ≡ 507) × (length findings.old ≡ 609076) × (length cells.old ≡ 16384) }
     ensures { Gathered result tracks.new findings.new (i + 1) }
 {
-    let length = os::arg(i, name);
+    let length = system_calls::word(system, i, name);
     let file = take_file(
+        system,
         &name[..length],
         portion,
         cells,
@@ -168,12 +173,14 @@ fn next_file(
         findings,
         disk.findings,
     );
-    tell_file(&name[..length], file);
+    tell_file(messages, &name[..length], file);
     with_file(disk, file)
 }
 
 // All files that are the program's arguments, or so many that the page is refused.
-fn gather(
+fn gather<S: Env + Files, P: Print>(
+    system: &S,
+    messages: &P,
     name: &mut [u8],
     portion: &mut [u8],
     cells: &mut [u8],
@@ -184,11 +191,22 @@ fn gather(
     ensures few { (result.tracks ≤ 507) × (result.findings ≤ 609076) }
     ensures files { FilesTaken (take result.tracks tracks.new) (take result.findings findings.new) result.left result.unreadable }
 {
-    gather_words(os::arg_count(), name, portion, cells, tracks, findings)
+    gather_words(
+        system,
+        messages,
+        system_calls::word_count(system),
+        name,
+        portion,
+        cells,
+        tracks,
+        findings,
+    )
 }
 
 // The same where there are so many words, of which the first is the program's name.
-fn gather_words(
+fn gather_words<S: Env + Files, P: Print>(
+    system: &S,
+    messages: &P,
     words: usize,
     name: &mut [u8],
     portion: &mut [u8],
@@ -211,14 +229,16 @@ fn gather_words(
         if disk.tracks > 504 {
             return disk;
         }
-        disk = next_file(i, disk, name, portion, cells, tracks, findings);
+        disk = next_file(
+            system, messages, i, disk, name, portion, cells, tracks, findings,
+        );
         i += 1;
     }
     disk
 }
 
 // Prints the page part by part, since there is no room for all of it. The first part is refused where the page is.
-fn print_page(tracks: &[u32], findings: &[u32], out: &mut [u8]) -> Printed
+fn print_page<P: Print>(to: &P, tracks: &[u32], findings: &[u32], out: &mut [u8]) -> Printed
     requires { length out.old ≡ 72080 }
     ensures { PagePrinted tracks.now findings.now result }
 {
@@ -232,7 +252,7 @@ fn print_page(tracks: &[u32], findings: &[u32], out: &mut [u8]) -> Printed
                 if out.len() < length {
                     return Printed::NotTaken;
                 }
-                if !io::write_all(STDOUT_FILENO, &out[..length]) {
+                if to.write_all(&out[..length]).is_err() {
                     return Printed::NotTaken;
                 }
                 total += length;
@@ -244,29 +264,29 @@ fn print_page(tracks: &[u32], findings: &[u32], out: &mut [u8]) -> Printed
 }
 
 // The last line on standard error, where there is something to tell.
-fn tell_disk(disk: Disk, printed: Printed) {
+fn tell_disk<P: Print>(to: &P, disk: Disk, printed: Printed) {
     match printed {
-        Printed::Refused(number) => tell_refusal(number),
+        Printed::Refused(number) => tell_refusal(to, number),
         Printed::NotTaken => {
-            io::write_all(
-                STDERR_FILENO,
-                b"disk_listing: standard output did not take the page\n",
-            );
+            let _ = to.write_all(b"disk_listing: standard output did not take the page\n");
         }
         Printed::Whole(_) => {
             if disk.left > 0 {
-                io::write_all(STDERR_FILENO, b"files left out: ");
-                io::print_decimal(STDERR_FILENO, disk.left as u64);
-                io::write_all(STDERR_FILENO, b", of these unreadable: ");
-                io::print_decimal(STDERR_FILENO, disk.unreadable as u64);
-                io::write_all(STDERR_FILENO, b"\n");
+                let _ = to.write_all(b"files left out: ");
+                let _ = to.print(disk.left);
+                let _ = to.write_all(b", of these unreadable: ");
+                let _ = to.print(disk.unreadable);
+                let _ = to.write_all(b"\n");
             }
         }
     }
 }
 
 // Gathers the tracks and prints their page.
-fn list_files(
+fn list_files<S: Env + Files, O: Print, P: Print>(
+    system: &S,
+    output: &O,
+    messages: &P,
     tracks: &mut [u32],
     findings: &mut [u32],
     cells: &mut [u8],
@@ -276,18 +296,26 @@ fn list_files(
 )
     requires { (length tracks.old ≡ 507) × (length findings.old ≡ 609076) × (length cells.old ≡ 16384) × (length out.old ≡ 72080) }
 {
-    let disk = gather(name, portion, cells, tracks, findings);
-    let printed = print_page(&tracks[..disk.tracks], &findings[..disk.findings], out);
-    tell_disk(disk, printed);
+    let disk = gather(system, messages, name, portion, cells, tracks, findings);
+    let printed = print_page(
+        output,
+        &tracks[..disk.tracks],
+        &findings[..disk.findings],
+        out,
+    );
+    tell_disk(messages, disk, printed);
 }
 
 // An array so large is not lent as a slice where it is made: its length is not computed in a proof.
-fn list_disk(findings: &mut [u32; FINDING_NUMBERS], out: &mut [u8; PART_ROOM]) {
+fn list_disk(rt: HostRuntime, findings: &mut [u32; FINDING_NUMBERS], out: &mut [u8; PART_ROOM]) {
     let mut tracks = [0u32; TRACK_NUMBERS];
     let mut cells = [0u8; track_file::ROOM];
-    let mut name = io::buffer();
-    let mut portion = io::large_buffer();
+    let mut name = system_calls::buffer();
+    let mut portion = system_calls::large_buffer();
     list_files(
+        &rt,
+        &rt.stdout(),
+        &rt.stderr(),
         &mut tracks,
         findings,
         &mut cells,
@@ -297,12 +325,12 @@ fn list_disk(findings: &mut [u32; FINDING_NUMBERS], out: &mut [u8; PART_ROOM]) {
     );
 }
 
-fn main() {
-    if os::arg_count() < 2 {
-        io::write_all(STDERR_FILENO, b"usage: disk_listing FILE..\n");
+fn main(rt: HostRuntime) {
+    if system_calls::word_count(&rt) < 2 {
+        let _ = rt.stderr().write_all(b"usage: disk_listing FILE..\n");
         return;
     }
     let mut findings = [0u32; FINDING_NUMBERS];
     let mut out = [0u8; PART_ROOM];
-    list_disk(&mut findings, &mut out);
+    list_disk(rt, &mut findings, &mut out);
 }

@@ -9,7 +9,7 @@ use borrow.Author.Tests.{ltb-true, ltb-false}
 use lib.IntN.{ℤ, pos, negsuc}
 use lib.ListN.{length, take, length-append}
 use lib.Signed.{lt_z}
-use Rattle.io.specs.Counts.{clamp_len}
+use Rattle.system_calls.specs.Counts.{clamp_len}
 use Rattle.track_file.specs.Portions.{start_cells}
 use Rattle.flux_file.specs.Portions.{start_of, reader_after, cells_after, reader_after_all, cells_after_all, reader_through, cells_through, is_stopped}
 use Rattle.flux_reader.specs.declared.FluxReader.{FluxReader}

@@ -1,7 +1,9 @@
-// Reads an old flux file from an open file descriptor, portion by portion, into a cell buffer.
+// Reads an old flux file from an input, portion by portion, into a cell buffer.
 //
 // It stops reading at a refusal that is given at once, and otherwise at the end of the input. Where the input cannot be read to its end,
 // nothing is known of the file.
+#![tactic(auto)]
+
 ghost use Rattle.std.specs.Prelude.{◌≡◌};
 ghost use Rattle.flux_file.specs.Portions.{cells_after};
 ghost use Rattle.track_input.specs.Reading.{bytes_read};
@@ -9,18 +11,24 @@ ghost use Rattle.flux_input.specs.Reading.{input_with, input_after, ReadThrough}
 ghost use Rattle.flux_input.specs.PrivateContracts.{TakenRead};
 
 use flux_reader::FluxReader;
+use std::io::Read;
 
 // How far the input is read: it goes on, there is nothing more to read, or a read has failed.
-#[derive(Drop)]
+#[derive(Clone, Copy)]
 pub enum Input {
     Open(FluxReader),
     Ended(FluxReader),
     Failed,
 }
 
-// Reads portion after portion from the descriptor `from`, by way of `portion`. A proved loop has to end, and nothing says that an input
+// Reads portion after portion from the input `from`, by way of `portion`. A proved loop has to end, and nothing says that an input
 // does: there are more turns than any run takes.
-pub fn read_all(from: i32, reader: FluxReader, portion: &mut [u8], cells: &mut [u8]) -> Input
+pub fn read_all<R: Read>(
+    from: &mut R,
+    reader: FluxReader,
+    portion: &mut [u8],
+    cells: &mut [u8],
+) -> Input
     ensures { ReadThrough reader cells.old result cells.new }
 {
     let mut at = reader;
@@ -38,10 +46,15 @@ pub fn read_all(from: i32, reader: FluxReader, portion: &mut [u8], cells: &mut [
 }
 
 // One read, of as much as there is and the portion holds.
-fn read_portion(from: i32, reader: FluxReader, portion: &mut [u8], cells: &mut [u8]) -> Input
+fn read_portion<R: Read>(
+    from: &mut R,
+    reader: FluxReader,
+    portion: &mut [u8],
+    cells: &mut [u8],
+) -> Input
     ensures { TakenRead reader portion.new cells.old result cells.new }
 {
-    let got = libc::read(from, portion);
+    let got = system_calls::read(from, portion);
     take_read(reader, got, portion, cells)
 }
 
@@ -50,7 +63,7 @@ fn take_read(reader: FluxReader, got: isize, portion: &[u8], cells: &mut [u8]) -
     ensures input { result ≡ input_after reader got portion.now }
     ensures cells { cells.new ≡ cells_after reader (bytes_read got portion.now) cells.old }
 {
-    let count = io::count(got, portion);
+    let count = system_calls::count(got, portion);
     let next = flux_file::feed(reader, &portion[..count], cells);
     input_with(got, next)
 }

@@ -2,21 +2,23 @@
 //
 // It stops reading at a refusal that is given at once, and otherwise at the end of the input, and writes only then. Where the input cannot be
 // read to its end, nothing is known of the file: it says so on standard error, and writes no file.
+#![tactic(auto)]
+
 ghost use Rattle.std.specs.Prelude.{◌≡◌, length};
 ghost use Rattle.flux_to_cells.specs.OutputOfInput.{ConvertedInput};
 
 use flux_input::Input;
-use libc::{STDERR_FILENO, STDIN_FILENO, STDOUT_FILENO};
 use refusals::Counted;
+use std::io::Read;
 
 // Reads the input, by way of `buffer`, and then puts what is to be written at the front of `buffer`; the answer is the number of its bytes. It
 // is 0 where the input cannot be read to its end: there is nothing to write then.
-fn convert_input(cells: &mut [u8], buffer: &mut [u8]) -> usize
+fn convert_input<R: Read>(from: &mut R, cells: &mut [u8], buffer: &mut [u8]) -> usize
     requires { (length cells.old ≡ 16384) × (length buffer.old ≡ 65536) }
     ensures { ConvertedInput result buffer.new }
 {
     let start = flux_file::start(cells);
-    let input = flux_input::read_all(STDIN_FILENO, start, buffer, cells);
+    let input = flux_input::read_all(from, start, buffer, cells);
     match input {
         Input::Ended(reader) => {
             let answer = flux_conversion::convert(reader, cells, buffer);
@@ -30,16 +32,15 @@ fn convert_input(cells: &mut [u8], buffer: &mut [u8]) -> usize
     }
 }
 
-fn main() {
+fn main(rt: HostRuntime) {
     let mut cells = [0u8; track_file::ROOM];
-    let mut buffer = io::large_buffer();
-    let count = convert_input(&mut cells, &mut buffer);
+    let mut buffer = system_calls::large_buffer();
+    let count = convert_input(&mut rt.stdin(), &mut cells, &mut buffer);
     if count == 0 {
-        io::write_all(
-            STDERR_FILENO,
-            b"flux_to_cells: the input cannot be read to its end\n",
-        );
+        let _ = rt
+            .stderr()
+            .write_all(b"flux_to_cells: the input cannot be read to its end\n");
         return;
     }
-    io::write_all(STDOUT_FILENO, &buffer[..count]);
+    let _ = rt.stdout().write_all(&buffer[..count]);
 }

@@ -6,14 +6,16 @@
 // REVOLUTIONS is the number of revolutions in the image's header, REVOLUTION the one to list, counted from 0, TRACK and SIDE the drive's.
 // Each is a number from 0 to 255. With other arguments the program writes how it is called to standard error, and nothing else. Where the
 // input cannot be read to its end, or is longer than 4,194,304 bytes, it says so there, and lists nothing.
+#![tactic(auto)]
+
 ghost use Rattle.std.specs.Prelude.{◌≡◌, [], ◌≤◌, length};
 ghost use Rattle.lines.specs.Lines.{out_after};
 ghost use Rattle.scp_track.specs.Arguments.{ChoiceRead};
 ghost use Rattle.scp_track.specs.InputListing.{input_listing, ListedBlock};
 
 use block_choice::Choice;
-use libc::{STDERR_FILENO, STDOUT_FILENO};
-use refusals::Counted;
+use std::env::Env;
+use std::io::Read;
 
 // Room for a usual block: up to five revolutions, each with some 50,000 values. The longest, as 31 revolutions with 65,536 values each, gets a
 // room of its own only where it is needed: a program pays for each page of its room, and most blocks are short.
@@ -24,15 +26,21 @@ const USUAL_ROOM: usize = 524_288;
 const LONGEST_ROOM: usize = 4_194_304;
 
 // The program's arguments, each by way of a room of its own.
-fn read_choice(first: &mut [u8], second: &mut [u8], third: &mut [u8], fourth: &mut [u8]) -> Choice
+fn read_choice<E: Env>(
+    env: &E,
+    first: &mut [u8],
+    second: &mut [u8],
+    third: &mut [u8],
+    fourth: &mut [u8],
+) -> Choice
     ensures { ChoiceRead result first.new second.new third.new fourth.new }
 {
-    let a = os::arg(1, first);
-    let b = os::arg(2, second);
-    let c = os::arg(3, third);
-    let d = os::arg(4, fourth);
+    let a = system_calls::word(env, 1, first);
+    let b = system_calls::word(env, 2, second);
+    let c = system_calls::word(env, 3, third);
+    let d = system_calls::word(env, 4, fourth);
     block_choice::choice_of(
-        os::arg_count(),
+        system_calls::word_count(env),
         &first[..a],
         &second[..b],
         &third[..c],
@@ -61,58 +69,64 @@ fn list_read(choice: Choice, block: &[u8], ended: bool, out: &mut [u8]) -> usize
 
 // Reads the block and puts its listing at the front of `out`; the answer is the number of its bytes. It is 0 where the input cannot be read to
 // its end, or has more bytes than the longest room: there is nothing to write then. A block of more revolutions than usual gets that at once.
-fn list_input(choice: Choice, out: &mut [u8]) -> usize
+fn list_input<R: Read>(from: &mut R, choice: Choice, out: &mut [u8]) -> usize
     ensures few { result ≤ 65536 }
     ensures listing { ListedBlock 4194304 [] choice.revolutions choice.revolution choice.track choice.side out.old result out.new }
 {
     if USUAL_REVOLUTIONS < choice.revolutions {
         let none = [0u8; 1];
-        return list_longer(choice, &none[..0], out);
+        return list_longer(from, choice, &none[..0], out);
     }
-    list_usual(choice, out)
+    list_usual(from, choice, out)
 }
 
-fn list_usual(choice: Choice, out: &mut [u8]) -> usize
+fn list_usual<R: Read>(from: &mut R, choice: Choice, out: &mut [u8]) -> usize
     ensures few { result ≤ 65536 }
     ensures listing { ListedBlock 4194304 [] choice.revolutions choice.revolution choice.track choice.side out.old result out.new }
 {
     let mut block = [0u8; USUAL_ROOM];
-    list_usual_in(choice, &mut block, out)
+    list_usual_in(from, choice, &mut block, out)
 }
 
 // An array so large is not lent as a slice where it is made: its length is not computed in a proof.
-fn list_usual_in(choice: Choice, block: &mut [u8; USUAL_ROOM], out: &mut [u8]) -> usize
+fn list_usual_in<R: Read>(
+    from: &mut R,
+    choice: Choice,
+    block: &mut [u8; USUAL_ROOM],
+    out: &mut [u8],
+) -> usize
     ensures few { result ≤ 65536 }
     ensures listing { ListedBlock 4194304 [] choice.revolutions choice.revolution choice.track choice.side out.old result out.new }
 {
-    read_first(choice, block, out)
+    read_first(from, choice, block, out)
 }
 
 // Reads the block, as far as it fits the usual room; a longer one goes on in the longest.
-fn read_first(choice: Choice, block: &mut [u8], out: &mut [u8]) -> usize
+fn read_first<R: Read>(from: &mut R, choice: Choice, block: &mut [u8], out: &mut [u8]) -> usize
     requires { length block.old ≤ 4194304 }
     ensures few { result ≤ 65536 }
     ensures listing { ListedBlock 4194304 [] choice.revolutions choice.revolution choice.track choice.side out.old result out.new }
 {
-    let input = standard_input::read_on(block, 0);
+    let input = standard_input::read_on(from, block, 0);
     let count = input.count;
     if count < block.len() {
         return list_read(choice, &block[..count], input.ended, out);
     }
-    list_longer(choice, block, out)
+    list_longer(from, choice, block, out)
 }
 
 // Lists a block of which these bytes, none or those that filled the usual room, are read.
-fn list_longer(choice: Choice, front: &[u8], out: &mut [u8]) -> usize
+fn list_longer<R: Read>(from: &mut R, choice: Choice, front: &[u8], out: &mut [u8]) -> usize
     requires { length front.now ≤ 4194304 }
     ensures few { result ≤ 65536 }
     ensures listing { ListedBlock 4194304 front.now choice.revolutions choice.revolution choice.track choice.side out.old result out.new }
 {
     let mut block = [0u8; LONGEST_ROOM];
-    list_longer_in(choice, front, &mut block, out)
+    list_longer_in(from, choice, front, &mut block, out)
 }
 
-fn list_longer_in(
+fn list_longer_in<R: Read>(
+    from: &mut R,
     choice: Choice,
     front: &[u8],
     block: &mut [u8; LONGEST_ROOM],
@@ -122,46 +136,50 @@ fn list_longer_in(
     ensures few { result ≤ 65536 }
     ensures listing { ListedBlock 4194304 front.now choice.revolutions choice.revolution choice.track choice.side out.old result out.new }
 {
-    read_longer(choice, front, block, out)
+    read_longer(from, choice, front, block, out)
 }
 
 // Reads on in the longest room. Where it is full, a further read tells whether the input ended there.
-fn read_longer(choice: Choice, front: &[u8], block: &mut [u8], out: &mut [u8]) -> usize
+fn read_longer<R: Read>(
+    from: &mut R,
+    choice: Choice,
+    front: &[u8],
+    block: &mut [u8],
+    out: &mut [u8],
+) -> usize
     requires { (length front.now ≤ length block.old) × (length block.old ≡ 4194304) }
     ensures few { result ≤ 65536 }
     ensures listing { ListedBlock 4194304 front.now choice.revolutions choice.revolution choice.track choice.side out.old result out.new }
 {
     basis::copy_bytes(front, block);
-    let input = standard_input::read_on(block, front.len());
+    let input = standard_input::read_on(from, block, front.len());
     let count = input.count;
     if count < block.len() {
         return list_read(choice, &block[..count], input.ended, out);
     }
-    let further = standard_input::read_further();
+    let further = standard_input::read_further(from);
     list_read(choice, block, further.ended, out)
 }
 
-fn main() {
-    let mut first = io::buffer();
-    let mut second = io::buffer();
-    let mut third = io::buffer();
-    let mut fourth = io::buffer();
-    let choice = read_choice(&mut first, &mut second, &mut third, &mut fourth);
+fn main(rt: HostRuntime) {
+    let mut first = system_calls::buffer();
+    let mut second = system_calls::buffer();
+    let mut third = system_calls::buffer();
+    let mut fourth = system_calls::buffer();
+    let choice = read_choice(&rt, &mut first, &mut second, &mut third, &mut fourth);
     if !choice.right {
-        io::write_all(
-            STDERR_FILENO,
+        let _ = rt.stderr().write_all(
             b"usage: scp_track REVOLUTIONS REVOLUTION TRACK SIDE < BLOCK\n",
         );
         return;
     }
-    let mut out = io::large_buffer();
-    let count = list_input(choice, &mut out);
+    let mut out = system_calls::large_buffer();
+    let count = list_input(&mut rt.stdin(), choice, &mut out);
     if count == 0 {
-        io::write_all(
-            STDERR_FILENO,
+        let _ = rt.stderr().write_all(
             b"scp_track: the block cannot be read to its end, or is longer than 4,194,304 bytes\n",
         );
         return;
     }
-    io::write_all(STDOUT_FILENO, &out[..count]);
+    let _ = rt.stdout().write_all(&out[..count]);
 }

@@ -1,31 +1,33 @@
 // Reads a track file from standard input and writes the plain image of its track, 4,608 bytes, to standard output.
 //
 // Where that is refused, or the input cannot be read to its end, nothing goes to standard output, and standard error gets one line.
+#![tactic(auto)]
+
 ghost use Rattle.std.specs.Prelude.{◌≡◌, ◌≤◌, length};
 ghost use Rattle.lines.specs.Lines.{digit, out_after};
 ghost use Rattle.refusals.specs.RefusedCalls.{number_of, value_of};
 ghost use Rattle.st_track.specs.ImageOfInput.{number_line, refusal_line, unreadable_line, ImagedInput};
 
-use libc::{STDERR_FILENO, STDIN_FILENO, STDOUT_FILENO};
 use refusals::{Counted, Refusal};
+use std::io::Read;
 use track_input::Input;
 
 // How many bytes at the front of a buffer are for standard output, and how many for standard error. One of the two numbers is 0.
-#[derive(Drop)]
+#[derive(Clone, Copy)]
 struct Written {
     output: usize,
     message: usize,
 }
 
 // Reads the input, by way of `buffer`, and then puts its image, or the line that says why there is none, at the front of `buffer`.
-fn image_input(cells: &mut [u8], buffer: &mut [u8]) -> Written
+fn image_input<R: Read>(from: &mut R, cells: &mut [u8], buffer: &mut [u8]) -> Written
     requires { (length cells.old ≡ 16384) × (length buffer.old ≡ 65536) }
     ensures few_output { result.output ≤ 65536 }
     ensures few_message { result.message ≤ 65536 }
     ensures image { ImagedInput result.output result.message buffer.new }
 {
     let start = track_file::start(cells);
-    let input = track_input::read_all(STDIN_FILENO, start, buffer, cells);
+    let input = track_input::read_all(from, start, buffer, cells);
     match input {
         Input::Ended(reader) => {
             let answer = file_image::image_file(reader, cells, buffer);
@@ -91,10 +93,10 @@ fn write_unreadable(out: &mut [u8]) -> usize
     46
 }
 
-fn main() {
+fn main(rt: HostRuntime) {
     let mut cells = [0u8; track_file::ROOM];
-    let mut buffer = io::large_buffer();
-    let written = image_input(&mut cells, &mut buffer);
-    io::write_all(STDOUT_FILENO, &buffer[..written.output]);
-    io::write_all(STDERR_FILENO, &buffer[..written.message]);
+    let mut buffer = system_calls::large_buffer();
+    let written = image_input(&mut rt.stdin(), &mut cells, &mut buffer);
+    let _ = rt.stdout().write_all(&buffer[..written.output]);
+    let _ = rt.stderr().write_all(&buffer[..written.message]);
 }

@@ -11,7 +11,7 @@ use lib.IntN.{ℤ, pos, negsuc}
 use lib.ListN.{length, take, drop, length-take, length-drop}
 use lib.Seq.{length-take-le, take-append-le, take-append-add, take_at}
 use lib.Signed.{lt_z}
-use Rattle.io.specs.Counts.{clamp_len}
+use Rattle.system_calls.specs.Counts.{clamp_len}
 use Rattle.standard_input.specs.Reading.{bytes_read, is_end, Brought, TakenRead, ReadOn}
 use Rattle.standard_input.specs.Reading.Brought.{none, more}
 

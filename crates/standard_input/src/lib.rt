@@ -1,11 +1,13 @@
-// Reads of standard input, as far as a lent room reaches.
+// Reads of an input, as standard input, as far as a lent room reaches.
+#![tactic(auto)]
+
 ghost use Rattle.std.specs.Prelude.{◌≡◌, length, take};
 ghost use Rattle.standard_input.specs.Reading.{bytes_read, is_end, TakenRead, SomeRead, ReadOn};
 
-use libc::STDIN_FILENO;
+use std::io::Read;
 
 // What was read: so many bytes, and whether the input ended after them. One that failed or goes on has not ended.
-#[derive(Drop)]
+#[derive(Clone, Copy)]
 pub struct Input {
     pub count: usize,
     pub ended: bool,
@@ -13,12 +15,12 @@ pub struct Input {
 
 // Reads on after the first `from` bytes of the room, to the end of the input or of the room. A read that fails is not tried again: after a
 // connection that was reset, the next one would tell of an end.
-pub fn read_on(room: &mut [u8], from: usize) -> Input
+pub fn read_on<R: Read>(input: &mut R, room: &mut [u8], from: usize) -> Input
     ensures { ReadOn (take from room.old) room.new result.count result.ended }
 {
     let mut count = basis::smaller(from, room.len());
     while count < room.len() {
-        let more = read_once(&mut room[count..]);
+        let more = read_once(input, &mut room[count..]);
         if more.count == 0 {
             return Input {
                 count,
@@ -34,18 +36,18 @@ pub fn read_on(room: &mut [u8], from: usize) -> Input
 }
 
 // One read behind a full room: it brings a byte, or the input ended with the room.
-pub fn read_further() -> Input
+pub fn read_further<R: Read>(input: &mut R) -> Input
     ensures { SomeRead result.count result.ended }
 {
     let mut beyond = [0u8; 1];
-    read_once(&mut beyond)
+    read_once(input, &mut beyond)
 }
 
 // One read, of as much as there is and the room holds.
-fn read_once(room: &mut [u8]) -> Input
+fn read_once<R: Read>(input: &mut R, room: &mut [u8]) -> Input
     ensures { TakenRead room.new result.count result.ended }
 {
-    let got = libc::read(STDIN_FILENO, room);
+    let got = system_calls::read(input, room);
     take_read(got, room)
 }
 
@@ -55,7 +57,7 @@ fn take_read(got: isize, room: &[u8]) -> Input
     ensures ended { result.ended ≡ is_end got }
 {
     Input {
-        count: io::count(got, room),
+        count: system_calls::count(got, room),
         ended: at_end(got),
     }
 }

@@ -2,21 +2,23 @@
 //
 // It stops reading at a refusal that is given at once, and otherwise at the end of the input. Where the input cannot be read to its end,
 // nothing is known of the file: it says so on standard error, and lists nothing.
+#![tactic(auto)]
+
 ghost use Rattle.std.specs.Prelude.{◌≤◌, length};
 ghost use Rattle.track_listing.specs.InputListing.{ListedInput};
 
-use libc::{STDERR_FILENO, STDIN_FILENO, STDOUT_FILENO};
+use std::io::Read;
 use track_input::Input;
 
 // Reads the input, by way of `buffer`, and then puts its listing at the front of `buffer`; the answer is the number of its bytes. It is 0
 // where the input cannot be read to its end: there is nothing to list then.
-fn list_input(cells: &mut [u8], buffer: &mut [u8]) -> usize
+fn list_input<R: Read>(from: &mut R, cells: &mut [u8], buffer: &mut [u8]) -> usize
     requires { 65536 ≤ length buffer.old }
     ensures few { result ≤ 65536 }
     ensures listing { ListedInput cells.old result buffer.new }
 {
     let start = track_file::start(cells);
-    let input = track_input::read_all(STDIN_FILENO, start, buffer, cells);
+    let input = track_input::read_all(from, start, buffer, cells);
     match input {
         Input::Ended(reader) => file_listing::list_file(reader, cells, buffer),
         Input::Open(_) => 0,
@@ -24,16 +26,15 @@ fn list_input(cells: &mut [u8], buffer: &mut [u8]) -> usize
     }
 }
 
-fn main() {
+fn main(rt: HostRuntime) {
     let mut cells = [0u8; track_file::ROOM];
-    let mut buffer = io::large_buffer();
-    let count = list_input(&mut cells, &mut buffer);
+    let mut buffer = system_calls::large_buffer();
+    let count = list_input(&mut rt.stdin(), &mut cells, &mut buffer);
     if count == 0 {
-        io::write_all(
-            STDERR_FILENO,
-            b"track_listing: the input cannot be read to its end\n",
-        );
+        let _ = rt
+            .stderr()
+            .write_all(b"track_listing: the input cannot be read to its end\n");
         return;
     }
-    io::write_all(STDOUT_FILENO, &buffer[..count]);
+    let _ = rt.stdout().write_all(&buffer[..count]);
 }

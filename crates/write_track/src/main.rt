@@ -5,13 +5,16 @@
 //
 // TRACK and SIDE, which the file names as its place, are numbers from 0 to 255. With other arguments the program writes how it is called to
 // standard error, and nothing else. Where no track file is made, standard output gets nothing, and standard error one line.
+#![tactic(auto)]
+
 ghost use Rattle.std.specs.Prelude.{◌≡◌, ◌++◌, ◌+◌, ◌≤◌, length, take};
 ghost use Rattle.write_track.specs.Arguments.{place_of, PlaceRead};
 ghost use Rattle.write_track.specs.FileOfList.{front_of, file_with, refusal, unreadable, outputs_of, outputs_of_input, AtFront, Made, MadeOfInput};
 
 use block_choice::Choice;
-use libc::{STDERR_FILENO, STDOUT_FILENO};
 use refusals::Counted;
+use std::env::Env;
+use std::io::Read;
 
 // A list of more bytes than a track can hold is refused, so that one byte more is all that need be read.
 const LIST_ROOM: usize = track_writer::MOST_PIECES + 1;
@@ -19,19 +22,19 @@ const LIST_ROOM: usize = track_writer::MOST_PIECES + 1;
 const CELL_ROOM: usize = 2 * track_writer::MOST_PIECES;
 
 // How many bytes at the front of a buffer are for standard output, and how many for standard error. One of the two numbers is 0.
-#[derive(Drop)]
+#[derive(Clone, Copy)]
 struct Written {
     output: usize,
     message: usize,
 }
 
 // The program's arguments, each by way of a room of its own.
-fn read_place(first: &mut [u8], second: &mut [u8]) -> Choice
+fn read_place<E: Env>(env: &E, first: &mut [u8], second: &mut [u8]) -> Choice
     ensures { PlaceRead result first.new second.new }
 {
-    let a = os::arg(1, first);
-    let b = os::arg(2, second);
-    place_of(os::arg_count(), &first[..a], &second[..b])
+    let a = system_calls::word(env, 1, first);
+    let b = system_calls::word(env, 2, second);
+    place_of(system_calls::word_count(env), &first[..a], &second[..b])
 }
 
 // The place that two words name, where the program was started with so many, its own name among them. They are taken as the last two of the
@@ -46,11 +49,18 @@ fn place_of(words: usize, first: &[u8], second: &[u8]) -> Choice
 }
 
 // Reads the list, and puts the track file that is made of it, or the line that says why there is none, at the front of `out`.
-fn write_input(track: u8, side: u8, list: &mut [u8], cells: &mut [u8], out: &mut [u8]) -> Written
+fn write_input<R: Read>(
+    from: &mut R,
+    track: u8,
+    side: u8,
+    list: &mut [u8],
+    cells: &mut [u8],
+    out: &mut [u8],
+) -> Written
     requires { (length list.old ≡ 8193) × (length cells.old ≡ 16384) × (length out.old ≡ 65536) }
     ensures { MadeOfInput track side result.output result.message out.new }
 {
-    let input = standard_input::read_on(list, 0);
+    let input = standard_input::read_on(from, list, 0);
     let count = input.count;
     write_read(track, side, &list[..count], input.ended, cells, out)
 }
@@ -160,21 +170,27 @@ fn write_unreadable(out: &mut [u8]) -> Written
     }
 }
 
-fn main() {
-    let mut first = io::buffer();
-    let mut second = io::buffer();
-    let place = read_place(&mut first, &mut second);
+fn main(rt: HostRuntime) {
+    let mut first = system_calls::buffer();
+    let mut second = system_calls::buffer();
+    let place = read_place(&rt, &mut first, &mut second);
     if !place.right {
-        io::write_all(
-            STDERR_FILENO,
-            b"usage: write_track TRACK SIDE < LIST > FILE\n",
-        );
+        let _ = rt
+            .stderr()
+            .write_all(b"usage: write_track TRACK SIDE < LIST > FILE\n");
         return;
     }
     let mut list = [0u8; LIST_ROOM];
     let mut cells = [0u8; CELL_ROOM];
-    let mut out = io::large_buffer();
-    let written = write_input(place.track, place.side, &mut list, &mut cells, &mut out);
-    io::write_all(STDOUT_FILENO, &out[..written.output]);
-    io::write_all(STDERR_FILENO, &out[..written.message]);
+    let mut out = system_calls::large_buffer();
+    let written = write_input(
+        &mut rt.stdin(),
+        place.track,
+        place.side,
+        &mut list,
+        &mut cells,
+        &mut out,
+    );
+    let _ = rt.stdout().write_all(&out[..written.output]);
+    let _ = rt.stderr().write_all(&out[..written.message]);
 }
