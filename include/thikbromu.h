@@ -1,5 +1,5 @@
 /*
- * The library's routines for C and C++. Link target/staticlib/libthikbromu.a, which `rt staticlib thikbromu` writes.
+ * The library's routines for C and C++. Link target/staticlib/libthikbromu.a, which `.ci/archive` writes.
  *
  * The numbers of rules are those of docs/SPECIFICATION.md. What each routine gives is proved; the statements are the `ensures` clauses in
  * crates/thikbromu/src. That these declarations are its own is not proved: .ci/bindings compares the names and calls every routine.

@@ -1,4 +1,4 @@
-//! Links the library's archive: that of the folder in THIKBROMU_LIBRARY, else the one that `rt staticlib thikbromu` writes to
+//! Links the library's archive: that of the folder in THIKBROMU_LIBRARY, else the one that `.ci/archive` writes to
 //! target/staticlib of the repository.
 use std::env;
 use std::path::{Path, PathBuf};
@@ -15,7 +15,7 @@ fn main() {
     println!("cargo:rerun-if-changed={}", archive.display());
     if !archive.is_file() {
         eprintln!("There is no {}.", archive.display());
-        eprintln!("Run `rt staticlib thikbromu` in the repository, or name the archive's folder in THIKBROMU_LIBRARY.");
+        eprintln!("Run `.ci/archive` in the repository, or name the archive's folder in THIKBROMU_LIBRARY.");
         std::process::exit(1);
     }
     println!("cargo:rustc-link-search=native={}", folder.display());

@@ -19,7 +19,7 @@ use test_inputs::flux_inputs::timings_of_cells;
 use test_inputs::random::Random;
 use test_inputs::track_builder::{odd_track, standard_track};
 
-/// A program, as `rt ci` builds it.
+/// A program, as `.ci/programs` builds it.
 pub fn built(name: &str) -> Command {
     Command::new(Path::new(env!("CARGO_MANIFEST_DIR")).join("../../target/bin").join(name))
 }

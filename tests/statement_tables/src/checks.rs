@@ -1,7 +1,7 @@
 //! What has to hold of rules, definitions, functions and edits. Each check has a name and passes or not.
 use crate::definitions::Definition;
 use crate::edits::MORE;
-use crate::functions::is_of_program;
+use crate::functions::{is_of_program, is_of_the_system};
 use crate::laws::{exception, parsed, EXCEPTIONS, LAWS};
 use crate::numbers::Number;
 use crate::promises::Promises;
@@ -70,7 +70,7 @@ pub fn checks(repository: &Repository) -> Vec<Check> {
             .map(of_edits),
     );
     for function in &repository.functions {
-        let good = function.promises
+        let good = (function.promises || is_of_the_system(&function.krate, &function.name))
             && !function.proofs
             && (!function.requires || is_of_program(&function.krate, &function.name));
         checks.push((
@@ -176,8 +176,8 @@ mod tests {
     use crate::tables::tests::small;
 
     const RULES: &str = "## 3 The separator\n**3.3** A step.\n**3.14** *(run)* An example.\n";
-    const SPECS: &str = "-- 3.3: the step\nabbrev pub stepAnswer : ℕ\nstepAnswer = 1\n";
-    const SOURCE: &str = "ghost use Rattle·separator·specs.specs.Rule.{stepAnswer};\npub fn step() -> u8\n    ensures { stepAnswer }\n{\n}\n";
+    const SPECS: &str = "-- 3.3: the step\nabbrev pub step_answer : ℕ\nstep_answer = 1\n";
+    const SOURCE: &str = "ghost use Rattle.separator.specs.Rule.{step_answer};\npub fn step() -> u8\n    ensures { step_answer }\n{\n}\n";
 
     fn failed(rules: &str, specs: &str, source: &str, edit: &str) -> Vec<String> {
         checks(&small(rules, specs, source, edit))
@@ -206,7 +206,7 @@ mod tests {
             failed(RULES, SPECS, "", "rule: 3.3\n"),
             [
                 "rule 3.3 has a promise",
-                "separator/specs/Rule: stepAnswer is promised by some function"
+                "separator/specs/Rule: step_answer is promised by some function"
             ]
         );
     }

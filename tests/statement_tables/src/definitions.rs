@@ -91,7 +91,7 @@ pub fn cited(text: &str) -> Vec<Number> {
 mod tests {
     use super::*;
 
-    const FILE: &str = "-- 3.1 to 3.9: the whole file.\nuse Rattle·cells.specs.CellsAndBytes.{packed}\n\n\
+    const FILE: &str = "-- 3.1 to 3.9: the whole file.\nuse Rattle.cells.specs.CellsAndBytes.{packed}\n\n\
         -- 3.3: the step.\n-- It goes on.\nunfoldable pub reading : ℕ → ℕ\nreading t = packed t\n\nabbrev pub twice : ℕ → ℕ\ntwice t = reading (reading t)\n\n\
         -- a helper: no rule\nabbrev pub helper : ℕ\nhelper = 1\n\n-- 3.4, 3.5: a record\npub record Window (a : ℕ) : Type 0 where\n  pub cells : ℕ\n  -- 3.6: its offset\n  pub offset : ℕ\n\n\
         -- 3.7: a list\npub data Track : Type 0 where\n  last : Track\n";

@@ -1,8 +1,8 @@
-//! The edits of crates/KRATE/must-fail and of its folder `more`, and the rules whose wrong version they try.
+//! The edits of crates/KRATE/must-fail and of crates/KRATE/more-edits, and the rules whose wrong version they try.
 use crate::numbers::{numbers_of_list, Number};
 use std::collections::BTreeMap;
 
-/// What the name of an edit of the folder `more` begins with.
+/// What the name of an edit of a folder more-edits begins with.
 pub const MORE: &str = "more/";
 
 pub struct Edit {
@@ -30,8 +30,8 @@ pub fn edit(
     }
 }
 
-/// Whether it changes something, and each text that it changes stands in its file once. The gate does not try the edits of `more`, so it would
-/// not see there that a text has moved.
+/// Whether it changes something, and each text that it changes stands in its file once. The gate does not try the edits of more-edits, so it
+/// would not see there that a text has moved.
 fn applies(text: &str, read: impl Fn(&str) -> Option<String>) -> bool {
     let mut files: BTreeMap<&str, String> = BTreeMap::new();
     let (mut file, mut old, mut pairs) = ("", None, 0);

@@ -1,5 +1,5 @@
 //! The public functions of crates/KRATE/src, and the definitions that their `ensures` name.
-use crate::names::{imports, named, Key};
+use crate::names::{imports, named, Key, STD};
 
 pub struct Function {
     pub krate: String,
@@ -10,7 +10,7 @@ pub struct Function {
     pub names: Vec<Key>,
     pub promises: bool,
     pub requires: bool,
-    /// Its file takes names from proofs, which no promise may cite.
+    /// Its file takes names from the repository's proofs, which no promise may cite.
     pub proofs: bool,
     /// Other crates can call it: it stands in the crate's first file, or that file hands it on.
     pub outside: bool,
@@ -33,6 +33,13 @@ const OF_PROGRAMS: [(&str, &str); 11] = [
 
 pub fn is_of_program(krate: &str, name: &str) -> bool {
     OF_PROGRAMS.contains(&(krate, name))
+}
+
+/// No contract can say what the system answers to these.
+const OF_THE_SYSTEM: [(&str, &str); 2] = [("system_calls", "word_count"), ("system_calls", "open")];
+
+pub fn is_of_the_system(krate: &str, name: &str) -> bool {
+    OF_THE_SYSTEM.contains(&(krate, name))
 }
 
 pub fn functions(krate: &str, file: &str, text: &str) -> Vec<Function> {
@@ -69,12 +76,17 @@ pub fn functions(krate: &str, file: &str, text: &str) -> Vec<Function> {
             promises: clause("ensures"),
             requires: clause("requires"),
             outside: true,
-            proofs: text
-                .lines()
-                .any(|line| line.starts_with("ghost use ") && line.contains("proofs.")),
+            proofs: text.lines().any(is_of_proofs),
         });
     }
     found
+}
+
+/// Whether a line brings names from proofs/ of a crate of the repository.
+fn is_of_proofs(line: &str) -> bool {
+    line.strip_prefix("ghost use Rattle.")
+        .and_then(|rest| rest.split_once('.'))
+        .is_some_and(|(krate, path)| krate != STD && path.starts_with("proofs."))
 }
 
 /// The name of the function that a line begins, and whether others see it.
@@ -108,11 +120,11 @@ fn contract(lines: &[&str]) -> String {
 mod tests {
     use super::*;
 
-    const FILE: &str = "ghost use Rattle·separator·specs.specs.Rule.{stepAnswer, usable};\n\
-        impl Separator {\n    pub fn new() -> Self\n        ensures { λ r. ⌜ r .residual ≡ pos 0 ⌝ }\n    {\n        Separator { residual: 0 }\n    }\n\n\
-        pub fn step(self, timing: u32) -> Stepped\n        requires { ⌜ usable 1 ⌝ }\n        ensures answer { λ r. ⌜ r ≡ stepAnswer (self .residual) ⌝ }\n    {\n        usable\n    }\n}\n\n\
-        fn half(offset: i32) -> i32\n    ensures { λ r. ⌜ usable ⌝ }\n{\n    offset / 2\n}\n\n\
-        pub extern \"C\" fn thikbromu_step(\n    timing: u32,\n) -> u32\n    ensures { λ r. ⌜ stepAnswer ⌝ }\n{\n    usable\n}\n\nfn main() {\n    usable\n}\n";
+    const FILE: &str = "ghost use Rattle.std.proofs.Math.IntN.{sub_ℕ};\nghost use Rattle.separator.specs.Rule.{step_answer, usable};\n\
+        impl Separator {\n    pub fn new() -> Self\n        ensures { result.residual ≡ pos 0 }\n    {\n        Separator { residual: 0 }\n    }\n\n\
+        pub fn step(self, timing: u32) -> Stepped\n        requires { usable 1 }\n        ensures answer { result ≡ step_answer self.residual timing }\n    {\n        usable\n    }\n}\n\n\
+        fn half(offset: i32) -> i32\n    ensures { usable result }\n{\n    offset / 2\n}\n\n\
+        #[unsafe(no_mangle)]\npub extern \"C\" fn thikbromu_step(\n    timing: u32,\n) -> u32\n    ensures { step_answer result }\n{\n    usable\n}\n\nfn main() {\n    usable\n}\n";
 
     #[test]
     fn promises_name_definitions() {
@@ -136,14 +148,14 @@ mod tests {
             shown,
             [
                 "Separator::new false ",
-                "Separator::step true stepAnswer",
-                "thikbromu_step false stepAnswer"
+                "Separator::step true step_answer",
+                "thikbromu_step false step_answer"
             ]
         );
         assert!(found
             .iter()
             .all(|function| function.promises && !function.proofs));
-        let with_proofs = format!("ghost use Rattle·cells.proofs.Packing.{{cell-packed}};\n{FILE}");
+        let with_proofs = format!("ghost use Rattle.cells.proofs.Packing.{{cell-packed}};\n{FILE}");
         assert!(functions("separator", "src/lib.rt", &with_proofs)[0].proofs);
     }
 
@@ -152,7 +164,7 @@ mod tests {
         let found = functions(
             "scp_track",
             "src/main.rt",
-            "fn list_input(a: u8) -> usize\n    ensures { λ r. ⌜ r ⌝ }\n{\n}\n\nfn main() {\n}\n",
+            "fn list_input<R: Read>(from: &mut R) -> usize\n    ensures { result }\n{\n}\n\nfn main() {\n}\n",
         );
         assert_eq!(found.len(), 1);
         assert_eq!(found[0].name, "list_input");

@@ -94,7 +94,7 @@ pub const LAWS: &[Law] = &[
     (
         "12.24",
         "reader_as_number/proofs/ByNumbers",
-        &["read-back", "number-back", "calls-by-numbers"],
+        &["read_back", "number-back", "calls-by-numbers"],
     ),
     ("13.6", "file_listing/proofs/Laws", &["never-ten"]),
     (
@@ -106,7 +106,7 @@ pub const LAWS: &[Law] = &[
     ("16.19", "disk_laws/proofs/Once", &["each-once"]),
     ("16.20", "disk_laws/proofs/Library", &["never-amiss"]),
     ("16.21", "disk_laws/proofs/Order", &["ordered"]),
-    ("16.22", "disk_laws/proofs/LastLine", &["last-line"]),
+    ("16.22", "disk_laws/proofs/LastLine", &["last_line"]),
     ("17.4", "track_writer/proofs/PlainLists", &["as-encoded"]),
     (
         "17.11",
@@ -121,7 +121,7 @@ pub const LAWS: &[Law] = &[
     ),
     ("17.14", "standard_track/proofs/Theorems", &["reads-back"]),
     ("18.16", "conversion_laws/proofs/Theorems", &["converts"]),
-    ("18.17", "conversion_laws/proofs/Theorems", &["as-before"]),
+    ("18.17", "conversion_laws/proofs/Theorems", &["as_before"]),
     ("16.25", "disk_page/proofs/Parts", &["parts-are-page"]),
 ];
 

@@ -11,7 +11,10 @@ pub struct Key {
 
 pub type Imports = BTreeMap<String, Key>;
 
-/// What `use` lines of a file bring, by the name that it has there. Constructors stand for the type that they make.
+/// The kit's library, whose definitions are none of the repository's.
+pub const STD: &str = "std";
+
+/// What `use` lines of a file bring of the repository's definitions, by the name that it has there. Constructors stand for the type that they make.
 pub fn imports(text: &str) -> Imports {
     let mut imports = Imports::new();
     for line in text.lines() {
@@ -19,7 +22,7 @@ pub fn imports(text: &str) -> Imports {
         let Some(rest) = line
             .strip_prefix("ghost ")
             .unwrap_or(line)
-            .strip_prefix("use Rattle·")
+            .strip_prefix("use Rattle.")
         else {
             continue;
         };
@@ -27,8 +30,8 @@ pub fn imports(text: &str) -> Imports {
             continue;
         };
         let parts: Vec<&str> = path.split('.').collect();
-        let krate = parts[0].trim_end_matches("·specs");
-        if parts.len() < 3 || parts[1] != "specs" || parts[2] == "declared" {
+        let krate = parts[0];
+        if krate == STD || parts.len() < 3 || parts[1] != "specs" || parts[2] == "declared" {
             continue;
         }
         for name in names.trim_end_matches('}').split(',').map(str::trim) {
@@ -47,11 +50,17 @@ pub fn imports(text: &str) -> Imports {
     imports
 }
 
-/// The definitions that a text names, each once.
+/// The definitions that a text names, each once. What stands before `=` is a field of a record, or a name that is defined there.
 pub fn named(text: &str, imports: &Imports) -> Vec<Key> {
-    let mut found: Vec<Key> = text
+    let words: Vec<&str> = text
         .split(|c: char| c.is_whitespace() || "(){}[],;".contains(c))
-        .filter_map(|word| imports.get(word).cloned())
+        .filter(|word| !word.is_empty())
+        .collect();
+    let mut found: Vec<Key> = words
+        .iter()
+        .enumerate()
+        .filter(|(i, _)| words.get(i + 1) != Some(&"="))
+        .filter_map(|(_, word)| imports.get(*word).cloned())
         .collect();
     found.sort();
     found.dedup();
@@ -65,10 +74,11 @@ mod tests {
     #[test]
     fn uses_bring_names() {
         let found = imports(
-            "use Rattle·cells.specs.CellsAndBytes.{packed, word as cellWord}\n\
-             ghost use Rattle·separator·specs.specs.Rule.{halved};\n\
-             use Rattle·refusals.specs.RefusedCalls.Answer.{gives}\n\
-             use Rattle·separator·specs.specs.declared.Taken.{Taken}\nuse lib.ListN.{length}\n",
+            "use Rattle.cells.specs.CellsAndBytes.{packed, word as cell_word}\n\
+             ghost use Rattle.separator.specs.Rule.{halved};\n\
+             use Rattle.refusals.specs.RefusedCalls.Answer.{gives}\n\
+             use Rattle.separator.specs.declared.Taken.{Taken}\n\
+             use Rattle.std.specs.Prelude.{length, ◌≡◌}\n",
         );
         let place = |name: &str| {
             found
@@ -76,10 +86,14 @@ mod tests {
                 .map(|key| format!("{}/{}/{}", key.krate, key.file, key.name))
         };
         assert_eq!(place("packed").unwrap(), "cells/CellsAndBytes/packed");
-        assert_eq!(place("cellWord").unwrap(), "cells/CellsAndBytes/word");
+        assert_eq!(place("cell_word").unwrap(), "cells/CellsAndBytes/word");
         assert_eq!(place("halved").unwrap(), "separator/Rule/halved");
         assert_eq!(place("gives").unwrap(), "refusals/RefusedCalls/Answer");
         assert_eq!(found.len(), 4);
-        assert_eq!(named("(halved (x .packed)) ++ length y", &found).len(), 1);
+        assert_eq!(named("(halved x.packed) ++ length y", &found).len(), 1);
+        assert_eq!(
+            named("record { packed = 0; halved = packed 1 }", &found).len(),
+            1
+        );
     }
 }

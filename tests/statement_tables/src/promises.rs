@@ -86,7 +86,7 @@ mod tests {
     #[test]
     fn the_fewest_steps_are_taken() {
         let definitions = definitions("a", "F", "-- x\nabbrev pub low : ℕ\nlow = 1\n\nabbrev pub middle : ℕ\nmiddle = low\n\nabbrev pub high : ℕ\nhigh = middle\n\nabbrev pub alone : ℕ\nalone = 1\n");
-        let text = "ghost use Rattle·a·specs.specs.F.{middle, high};\npub fn near() -> u8\n    ensures { middle }\n{\n}\n\npub fn far() -> u8\n    ensures { high }\n{\n}\n";
+        let text = "ghost use Rattle.a.specs.F.{middle, high};\npub fn near() -> u8\n    ensures { middle }\n{\n}\n\npub fn far() -> u8\n    ensures { high }\n{\n}\n";
         let functions = functions("a", "src/lib.rt", text);
         let promises = Promises::new(&definitions, &functions);
         let key = |name: &str| Key {
@@ -105,7 +105,7 @@ mod tests {
     #[test]
     fn a_function_that_no_other_crate_can_call_is_passed_over() {
         let definitions = definitions("a", "F", "-- x\nabbrev pub low : ℕ\nlow = 1\n");
-        let text = "ghost use Rattle·a·specs.specs.F.{low};\npub fn inner() -> u8\n    ensures { low }\n{\n}\n\npub fn outer() -> u8\n    ensures { low }\n{\n}\n";
+        let text = "ghost use Rattle.a.specs.F.{low};\npub fn inner() -> u8\n    ensures { low }\n{\n}\n\npub fn outer() -> u8\n    ensures { low }\n{\n}\n";
         let mut functions = functions("a", "src/inner.rt", text);
         functions[0].outside = false;
         let low = Key {

@@ -39,7 +39,11 @@ pub fn files(folder: &Path) -> Vec<PathBuf> {
 pub fn all_files(folder: &Path) -> Vec<PathBuf> {
     files(folder)
         .into_iter()
-        .filter(|path| !path.ends_with("target") && !path.ends_with(".git"))
+        .filter(|path| {
+            !["target", "out", ".git"]
+                .iter()
+                .any(|name| path.ends_with(name))
+        })
         .flat_map(|path| {
             if path.is_dir() {
                 all_files(&path)
@@ -75,7 +79,8 @@ pub fn read(root: &Path) -> Repository {
         .lines()
         .filter(|line| !line.starts_with('#'))
     {
-        let krate = line.split(':').next().unwrap();
+        // A word such as `staticlib` may stand after the name.
+        let krate = line.split([':', ' ']).next().unwrap();
         let folder = root.join("crates").join(krate);
         for path in with_ending(folder.join("specs"), "antt") {
             let text = text(&path);
@@ -93,14 +98,14 @@ pub fn read(root: &Path) -> Repository {
             let module = stem(&path);
             let mut found = functions(krate, &format!("src/{module}.rt"), &text(&path));
             if !["lib", "main"].contains(&module.as_str()) {
+                let names = handed_on(&first, &module);
                 for function in &mut found {
-                    function.outside =
-                        first.contains(&format!("pub use {module}::{};", function.name));
+                    function.outside = names.contains(&function.name.as_str());
                 }
             }
             repository.functions.extend(found);
         }
-        for (part, before) in [("must-fail", ""), ("must-fail/more", MORE)] {
+        for (part, before) in [("must-fail", ""), ("more-edits", MORE)] {
             for path in with_ending(folder.join(part), "edit") {
                 let read = |file: &str| fs::read_to_string(folder.join(file)).ok();
                 repository.edits.push(edit(
@@ -113,6 +118,18 @@ pub fn read(root: &Path) -> Repository {
         }
     }
     repository
+}
+
+/// What a crate's first file hands on of one of its modules.
+fn handed_on<'a>(first: &'a str, module: &str) -> Vec<&'a str> {
+    first
+        .split(&format!("pub use {module}::"))
+        .skip(1)
+        .filter_map(|rest| rest.split(';').next())
+        .flat_map(|names| names.split(['{', '}', ',']))
+        .map(str::trim)
+        .filter(|name| !name.is_empty())
+        .collect()
 }
 
 /// The rules that tests name, with the file. This program's own fixtures name rules too, and do not count.
@@ -149,6 +166,14 @@ fn rules_named(line: &str) -> Vec<Number> {
 #[cfg(test)]
 mod tests {
     use super::*;
+
+    #[test]
+    fn what_is_handed_on() {
+        let first = "mod lent;\n\npub use lent::step;\npub use lists::{\n    more, most,\n    one,\n};\npub use other::least;\nuse lent::inner;\n";
+        assert_eq!(handed_on(first, "lent"), ["step"]);
+        assert_eq!(handed_on(first, "lists"), ["more", "most", "one"]);
+        assert!(handed_on(first, "blocks").is_empty());
+    }
 
     #[test]
     fn a_line_names_rules() {

@@ -45,7 +45,7 @@ pub fn found<'a>(repository: &'a Repository, promises: &Promises, rule: &'a Rule
         .map(|i| &repository.functions[i])
         .collect();
     // The functions for C promise the same as those that they call, which come first.
-    functions.sort_by_key(|function| function.krate == "thikbromu");
+    functions.sort_by_key(|function| is_for_c(function));
     Found {
         rule,
         definitions,
@@ -64,6 +64,11 @@ pub fn found<'a>(repository: &'a Repository, promises: &Promises, rule: &'a Rule
         laws: laws(rule.number),
         exception: exception(rule.number),
     }
+}
+
+/// The functions for C have a prefix of their own in place of their crate's name.
+fn is_for_c(function: &Function) -> bool {
+    function.name.starts_with("thikbromu_")
 }
 
 pub fn page(repository: &Repository) -> String {
@@ -162,7 +167,7 @@ fn promised(found: &Found) -> String {
 }
 
 fn shown(function: &Function) -> String {
-    let name = if function.krate == "thikbromu" {
+    let name = if is_for_c(function) {
         function.name.clone()
     } else {
         format!("{}::{}", function.krate, function.name)
@@ -239,8 +244,8 @@ pub mod tests {
     fn a_row_has_all_of_a_rule() {
         let repository = small(
             "## 3 The separator\n**3.3** A step.\n**3.14** *(run)* An example.\n",
-            "-- 3.3: the step\nabbrev pub reading : ℕ\nreading = 1\n\n-- what a step answers\nabbrev pub stepAnswer : ℕ\nstepAnswer = reading\n",
-            "ghost use Rattle·separator·specs.specs.Rule.{stepAnswer};\npub fn step() -> u8\n    ensures { stepAnswer }\n{\n}\n",
+            "-- 3.3: the step\nabbrev pub reading : ℕ\nreading = 1\n\n-- what a step answers\nabbrev pub step_answer : ℕ\nstep_answer = reading\n",
+            "ghost use Rattle.separator.specs.Rule.{step_answer};\npub fn step() -> u8\n    ensures { step_answer }\n{\n}\n",
             "rule: 3.3\nfile: src/lib.rt\n",
         );
         let page = page(&repository);
