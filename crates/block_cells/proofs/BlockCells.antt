@@ -134,9 +134,9 @@ module _ (block : List ℕ) (revolutions k : ℕ) where
         go true l g = let z : ◌≡◌ {A = ℕ} 0 1 = cc in absurd (omega arith)
         go false l g = let c : count ≡ length ts = cc in (c, omega (arith, ltb-false (length list) (length ts) l))
 
-    pub front-is : take count filled ≡ ts
+    pub front_is : take count filled ≡ ts
     unfolding buffer_after
-    front-is =
+    front_is =
         let w : filled ≡ written_over ts list = f ∙ ap (λ (a : Answer ℕ). buffer_after a ts list) (sym e) in
         ap (take count) w ∙ take_at ts (drop (length ts) list) count (sym count_fits.0)
 
@@ -148,11 +148,11 @@ module _ (block : List ℕ) (revolutions k : ℕ) where
         → pulses' ≡ border_pulses_after (separation (take count filled) (length before)) (border_pulses_of (take count filled)) pulses
         → CellsPromised before answer after pulses pulses'
     block-separated before pulses {answer} {after} a g p =
-        let s : separation (take count filled) (length before) ≡ separation ts (length before) = ap (λ (x : List ℕ). separation x (length before)) front-is in
+        let s : separation (take count filled) (length before) ≡ separation ts (length before) = ap (λ (x : List ℕ). separation x (length before)) front_is in
         let is : answer ≡ separation ts (length before) = a ∙ s in
         cells-promised before pulses (is ∙ sym (judged-on passes.good passes.there))
-        (g ∙ ap (λ (x : List ℕ). separated_cells x before) front-is ∙ ap (λ (x : Answer ℕ). buffer_after x (packed (cells_of ts)) before) (sym is))
-        (p ∙ ap (λ (x : List ℕ). border_pulses_after (separation x (length before)) (border_pulses_of x) pulses) front-is
+        (g ∙ ap (λ (x : List ℕ). separated_cells x before) front_is ∙ ap (λ (x : Answer ℕ). buffer_after x (packed (cells_of ts)) before) (sym is))
+        (p ∙ ap (λ (x : List ℕ). border_pulses_after (separation x (length before)) (border_pulses_of x) pulses) front_is
         ∙ ap (λ (x : Answer ℕ). border_pulses_after x (border_pulses_of ts) pulses) (sym is))
 
   -- what the call that gives the timings promises, with the number of border pulses
@@ -177,7 +177,7 @@ module _ (block : List ℕ) (revolutions k : ℕ) where
           e,
           (
             f,
-            is (border_pulses_of ts) (a ∙ ap border_pulses_counted (front-is list e f) ∙ judged)
+            is (border_pulses_of ts) (a ∙ ap border_pulses_counted (front_is list e f) ∙ judged)
                 ∙ ap (λ (x : Answer ℕ). border_pulses_after x (border_pulses_of ts) pulses) e,
           ),
         )

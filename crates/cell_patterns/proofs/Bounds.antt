@@ -22,14 +22,14 @@ run-few : (f : ℕ → ℕ) (n : ℕ) → longest_run f n ≤ n
 unfolding longest_run
 run-few f n = most-few (zeros_from f n) n (zeros-few f n) n 0
 
-start-few : (f : ℕ → ℕ) (n : ℕ) → longest_start f n ≤ n
+start_few : (f : ℕ → ℕ) (n : ℕ) → longest_start f n ≤ n
 unfolding longest_start
-start-few f n = omega (arith, least-high (run_from f n (longest_run f n)) n 0)
+start_few f n = omega (arith, least-high (run_from f n (longest_run f n)) n 0)
 
 -- no more than the cells
 pub gaps-few : (layout : Layout) (f : ℕ → ℕ) (n : ℕ) → ((gaps_of layout f n).first ≤ n) × ((gaps_of layout f n).violations ≤ n) × ((gaps_of layout f n).start ≤ n) × ((gaps_of layout f n).longest ≤ n)
 unfolding gaps_of
-gaps-few layout f n = (omega (arith, least-high (violation layout f n) n 0), count-few (violation layout f n) n 0, start-few f n, run-few f n)
+gaps-few layout f n = (omega (arith, least-high (violation layout f n) n 0), count-few (violation layout f n) n 0, start_few f n, run-few f n)
 
 -- no more than the cells of the ID and of the data
 pub inside-few : (layout : Layout) → Sound layout → (f : ℕ → ℕ) (s : Sector) → syncs_inside layout f s ≤ 160 + s.data_end

@@ -52,9 +52,9 @@ module _ (f : ℕ → ℕ) (n p : ℕ) (h : p < n) where
       omega arith
 
 module _ (f : ℕ → ℕ) (n : ℕ) where
-  one-after : (p : ℕ) → zeros_from f n p < n → is_one f (p + zeros_from f n p) ≡ true
+  one_after : (p : ℕ) → zeros_from f n p < n → is_one f (p + zeros_from f n p) ≡ true
   unfolding zeros_from
-  one-after p h =
+  one_after p h =
       let l = least-low (is_one f) n p in
       let e : p + (least (is_one f) n p - p) ≡ least (is_one f) n p = omega arith in
       rw e (least-found (is_one f) n p (omega arith))
@@ -69,7 +69,7 @@ module _ (f : ℕ → ℕ) (n : ℕ) where
     where
       go : Dec (n ≤ zeros_from f n p) → zeros_from f n q ≤ zeros_from f n p
       go (yes g) = omega (arith, zeros-few f n q)
-      go (no g) = omega (arith, zeros_by q (p + zeros_from f n p) l (one-after p (lt_of_not-le g)))
+      go (no g) = omega (arith, zeros_by q (p + zeros_from f n p) l (one_after p (lt_of_not-le g)))
 
 -- the longest run among the places before p, where it has more than 63 zeros
 pub record LongestBefore (f : ℕ → ℕ) (n p longest start : ℕ) : Type 0 where
@@ -136,8 +136,8 @@ module _ (f : ℕ → ℕ) (n : ℕ) where
       record {
         long = λ l. exact (o.found (omega (arith, below)));
         short = λ l. go (dec_le longest 63) l;
-        start-few = o.inside.0;
-        longest-few = o.inside.1;
+        start_few = o.inside.0;
+        longest_few = o.inside.1;
       }
     where
       below : longest_run f n ≤ longest
@@ -178,8 +178,8 @@ module _ (f : ℕ → ℕ) (n : ℕ) (words : List ℕ) (held : Holds (one_at f)
       record {
         long = λ l. absurd (omega (arith, all-below f n 126 zeros-in-way));
         short = λ l. omega arith;
-        start-few = omega arith;
-        longest-few = omega arith;
+        start_few = omega arith;
+        longest_few = omega arith;
       }
 
 -- the places with 64 zeros, by doubling

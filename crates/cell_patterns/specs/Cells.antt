@@ -54,8 +54,8 @@ gaps_of layout f n =
 pub record LongRun (f : ℕ → ℕ) (n start longest : ℕ) : Type 0 where
   pub long : 1000 ≤ longest_run f n → (start ≡ longest_start f n) × (longest ≡ longest_run f n)
   pub short : longest_run f n < 1000 → longest < 1000
-  pub start-few : start ≤ n
-  pub longest-few : longest ≤ n
+  pub start_few : start ≤ n
+  pub longest_few : longest ≤ n
 
 -- 7.20, 7.21: `gaps_of`, with the longest run as NFA asks for it
 pub record GapsFound (layout : Layout) (f : ℕ → ℕ) (n : ℕ) (gaps : Gaps) : Type 0 where

@@ -153,13 +153,13 @@ module _ (f : ℕ → ℕ) (bit : (i : ℕ) → f i < 2) where
       let a = forth p (eqb-true (word f 16 p) 0x4489 h) in
       rw (seven_is (p + 1), seven_is (p + 8), eq-eqb (word f 7 (p + 1)) 0x44 a.0, eq-eqb (word f 7 (p + 8)) 0x44 a.1, none_is p a.2, some_is (p + 15) a.3))
 
-syncs-are : (f : ℕ → ℕ) (q : ℕ) → sync_from (one_at f) (seven_from (one_at f) (alone_at (one_at f))) q ≡ sync_test f q
+syncs_are : (f : ℕ → ℕ) (q : ℕ) → sync_from (one_at f) (seven_from (one_at f) (alone_at (one_at f))) q ≡ sync_test f q
 unfolding sync_test
-syncs-are f q = refl
+syncs_are f q = refl
 
 pub sync-stands : (f : ℕ → ℕ) → ((i : ℕ) → f i < 2) → (q : ℕ) → sync_from (one_at f) (seven_from (one_at f) (alone_at (one_at f))) q ≡ stands_at f 0x4489 q
 unfolding stands_at
-sync-stands f bit q = syncs-are f q ∙ sync-is f bit q
+sync-stands f bit q = syncs_are f q ∙ sync-is f bit q
 
 -- the first k cells of a word w of 16 stand at q
 unfoldable pub front_stands : (ℕ → ℕ) → (w k : ℕ) → ℕ → Bool

@@ -22,13 +22,13 @@ cells-append [] ys f g i = g i
 cells-append (x ∷ xs) ys f g zero = f 0
 cells-append (x ∷ xs) ys f g (suc i) = cells-append xs ys (λ j. f (suc j)) g i
 
-zeros-are : (k i : ℕ) → ◌≡◌ {A = ℕ} (get_or (replicate k 0) i 0) 0
-zeros-are zero i = refl
-zeros-are (suc k) zero = refl
-zeros-are (suc k) (suc i) = zeros-are k i
+zeros_are : (k i : ℕ) → ◌≡◌ {A = ℕ} (get_or (replicate k 0) i 0) 0
+zeros_are zero i = refl
+zeros_are (suc k) zero = refl
+zeros_are (suc k) (suc i) = zeros_are k i
 
 pub cells-zeros : (k : ℕ) → Cells (replicate k 0)
-cells-zeros k i = omega (arith, zeros-are k i)
+cells-zeros k i = omega (arith, zeros_are k i)
 
 pub cells-one : Cells (1 ∷ [])
 cells-one zero = omega arith
@@ -36,7 +36,7 @@ cells-one (suc i) = omega arith
 
 -- zeros appended
 appended-zeros : (q : List ℕ) (k i : ℕ) → get_or (q ++ replicate k 0) i 0 ≡ get_or q i 0
-appended-zeros [] k i = zeros-are k i
+appended-zeros [] k i = zeros_are k i
 appended-zeros (x ∷ q) k zero = refl
 appended-zeros (x ∷ q) k (suc i) = appended-zeros q k i
 
@@ -49,7 +49,7 @@ packed-with-zeros q k n =
 packed_none : (n : ℕ) → replicate n 0 ≡ listed (packed_byte []) n
 unfolding packed_byte
 packed_none n =
-    is-listed (packed_byte []) 0 (replicate n 0) (λ i h. zeros-are n i ∙ sym (word-zeros (list_cell []) 8 (8 * i) (λ j l. refl)))
+    is-listed (packed_byte []) 0 (replicate n 0) (λ i h. zeros_are n i ∙ sym (word-zeros (list_cell []) 8 (8 * i) (λ j l. refl)))
     ∙ ap (listed (packed_byte [])) (length-replicate n 0)
 
 pub cleared-front : (n : ℕ) (buffer : List ℕ) → n ≤ length buffer → cleared n buffer ≡ listed (packed_byte []) n ++ drop n buffer

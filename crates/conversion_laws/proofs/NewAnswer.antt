@@ -30,7 +30,7 @@ pub record Reads (T H n : ℕ) (packed whole : List ℕ) : Type 0 where
   pub side : side_of whole ≡ H
   pub count : cell_count whole ≡ n
   pub cells : packed_bytes whole ≡ packed
-  pub no-timings : flux_count whole ≡ 0
+  pub no_timings : flux_count whole ≡ 0
 
 module _ (T H n : ℕ) (packed : List ℕ) (few : n ≤ 131072) (long : length packed ≡ bytes_for n) where
   pub reads : Reads T H n packed (file_with T H n packed)
@@ -43,7 +43,7 @@ module _ (T H n : ℕ) (packed : List ℕ) (few : n ≤ 131072) (long : length p
         side = side-read T H n packed [];
         count = count-read T H n packed [] small;
         cells = cells-read T H n packed [] small long;
-        no-timings = no-timings-read T H n packed [] small long;
+        no_timings = no-timings-read T H n packed [] small long;
       }
 
   pub is-accepted : (n ≡ 0 → ⊥) → file_answer (file_with T H n packed) ≡ gives (record { track = T; side = H; cells = n })
@@ -55,7 +55,7 @@ module _ (T H n : ℕ) (packed : List ℕ) (few : n ≤ 131072) (long : length p
       let cells = r.count in
       none_before (has_count whole) (has_count (cell_section whole)) (has_count (flux_section whole)) (place_count whole) (cell_count whole) (flux_count whole)
       (length whole) (file_length whole) (record { track = track_of whole; side = side_of whole; cells = cell_count whole }) r.place (subst (λ (k : ℕ). k ≤ 131072) (sym cells) few)
-      r.no-timings (λ e. some (sym cells ∙ e)) total
+      r.no_timings (λ e. some (sym cells ∙ e)) total
       ∙ same r.track r.side cells
     where
       same : {a b c : ℕ} → a ≡ T → b ≡ H → c ≡ n

@@ -188,16 +188,16 @@ timed-not-two ts =
 
 -- what the old reader gave: a refusal that is not 2, or the place of the file and a number of cells
 data Gave (file : List ℕ) : Answer Content → Type 0 where
-  a-refusal : {number value : ℕ} → (number ≡ 2 → ⊥) → Gave file (refused number value)
-  a-number : {n : ℕ} → Gave file (gives (record { track = track_of file; side = side_of file; cells = n }))
+  a_refusal : {number value : ℕ} → (number ≡ 2 → ⊥) → Gave file (refused number value)
+  a_number : {n : ℕ} → Gave file (gives (record { track = track_of file; side = side_of file; cells = n }))
 
 gave : (file : List ℕ) → cell_count_refused file ≡ false → Gave file (old_answer file)
 unfolding old_answer not-two placed
 gave file few = rw few (go (place_count_refused file) (old_flux_count_refused file) (old_not_a_track_file file) (eqb (track-file.flux_count file) 0))
   where
     timed : (answer : Answer ℕ) → not-two answer → Gave file (placed (track_of file) (side_of file) answer)
-    timed (gives n) f = a-number
-    timed (refused number value) f = a-refusal f
+    timed (gives n) f = a_number
+    timed (refused number value) f = a_refusal f
 
     go : (a b c d : Bool)
         → Gave file
@@ -205,15 +205,15 @@ gave file few = rw few (go (place_count_refused file) (old_flux_count_refused fi
         (cond b (refused 7 (track-file.flux_count file))
         (cond c (refused 15 0)
         (placed (track_of file) (side_of file) (cond d (gives (cell_count file)) (separation (old_timings file) 16384))))))
-    go true b c d = a-refusal {number = 15} (λ z. omega arith)
-    go false true c d = a-refusal {number = 7} (λ z. omega arith)
-    go false false true d = a-refusal {number = 15} (λ z. omega arith)
-    go false false false true = a-number
+    go true b c d = a_refusal {number = 15} (λ z. omega arith)
+    go false true c d = a_refusal {number = 7} (λ z. omega arith)
+    go false false true d = a_refusal {number = 15} (λ z. omega arith)
+    go false false false true = a_number
     go false false false false = timed (separation (old_timings file) 16384) (timed-not-two (old_timings file))
 
 -- a count that is 0 or not there is not above 131,072
-few-cells : (file : List ℕ) → cells_refused file ≡ false → cell_count_refused file ≡ false
-few-cells file none = go (has_count (cell_section file)) (eqb (cell_count file) 0) refl none
+few_cells : (file : List ℕ) → cells_refused file ≡ false → cell_count_refused file ≡ false
+few_cells file none = go (has_count (cell_section file)) (eqb (cell_count file) 0) refl none
   where
     small : (n : ℕ) → n ≡ 0 → ltb 131072 n ≡ false
     small n e = rw e
@@ -255,10 +255,10 @@ no-cells-printed file e = rw e (go _ _ (eqb (track-file.flux_count file) 0))
 refused-printed : (file : List ℕ) {answer : Answer Content} → Gave file answer → (number value : ℕ) → without_no_cells answer ≡ refused number value
     → old_printed answer file ≡ refused_line (old_number (track_of file) (side_of file) number)
 unfolding without_no_cells old_printed old_number
-refused-printed file (a-refusal {number = other} other-than-2) number value e =
+refused-printed file (a_refusal {number = other} other-than-2) number value e =
     let same : other ≡ number = cc in
     rw (← same, ne_eqb other 2 other-than-2)
-refused-printed file (a-number {n}) number value e = go (eqb n 0) refl e
+refused-printed file (a_number {n}) number value e = go (eqb n 0) refl e
   where
     go : (x : Bool) → eqb n 0 ≡ x → cond {A = Answer Content} x (refused 2 0) (gives (record { track = track_of file; side = side_of file; cells = n })) ≡ refused number value
         → old_printed (gives (record { track = track_of file; side = side_of file; cells = n })) file ≡ refused_line (old_number (track_of file) (side_of file) number)
@@ -275,7 +275,7 @@ converts file none =
       read = λ content given. accepted-read file none content given;
       listings = λ content given. accepted-listed file none content given;
       refusals = λ number value given.
-          refused-printed file (gave file (few-cells file none)) number value (sym (same_answer file none) ∙ given);
+          refused-printed file (gave file (few_cells file none)) number value (sym (same_answer file none) ∙ given);
     }
 
 -- a file without timings: the answers and the listings, section by section

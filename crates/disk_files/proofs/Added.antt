@@ -32,8 +32,8 @@ Adds brought answer tracks after at findings later from =
 
 -- how many findings an accepted track has
 module _ (cells : List ℕ) (N T H : ℕ) {count : ℕ} (e : findings_answer double_density cells N T H 901 ≡ gives count) where
-  count-is : count ≡ length (findings_of double_density cells N T)
-  count-is = (findings-accepted double_density (sound Double) cells N T H 901 count e).0
+  count_is : count ≡ length (findings_of double_density cells N T)
+  count_is = (findings-accepted double_density (sound Double) cells N T H 901 count e).0
 
   pub count-few : count ≤ 901
   count-few = (findings-accepted double_density (sound Double) cells N T H 901 count e).1
@@ -53,7 +53,7 @@ module _ (tracks after : List ℕ) (at : ℕ) (findings later : List ℕ) (from 
     unfolding track_found found finding_count track_numbers finding_numbers buffer_after
     adds-track {count} e array numbers long n a l =
         let fs = findings_of double_density cells N T in
-        let k = count-is cells N T H e in
+        let k = count_is cells N T H e in
         let all : numbers ≡ written_over (numbers_of fs) array = n ∙ rw (long, e) in
         let front : take (4 * count) numbers ≡ numbers_of fs =
         rw (all, k) (take_at (numbers_of fs) (drop (length (numbers_of fs)) array) (4 * length fs) (length-numbers fs)) in

@@ -59,9 +59,9 @@ order-at T findings start k e =
 -- what TNF has
 pub record Tnf (T level place detail : ℕ) : Type 0 where
   pub low : T ≤ 79
-  pub level-is : level ≡ 2
+  pub level_is : level ≡ 2
   pub place_is : place ≡ 0
-  pub detail-is : detail ≡ 0
+  pub detail_is : detail ≡ 0
 
 sound-tnf : (T kind level place detail : ℕ) → is_amiss T kind level place detail ≡ false → kind ≡ 4 → Tnf T level place detail
 unfolding is_amiss
@@ -75,9 +75,9 @@ sound-tnf T kind level place detail e is =
     let ab = or_left (a || b) c abc in
     record {
       low = ltb-false _ _ (or_left a b ab);
-      level-is = eqb-true _ _ (not-false _ (or_right a b ab));
+      level_is = eqb-true _ _ (not-false _ (or_right a b ab));
       place_is = eqb-true _ _ (not-false _ (or_right (a || b) c abc));
-      detail-is = eqb-true _ _ (not-false _ (or_right (a || b || c) d f));
+      detail_is = eqb-true _ _ (not-false _ (or_right (a || b || c) d f));
     }
   where
     tail : (x y z : Bool) → (x || y && z) ≡ false → y ≡ true → z ≡ false

@@ -88,7 +88,7 @@ own-sound r rest k h =
         → Tnf r.track (get_or (found_on r) k (finding 0 0 0)).level (get_or (found_on r) k (finding 0 0 0)).place (get_or (found_on r) k (finding 0 0 0)).detail
     tnf e =
         let x = tnf-only r.layout r.bytes r.cells r.track (get_or (found_on r) k (finding 0 0 0)) (member-at (finding 0 0 0) (found_on r) k h) e in
-        record { low = x.3; level-is = x.0; place_is = x.1; detail-is = x.2 }
+        record { low = x.3; level_is = x.0; place_is = x.1; detail_is = x.2 }
 
     order : (k : ℕ) → k < length (found_on r) → 0 < k
         → Later (kind_at (numbers_of (found_on r) ++ rest) (0 + k - 1)) (place_at (numbers_of (found_on r) ++ rest) (0 + k - 1)) (kind_at (numbers_of (found_on r) ++ rest) (0 + k)) (place_at (numbers_of (found_on r) ++ rest) (0 + k))

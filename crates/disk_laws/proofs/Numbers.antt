@@ -70,7 +70,7 @@ sound-numbers T kind level place detail low high tnf = go (ℕ_discrete kind 4)
     go (no n) = rw (le-ltb kind 1 low, le-ltb 21 kind high, ne_eqb kind 4 n)
     go (yes y) =
         let t = tnf y in
-        rw (le-ltb kind 1 low, le-ltb 21 kind high, eq-eqb kind 4 y, le-ltb 79 T t.low, eq-eqb level 2 t.level-is, eq-eqb place 0 t.place_is, eq-eqb detail 0 t.detail-is)
+        rw (le-ltb kind 1 low, le-ltb 21 kind high, eq-eqb kind 4 y, le-ltb 79 T t.low, eq-eqb level 2 t.level_is, eq-eqb place 0 t.place_is, eq-eqb detail 0 t.detail_is)
 
 later-numbers : (k p l q : ℕ) → Later k p l q → is_later k p l q ≡ true
 unfolding is_later

@@ -111,9 +111,9 @@ module _ {tracks findings : List ℕ} (ok : Accepted tracks findings) where
             side = g.side ∙ sym (ap (λ (e : Entry). e.side) is) ∙ s.side;
             track = g.track;
             kind = g.kind ∙ sym p.0 ∙ sym (ap (λ (e : Entry). e.kind) is) ∙ s.kind;
-            level = other.level-is ∙ sym own.level-is ∙ sym (ap (λ (e : Entry). e.level) is) ∙ s.level;
+            level = other.level_is ∙ sym own.level_is ∙ sym (ap (λ (e : Entry). e.level) is) ∙ s.level;
             place = other.place_is ∙ sym own.place_is ∙ sym (ap (λ (e : Entry). e.place) is) ∙ s.place;
-            detail = other.detail-is ∙ sym own.detail-is ∙ sym (ap (λ (e : Entry). e.detail) is) ∙ s.detail;
+            detail = other.detail_is ∙ sym own.detail_is ∙ sym (ap (λ (e : Entry). e.detail) is) ∙ s.detail;
           }))
 
   -- a finding that is given has an entry that stands for it
@@ -150,9 +150,9 @@ module _ {tracks findings : List ℕ} (ok : Accepted tracks findings) where
           from = omega (arith, s.track);
           to = omega (arith, s.track);
           kind = g.kind ∙ sym y ∙ s.kind;
-          level = other.level-is ∙ sym own.level-is ∙ s.level;
+          level = other.level_is ∙ sym own.level_is ∙ s.level;
           place = other.place_is ∙ sym own.place_is ∙ s.place;
-          detail = other.detail-is ∙ sym own.detail-is ∙ s.detail;
+          detail = other.detail_is ∙ sym own.detail_is ∙ s.detail;
         }))
 
     entry-one : 1 ≤ times (stands_for x) (page_entries tracks findings)

@@ -10,7 +10,7 @@ use lib.ListN.{length, take, drop, set, length-drop, drop_of_length-le}
 use lib.Seq.{sets, set_out, take_all}
 use Rattle.lines.specs.Lines.{out_after}
 use Rattle.lines.specs.Writing.{Wrote}
-use Rattle.lines.proofs.Writing.{out-is}
+use Rattle.lines.proofs.Writing.{out_is}
 
 sets-later : (x : ℕ) (l : List ℕ) (i : ℕ) (vs : List ℕ) → sets (x ∷ l) (suc i) vs ≡ x ∷ sets l i vs
 sets-later x l i [] = refl
@@ -30,13 +30,13 @@ sets-clipped l i vs = go (dec_le i (length l))
         let g : length l ≤ i = omega (arith, lt_of_not-le h) in
         rw (min-eq_right g) (sets-out l (length l) vs (le_refl (length l)) ∙ sym (sets-out l i vs g))
 
-front-is : (made l : List ℕ) → out_after made l ≡ sets l 0 made
-front-is made l =
+front_is : (made l : List ℕ) → out_after made l ≡ sets l 0 made
+front_is made l =
     let w : Wrote l 0 made (length made) (sets l 0 made) (length made) = record { bytes = refl; place = omega arith; few = le_refl (length made) } in
-    sym (out-is w)
+    sym (out_is w)
 
 part-is : (made out : List ℕ) (from : ℕ) → from ≤ length out → take from out ++ out_after made (drop from out) ≡ sets out from made
-part-is made out zero h = front-is made out
+part-is made out zero h = front_is made out
 part-is made [] (suc from) h = absurd (omega arith)
 part-is made (x ∷ out) (suc from) h = ap (λ (l : List ℕ). x ∷ l) (part-is made out from (omega arith)) ∙ sym (sets-later x out from made)
 

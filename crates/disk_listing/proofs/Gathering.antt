@@ -34,13 +34,13 @@ use Rattle.disk_listing.specs.PrivateContracts.{with_file, Small, Gathered}
 pub no-file : (tracks findings : List ℕ) (at from : ℕ) → TakenFile Unreadable tracks tracks at findings findings from
 unfolding told tracks_of findings_of
 no-file tracks findings at from =
-    record { outcome = unreadable; one-file = not_opened; file-is = refl; tracks-are = refl; findings-are = refl; few = omega arith }
+    record { outcome = unreadable; one_file = not_opened; file_is = refl; tracks_are = refl; findings_are = refl; few = omega arith }
 
 module _ (buffer : List ℕ) (long : length buffer ≡ 16384) {first : Reader} {cleared : List ℕ}
     (started : (first ≡ start_of (length buffer)) × (cleared ≡ start_cells buffer)) {input : Input} {cells : List ℕ}
     (through : ReadThrough first cleared input cells) where
-  one-file : OneFile (outcome_of input through.reads)
-  one-file = opened through.reads input (rw long at (all-from-start buffer started through))
+  one_file : OneFile (outcome_of input through.reads)
+  one_file = opened through.reads input (rw long at (all-from-start buffer started through))
 
   abbrev file : List ℕ
   file = whole_of (portions_of through.reads)
@@ -51,10 +51,10 @@ module _ (buffer : List ℕ) (long : length buffer ≡ 16384) {first : Reader} {
   not-read tracks findings at from e =
       record {
         outcome = unreadable;
-        one-file = subst OneFile e one-file;
-        file-is = refl;
-        tracks-are = refl;
-        findings-are = refl;
+        one_file = subst OneFile e one_file;
+        file_is = refl;
+        tracks_are = refl;
+        findings_are = refl;
         few = omega arith;
       }
 
@@ -84,10 +84,10 @@ module _ (buffer : List ℕ) (long : length buffer ≡ 16384) {first : Reader} {
         let is : outcome_of input through.reads ≡ brings (track_of_file 16384 file) = rw ended in
         record {
           outcome = brings (track_of_file 16384 file);
-          one-file = subst OneFile is one-file;
-          file-is = e;
-          tracks-are = adds-file.1.0;
-          findings-are = adds-file.1.1;
+          one_file = subst OneFile is one_file;
+          file_is = e;
+          tracks_are = adds-file.1.0;
+          findings_are = adds-file.1.1;
           few = few-numbers 16384 file;
         }
 
@@ -125,19 +125,19 @@ module _ {disk : Disk} {tracks findings : List ℕ} {next : ℕ} (before : Gathe
   -- what with_file asks
   small : (o : Outcome) → length (findings_of o) ≤ 3604 → next < 0xFFFF_FFFF_FFFF_FFFF → Small disk (told o)
   unfolding Small told findings_of finding_numbers
-  small (brings (gives found)) h m = (few, omega (arith, h, length-numbers found.findings, before.few-findings, few))
-  small (brings (refused number value)) h m = omega (arith, before.few-left)
-  small unreadable h m = (omega (arith, before.few-left), omega (arith, before.few-unread))
+  small (brings (gives found)) h m = (few, omega (arith, h, length-numbers found.findings, before.few_findings, few))
+  small (brings (refused number value)) h m = omega (arith, before.few_left)
+  small unreadable h m = (omega (arith, before.few_left), omega (arith, before.few_unread))
 
   pub small-after : next < 0xFFFF_FFFF_FFFF_FFFF → Small disk file
-  small-after m = subst (Small disk) (sym taken.file-is) (small taken.outcome taken.few m)
+  small-after m = subst (Small disk) (sym taken.file_is) (small taken.outcome taken.few m)
 
   -- the counts, by what the file brings
   record Counts (o : Outcome) (later-disk : Disk) : Type 0 where
-    pub tracks-is : later-disk.tracks ≡ disk.tracks + length (tracks_of o)
-    pub findings-is : later-disk.findings ≡ disk.findings + length (findings_of o)
+    pub tracks_is : later-disk.tracks ≡ disk.tracks + length (tracks_of o)
+    pub findings_is : later-disk.findings ≡ disk.findings + length (findings_of o)
     pub left_is : later-disk.left ≡ disk.left + left_out o
-    pub unread-is : later-disk.unreadable ≡ disk.unreadable + not_read o
+    pub unread_is : later-disk.unreadable ≡ disk.unreadable + not_read o
     pub rises : 3 * length (findings_of o) ≤ 3604 * length (tracks_of o)
     pub at_most : (left_out o ≤ 1) × (not_read o ≤ 1)
 
@@ -145,28 +145,28 @@ module _ {disk : Disk} {tracks findings : List ℕ} {next : ℕ} (before : Gathe
   unfolding with_file told tracks_of findings_of track_numbers finding_numbers left_out not_read
   counts (brings (gives found)) h =
       let n = length-numbers found.findings in
-      record { tracks-is = refl; findings-is = omega (arith, n); left_is = omega arith; unread-is = omega arith; rises = omega (arith, h); at_most = (omega arith, omega arith) }
+      record { tracks_is = refl; findings_is = omega (arith, n); left_is = omega arith; unread_is = omega arith; rises = omega (arith, h); at_most = (omega arith, omega arith) }
   counts (brings (refused number value)) h =
-      record { tracks-is = omega arith; findings-is = omega arith; left_is = refl; unread-is = omega arith; rises = omega arith; at_most = (omega arith, omega arith) }
+      record { tracks_is = omega arith; findings_is = omega arith; left_is = refl; unread_is = omega arith; rises = omega arith; at_most = (omega arith, omega arith) }
   counts unreadable h =
-      record { tracks-is = omega arith; findings-is = omega arith; left_is = refl; unread-is = refl; rises = omega arith; at_most = (omega arith, omega arith) }
+      record { tracks_is = omega arith; findings_is = omega arith; left_is = refl; unread_is = refl; rises = omega arith; at_most = (omega arith, omega arith) }
 
   pub one-file-more : {then : Disk} → length tracks ≡ 507 → length findings ≡ 609076 → then ≡ with_file disk file → Gathered then after later (next + 1)
   one-file-more {then} long-tracks long-findings e =
       let o = taken.outcome in
-      let is : then ≡ with_file disk (told o) = e ∙ ap (with_file disk) taken.file-is in
+      let is : then ≡ with_file disk (told o) = e ∙ ap (with_file disk) taken.file_is in
       let c : Counts o then = subst (Counts o) (sym is) (counts o taken.few) in
       let t = three o in
       let a : take then.tracks after ≡ take disk.tracks tracks ++ tracks_of o =
-      rw c.tracks-is (added tracks (tracks_of o) disk.tracks taken.tracks-are (omega (arith, long-tracks, few))) in
+      rw c.tracks_is (added tracks (tracks_of o) disk.tracks taken.tracks_are (omega (arith, long-tracks, few))) in
       let b : take then.findings later ≡ take disk.findings findings ++ findings_of o =
-      rw c.findings-is (added findings (findings_of o) disk.findings taken.findings-are (omega (arith, long-findings, few, before.few-findings, taken.few))) in
+      rw c.findings_is (added findings (findings_of o) disk.findings taken.findings_are (omega (arith, long-findings, few, before.few_findings, taken.few))) in
       record {
-        files = rw (a, b, c.left_is, c.unread-is) (one_more before.files taken.one-file);
-        few-tracks = omega (arith, c.tracks-is, few, t);
-        few-findings = omega (arith, c.tracks-is, c.findings-is, c.rises, before.few-findings);
-        few-left = omega (arith, c.left_is, c.at_most.0, before.few-left);
-        few-unread = omega (arith, c.unread-is, c.at_most.1, before.few-unread);
+        files = rw (a, b, c.left_is, c.unread_is) (one_more before.files taken.one_file);
+        few_tracks = omega (arith, c.tracks_is, few, t);
+        few_findings = omega (arith, c.tracks_is, c.findings_is, c.rises, before.few_findings);
+        few_left = omega (arith, c.left_is, c.at_most.0, before.few_left);
+        few_unread = omega (arith, c.unread_is, c.at_most.1, before.few_unread);
       }
 
 -- the counts after a file, by what is told of it
@@ -201,7 +201,7 @@ module _ (disk : Disk) {file : File} where
 -- no file yet
 pub no-files : (tracks findings : List ℕ) → Gathered (record { tracks = 0; findings = 0; left = 0; unreadable = 0 }) tracks findings 1
 no-files tracks findings =
-    record { files = none; few-tracks = omega arith; few-findings = omega arith; few-left = omega arith; few-unread = omega arith }
+    record { files = none; few_tracks = omega arith; few_findings = omega arith; few_left = omega arith; few_unread = omega arith }
 
 -- the end: no argument is left, or there are too many tracks
 pub gathered : (words : ℕ) {disk : Disk} {tracks findings : List ℕ} {next : ℕ} → Gathered disk tracks findings next → length tracks ≡ 507
@@ -209,10 +209,10 @@ pub gathered : (words : ℕ) {disk : Disk} {tracks findings : List ℕ} {next : 
     → ((disk.tracks ≤ 507) × (disk.findings ≤ 609076))
     × AllFiles words (take disk.tracks tracks) (take disk.findings findings) disk.left disk.unreadable
 gathered words {disk} {tracks} {next = next} g long all = (
-  (g.few-tracks, omega (arith, g.few-tracks, g.few-findings)),
+  (g.few_tracks, omega (arith, g.few_tracks, g.few_findings)),
   record {
     next = next;
     files = g.files;
-    all = λ h. all (omega (arith, h, length-take-le disk.tracks tracks (omega (arith, g.few-tracks, long))));
+    all = λ h. all (omega (arith, h, length-take-le disk.tracks tracks (omega (arith, g.few_tracks, long))));
   },
 )

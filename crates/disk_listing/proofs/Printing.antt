@@ -18,7 +18,7 @@ use Rattle.refusals.specs.declared.Refusal.{Refusal}
 use Rattle.disk_listing.specs.declared.Printed.TheVariants.{Whole}
 use Rattle.disk_listing.specs.declared.Printed.TheVariants.{Refused as PageRefused}
 use Rattle.disk_listing.specs.DiskOfFiles.{PagePrinted}
-use Rattle.disk_listing.specs.DiskOfFiles.PagePrinted.{whole, page-refused}
+use Rattle.disk_listing.specs.DiskOfFiles.PagePrinted.{whole, page_refused}
 
 -- an answer that is given where another one is
 pub record Accepted (answer : Answer ℕ) : Type 0 where
@@ -35,13 +35,13 @@ still-refused (refused a b) n e m = e
 module _ (tracks findings : List ℕ) where
   -- the first parts are printed
   pub record PartsPrinted (total part : ℕ) : Type 0 where
-    pub total-is : total ≡ length (joined (part_of tracks findings) part)
+    pub total_is : total ≡ length (joined (part_of tracks findings) part)
     pub few : total ≤ 72080 * part
-    pub whole-too : (part ≡ 0 → ⊥) → Accepted (judged tracks findings)
+    pub whole_too : (part ≡ 0 → ⊥) → Accepted (judged tracks findings)
 
   pub none-printed : PartsPrinted 0 0
   unfolding joined
-  none-printed = record { total-is = refl; few = omega arith; whole-too = λ f. absurd (f refl) }
+  none-printed = record { total_is = refl; few = omega arith; whole_too = λ f. absurd (f refl) }
 
   module _ {answer : Counted} (part : ℕ) (is : counted_answer answer ≡ part_answer tracks findings part) where
     pub one-more-printed : {total count : ℕ} → PartsPrinted total part → answer ≡ Count count → count ≤ 72080 → PartsPrinted (total + count) (part + 1)
@@ -50,21 +50,21 @@ module _ (tracks findings : List ℕ) where
         let a = accepted (judged tracks findings) (sym is ∙ ap counted_answer e) in
         let more = joined-more (part_of tracks findings) part in
         record {
-          total-is =
-              rw more (omega (arith, before.total-is, a.0, length-append (joined (part_of tracks findings) part) (part_of tracks findings part)));
+          total_is =
+              rw more (omega (arith, before.total_is, a.0, length-append (joined (part_of tracks findings) part) (part_of tracks findings part)));
           few = omega (arith, before.few, small);
-          whole-too = λ f. a.1;
+          whole_too = λ f. a.1;
         }
 
     pub refusal-told : {refusal : Refusal} {number : ℕ} → answer ≡ Refused refusal → number ≡ number_of refusal → PagePrinted tracks findings (PageRefused number)
     unfolding part_answer page_answer
     refusal-told {refusal} {number} e n =
-        page-refused {number = number} {value = value_of refusal}
+        page_refused {number = number} {value = value_of refusal}
         (rw n (still-refused (judged tracks findings) (length (part_of tracks findings part)) (sym is ∙ ap counted_answer e) (length (page_of tracks findings))))
 
   pub all-printed : {total part : ℕ} → PartsPrinted total part → 169 ≤ part → part ≤ 169 → PagePrinted tracks findings (Whole total)
   unfolding page_answer
   all-printed {total} {part} printed h g =
       let p : part ≡ 169 = omega arith in
-      let t : total ≡ length (page_of tracks findings) = printed.total-is ∙ rw (p, parts-are-page tracks findings) in
-      whole {total = total} (rw t ((printed.whole-too (λ z. absurd (omega (arith, z, h)))).given (length (page_of tracks findings))))
+      let t : total ≡ length (page_of tracks findings) = printed.total_is ∙ rw (p, parts-are-page tracks findings) in
+      whole {total = total} (rw t ((printed.whole_too (λ z. absurd (omega (arith, z, h)))).given (length (page_of tracks findings))))

@@ -52,10 +52,10 @@ findings_of unreadable = []
 -- There are at most 901 findings
 pub record TakenFile (file : File) (tracks after : List ℕ) (at : ℕ) (findings later : List ℕ) (from : ℕ) : Type 0 where
   pub outcome : Outcome
-  pub one-file : OneFile outcome
-  pub file-is : file ≡ told outcome
-  pub tracks-are : after ≡ sets tracks at (tracks_of outcome)
-  pub findings-are : later ≡ sets findings from (findings_of outcome)
+  pub one_file : OneFile outcome
+  pub file_is : file ≡ told outcome
+  pub tracks_are : after ≡ sets tracks at (tracks_of outcome)
+  pub findings_are : later ≡ sets findings from (findings_of outcome)
   pub few : length (findings_of outcome) ≤ 3604
 
 -- 13.45: whether it is left out, and whether it cannot be read, as 1 or 0
@@ -91,5 +91,5 @@ pub record FilesTaken (tracks findings : List ℕ) (left unread : ℕ) : Type 0 
 -- a part of it was not taken
 pub data PagePrinted (tracks findings : List ℕ) : Printed → Type 0 where
   whole : {total : ℕ} → page_answer tracks findings ≡ gives total → PagePrinted tracks findings (Whole total)
-  page-refused : {number value : ℕ} → page_answer tracks findings ≡ refused number value → PagePrinted tracks findings (PageRefused number)
+  page_refused : {number value : ℕ} → page_answer tracks findings ≡ refused number value → PagePrinted tracks findings (PageRefused number)
   not_taken : PagePrinted tracks findings NotTaken

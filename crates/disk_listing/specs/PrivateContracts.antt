@@ -23,7 +23,7 @@ Small disk Unreadable = (disk.left ≤ 0xFFFF_FFFF_FFFF_FFFE) × (disk.unreadabl
 -- of the files before argument `next` the tracks and findings stand at the front of the two lists
 pub record Gathered (disk : Disk) (tracks findings : List ℕ) (next : ℕ) : Type 0 where
   pub files : Files (take disk.tracks tracks) (take disk.findings findings) disk.left disk.unreadable next
-  pub few-tracks : disk.tracks ≤ 507
-  pub few-findings : 3 * disk.findings ≤ 3604 * disk.tracks
-  pub few-left : disk.left ≤ next
-  pub few-unread : disk.unreadable ≤ next
+  pub few_tracks : disk.tracks ≤ 507
+  pub few_findings : 3 * disk.findings ≤ 3604 * disk.tracks
+  pub few_left : disk.left ≤ next
+  pub few_unread : disk.unreadable ≤ next

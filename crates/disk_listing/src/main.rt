@@ -12,9 +12,10 @@ ghost use Rattle.disk_listing.specs.DiskOfFiles.{TakenFile, AllFiles, FilesTaken
 ghost use Rattle.disk_listing.specs.PrivateContracts.{with_file, Small, Gathered};
 
 use refusals::Counted;
-use std::env::Env;
+use std::env::{Env, FillError};
 use std::fs::Files;
 use std::io::Read;
+use std::{fs, io, str};
 use track_input::Input;
 
 // Room for one track more than a page can have. With so many the page is refused, and the files after them are not read.
@@ -50,6 +51,14 @@ enum Printed {
     NotTaken,
 }
 
+// Opens the file of this name for reading. std opens none whose name is not UTF-8.
+fn open<F: Files>(files: &F, name: &[u8]) -> io::Result<F::File> {
+    match str::from_utf8(name) {
+        Ok(text) => fs::open(files, text),
+        Err(_) => Err(io::Error::from(io::ErrorKind::InvalidFilename)),
+    }
+}
+
 // Reads the file of this name, and adds its track and findings to the lists, from these indices on.
 fn take_file<F: Files>(
     files: &F,
@@ -64,7 +73,7 @@ fn take_file<F: Files>(
     requires { length cells.old ≡ 16384 }
     ensures { TakenFile result tracks.old tracks.new at findings.old findings.new from }
 {
-    match system_calls::open(files, name) {
+    match open(files, name) {
         Ok(mut input) => take_input(&mut input, portion, cells, tracks, at, findings, from),
         Err(_) => File::Unreadable,
     }
@@ -147,6 +156,16 @@ fn tell_refusal<P: Print>(to: &P, number: u32) {
     let _ = to.write_all(b"\n");
 }
 
+// How many words the program was started with, its own name among them. A word for which there is no room is too long, or empty.
+fn word_count<E: Env>(env: &E) -> usize {
+    for i in 0..usize::MAX {
+        if let Err(FillError::NotPresent) = env.arg(i, &mut []) {
+            return i;
+        }
+    }
+    usize::MAX
+}
+
 // The next file, which is the program's argument i.
 fn next_file<S: Env + Files, P: Print>(
     system: &S,
@@ -194,7 +213,7 @@ fn gather<S: Env + Files, P: Print>(
     gather_words(
         system,
         messages,
-        system_calls::word_count(system),
+        word_count(system),
         name,
         portion,
         cells,
@@ -326,7 +345,7 @@ fn list_disk(rt: HostRuntime, findings: &mut [u32; FINDING_NUMBERS], out: &mut [
 }
 
 fn main(rt: HostRuntime) {
-    if system_calls::word_count(&rt) < 2 {
+    if word_count(&rt) < 2 {
         let _ = rt.stderr().write_all(b"usage: disk_listing FILE..\n");
         return;
     }

@@ -5,7 +5,7 @@ use mathlib.Core.List.{List}
 use Rattle.disk_tracks.specs.Judgement.{judged}
 use Rattle.disk_tracks.proofs.Branches.{accepted}
 use Rattle.lines.specs.Writing.{Wrote}
-use Rattle.lines.proofs.Writing.{answer-is, out-is}
+use Rattle.lines.proofs.Writing.{answer_is, out_is}
 use Rattle.refusals.specs.RefusedCalls.{refused_with, buffer_after}
 use Rattle.refusals.specs.RefusedCalls.Answer.{gives}
 use Rattle.refusals.specs.declared.Refusal.{Refusal}
@@ -25,7 +25,7 @@ module _ (tracks findings : List ℕ) where
   pub accepted-told : {n r : ℕ} {after : List ℕ} (out : List ℕ) → judged tracks findings ≡ gives n → Wrote out 0 (page_of tracks findings) far after r
       → (gives r ≡ page_answer tracks findings) × (after ≡ page_after tracks findings out)
   unfolding page_answer page_after buffer_after
-  accepted-told out e w = rw e (ap gives (answer-is w), out-is w)
+  accepted-told out e w = rw e (ap gives (answer_is w), out_is w)
 
   -- the same of a part
   pub part-refused : (part : ℕ) (out : List ℕ) (r : Refusal) → judged tracks findings ≡ refused_with r
@@ -37,4 +37,4 @@ module _ (tracks findings : List ℕ) where
       → Wrote out 0 (part_of tracks findings part) far after r
       → (gives r ≡ part_answer tracks findings part) × (after ≡ part_after tracks findings part out)
   unfolding part_answer part_after buffer_after
-  part-accepted part out e w = rw e (ap gives (answer-is w), out-is w)
+  part-accepted part out e w = rw e (ap gives (answer_is w), out_is w)

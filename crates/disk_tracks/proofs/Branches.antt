@@ -16,8 +16,8 @@ use Rattle.disk_tracks.specs.Judgement.{some_outside, some_twice, add_up, amiss_
 
 -- what it means that they add up
 pub record AddedUp (tracks findings : List ℕ) : Type 0 where
-  pub tracks-whole : length tracks % 3 ≡ 0
-  pub findings-whole : length findings % 4 ≡ 0
+  pub tracks_whole : length tracks % 3 ≡ 0
+  pub findings_whole : length findings % 4 ≡ 0
   pub sum : before tracks (tracks_in tracks) ≡ findings_in findings
 
 module _ (tracks findings : List ℕ) where
@@ -29,8 +29,8 @@ module _ (tracks findings : List ℕ) where
       let c = eqb (before tracks (tracks_in tracks)) (findings_in findings) in
       let ab = and_left (a && b) c e in
       record {
-        tracks-whole = eqb-true _ _ (and_left a b ab);
-        findings-whole = eqb-true _ _ (and_right a b ab);
+        tracks_whole = eqb-true _ _ (and_left a b ab);
+        findings_whole = eqb-true _ _ (and_right a b ab);
         sum = eqb-true _ _ (and_right (a && b) c e);
       }
 

@@ -18,7 +18,7 @@ use Rattle.finding_rules.specs.Rules.{no_row, nth, track_rows, id_rows, data_row
 use Rattle.finding_rules.specs.declared.Row.{Row}
 use Rattle.basis.specs.Lists.{joined}
 use Rattle.finding_list.specs.Findings.{row_at, kinds, of_kind}
-use Rattle.finding_list.proofs.MostFindings.{few-findings}
+use Rattle.finding_list.proofs.MostFindings.{few_findings}
 use Rattle.finding_list.proofs.Others.{length-kept}
 use Rattle.finding_list.specs.PrivateContracts.{BoundedSector, BoundedTrack, Within, Narrow, sectors_in}
 use Rattle.mfm.specs.Coding.{byte_on, data_cell}
@@ -46,10 +46,10 @@ near-record layout sound f bit p h =
       track = byte-few f bit _;
       side = byte-few f bit _;
       number = byte-few f bit _;
-      size-code = byte-few f bit _;
-      data-place = place (data_found layout f p) refl;
-      data-mark = mark (data_found layout f p);
-      data-end = end (data_found layout f p) refl;
+      size_code = byte-few f bit _;
+      data_place = place (data_found layout f p) refl;
+      data_mark = mark (data_found layout f p);
+      data_end = end (data_found layout f p) refl;
     }
   where
     place : (b : Bool) → data_found layout f p ≡ b → cond b (least_data layout f p) 0 ≤ 200000
@@ -72,10 +72,10 @@ no_record =
       track = omega arith;
       side = omega arith;
       number = omega arith;
-      size-code = omega arith;
-      data-place = omega arith;
-      data-mark = omega arith;
-      data-end = omega arith;
+      size_code = omega arith;
+      data_place = omega arith;
+      data_mark = omega arith;
+      data_end = omega arith;
     }
 
 near-sector : (layout : Layout) → Sound layout → (bytes : List ℕ) (n i : ℕ) → n ≤ 131072 → BoundedSector (nth (sectors_of layout bytes n) i)
@@ -89,7 +89,7 @@ near-sector layout sound bytes n i short = go (dec_le (length (sectors_of layout
 
 within-record : (layout : Layout) → Sound layout → (f : ℕ → ℕ) (n p : ℕ) → 20000 ≤ n → p ≤ n → Within n (sector_at layout f p)
 unfolding sector_at data_length
-within-record layout sound f n p h l = record { id-inside = omega arith; data-inside = end (data_found layout f p) refl }
+within-record layout sound f n p h l = record { id_inside = omega arith; data_inside = end (data_found layout f p) refl }
   where
     end : (b : Bool) → data_found layout f p ≡ b → cond b (end_of_data layout.mark_length (least_data layout f p) (cond b (length_of (id_byte layout.mark_length f p 3)) 0)) 0 ≤ n + n
     end true e = omega (arith, sound.near, sound.mark, leb-true (least_data layout f p) (p + layout.reach) e, length_most (id_byte layout.mark_length f p 3))
@@ -99,7 +99,7 @@ within-sector : (layout : Layout) → Sound layout → (bytes : List ℕ) (n i :
 within-sector layout sound bytes n i long = go (dec_le (length (sectors_of layout bytes n)) i)
   where
     go : Dec (length (sectors_of layout bytes n) ≤ i) → Within n (nth (sectors_of layout bytes n) i)
-    go (yes h) = rw (get_or-eq_default (sectors_of layout bytes n) no_sector h) record { id-inside = omega arith; data-inside = omega arith }
+    go (yes h) = rw (get_or-eq_default (sectors_of layout bytes n) no_sector h) record { id_inside = omega arith; data_inside = omega arith }
     go (no h) =
         let s = sector-of-mark layout bytes n i (lt_of_not-le h) in
         rw s.made (within-record layout sound (cell bytes n) n _ long (omega (arith, s.below)))
@@ -174,7 +174,7 @@ module _ (s : Sector) (near : BoundedSector s) where
       on-sector _ _ (omega (arith, near.track)),
       (
         on-sector _ _ (omega (arith, near.side)),
-        (on-sector _ _ (omega (arith, near.size-code)), (on-sector _ _ (omega (arith, near.mark)), (on-sector _ _ (omega (arith, near.data-mark)), tt))),
+        (on-sector _ _ (omega (arith, near.size_code)), (on-sector _ _ (omega (arith, near.mark)), (on-sector _ _ (omega (arith, near.data_mark)), tt))),
       ),
     ),
   )
@@ -187,7 +187,7 @@ module _ (s : Sector) (near : BoundedSector s) where
       on-sector _ _ number,
       (
         on-sector _ _ number,
-        (on-sector _ _ (omega (arith, near.data-end)), (on-sector _ _ (omega (arith, near.data-place)), tt)),
+        (on-sector _ _ (omega (arith, near.data_end)), (on-sector _ _ (omega (arith, near.data_place)), tt)),
       ),
     ),
   )
@@ -196,7 +196,7 @@ module _ (s : Sector) (near : BoundedSector s) where
   unfolding sector_rows
   narrow-sector layout sound f N T ss =
       narrow-append (id_rows layout T s) _ (narrow-id layout T)
-      (narrow-append (data_rows N s) _ (narrow-data N) (on-sector _ _ number, (on-sector _ _ (omega (arith, inside-few layout sound f s, near.data-end)), tt)))
+      (narrow-append (data_rows N s) _ (narrow-data N) (on-sector _ _ number, (on-sector _ _ (omega (arith, inside-few layout sound f s, near.data_end)), tt)))
 
 -- each row of the table
 pub row-narrow : (layout : Layout) → Sound layout → (f : ℕ → ℕ) (N T : ℕ) (ss : List Sector) → N ≤ 131072 → length ss ≤ 64 → (k i : ℕ) → BoundedSector (nth ss i) → Narrow (row_at layout f N T ss k i)
@@ -211,4 +211,4 @@ row-narrow layout sound f N T ss h l k i near =
 pub few-kept : (density : Density) (bytes : List ℕ) (n track : ℕ) (ss : Sectors) → BoundedTrack n ss → length (joined (of_kind (layout_of density) (cell bytes n) n track (sectors_in ss)) kinds) ≤ 901
 few-kept density bytes n track ss b =
     let size : length (sectors_in ss) ≤ 64 = omega (arith, length-kept ss b.few, b.few.few) in
-    few-findings (layout_of density) (sound density) (cell bytes n) n track (sectors_in ss) size
+    few_findings (layout_of density) (sound density) (cell bytes n) n track (sectors_in ss) size

@@ -53,7 +53,7 @@ pub record Holds (layout : Layout) (bytes : List ℕ) (N T kind place detail : �
   pub below : look < looks (sectors_of layout bytes N) (kind - 1)
   pub holds : (row_of layout bytes N T kind look).holds ≡ true
   pub place_is : place ≡ (row_of layout bytes N T kind look).place
-  pub detail-is : detail ≡ (row_of layout bytes N T kind look).detail
+  pub detail_is : detail ≡ (row_of layout bytes N T kind look).detail
 
 -- no rule holds at any look
 abbrev pub NoRule : Layout → List ℕ → (N T : ℕ) → Type 0
@@ -161,14 +161,14 @@ module _ (layout : Layout) (bytes : List ℕ) (N T : ℕ) where
               below = rw e at c.below;
               holds = rw e at c.holds;
               place_is = rw e at (ap (λ (x : Finding). x.place) c.is);
-              detail-is = rw e at (ap (λ (x : Finding). x.detail) c.is);
+              detail_is = rw e at (ap (λ (x : Finding). x.detail) c.is);
             }
 
     stands : Holds layout bytes N T kind p d → Stands layout bytes N T kind p d
     unfolding findings_of of_kind found_at
     stands w =
         let e : kind - 1 + 1 ≡ kind = omega arith in
-        let is : finding kind p d ≡ finding_by (kind - 1) (row (kind - 1) w.look) = rw (e, w.place_is, w.detail-is) in
+        let is : finding kind p d ≡ finding_by (kind - 1) (row (kind - 1) w.look) = rw (e, w.place_is, w.detail_is) in
         Memᴰ.cast is
         (joined-has (of_kind layout (cell bytes N) N T ss) kinds (kind - 1) _ (omega arith)
         (joined-has (found_at layout (cell bytes N) N T ss (kind - 1)) (looks ss (kind - 1)) w.look _ w.below (found-has (kind - 1) (row (kind - 1) w.look) w.holds)))
@@ -183,7 +183,7 @@ module _ (layout : Layout) (bytes : List ℕ) (N T : ℕ) where
       none : findings_of layout bytes N T ≡ [] → NoRule layout bytes N T
       none e kind look low high below =
           fails _
-          (λ t. Memᴰ.not-nil (rw e at (stands kind _ _ low high (record { look = look; below = below; holds = t; place_is = refl; detail-is = refl }))))
+          (λ t. Memᴰ.not-nil (rw e at (stands kind _ _ low high (record { look = look; below = below; holds = t; place_is = refl; detail_is = refl }))))
 
       at_none : NoRule layout bytes N T → (x : Finding) (kind k : ℕ) → kind - 1 ≡ k → 1 ≤ kind → kind ≤ kinds → ComesAt k x → ⊥
       at_none none x kind k e low high c =
@@ -230,4 +230,4 @@ module _ (layout : Layout) (bytes : List ℕ) (N T : ℕ) where
       let is : finding x.kind x.place x.detail ≡ x = rw (← level) in
       let s : Stands layout bytes N T 4 x.place x.detail = rw e at (Memᴰ.cast is m) in
       let t = held 4 x.place x.detail (omega arith) (omega arith) s in
-      (rw e at level, t.place_is, t.detail-is, leb-true T 79 (second-passes (eqb (length ss) 0) (leb T 79) t.holds))
+      (rw e at level, t.place_is, t.detail_is, leb-true T 79 (second-passes (eqb (length ss) 0) (leb T 79) t.holds))

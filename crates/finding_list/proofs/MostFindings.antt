@@ -113,8 +113,8 @@ module _ (layout : Layout) (sound : Sound layout) (f : ℕ → ℕ) (N T : ℕ) 
   last-few : (k : ℕ) → k < 2 → number (19 + k) ≤ 1
   last-few k h = rw (looks-last ss (19 + k) (omega arith)) at (looks-few (19 + k))
 
-  pub few-findings : length ss ≤ 64 → length (joined (of_kind layout f N T ss) kinds) ≤ most_findings
+  pub few_findings : length ss ≤ 64 → length (joined (of_kind layout f N T ss) kinds) ≤ most_findings
   unfolding number
-  few-findings h =
+  few_findings h =
       rw (length-joined (of_kind layout f N T ss) kinds)
       (omega (arith, first-few, sum-few number (length ss) 5 14 sector-few, sum-few number 1 19 2 last-few))

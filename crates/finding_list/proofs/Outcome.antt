@@ -10,7 +10,7 @@ use Rattle.finding_list.specs.Calls.{survey_answer, sectors_given, array_after}
 use Rattle.finding_list.specs.Findings.{kinds, of_kind, findings_of}
 use Rattle.finding_list.specs.PrivateContracts.{sectors_in, Added}
 use Rattle.finding_list.proofs.Bounds.{sectors-kept}
-use Rattle.finding_list.proofs.MostFindings.{few-findings}
+use Rattle.finding_list.proofs.MostFindings.{few_findings}
 use Rattle.finding_list.proofs.Numbers.{array-is}
 use Rattle.refusals.specs.RefusedCalls.Answer.{gives, refused}
 use Rattle.sectors.specs.Calls.{sectors_answer}
@@ -22,7 +22,7 @@ use Rattle.sectors.proofs.Calls.{judged-accepted, list-accepted, Follows, follow
 
 pub findings-few : (layout : Layout) → Sound layout → (bytes : List ℕ) (N T : ℕ) → length (sectors_of layout bytes N) ≤ 64 → length (findings_of layout bytes N T) ≤ 901
 unfolding findings_of
-findings-few layout sound bytes N T few = few-findings layout sound (cell bytes N) N T (sectors_of layout bytes N) few
+findings-few layout sound bytes N T few = few_findings layout sound (cell bytes N) N T (sectors_of layout bytes N) few
 
 module _ (layout : Layout) (sound : Sound layout) (bytes : List ℕ) (N T H : ℕ) where
   -- the findings are listed after the sectors

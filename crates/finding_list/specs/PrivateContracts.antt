@@ -26,15 +26,15 @@ pub record BoundedSector (s : Sector) : Type 0 where
   pub track : s.track ≤ 255
   pub side : s.side ≤ 255
   pub number : s.number ≤ 255
-  pub size-code : s.size_code ≤ 255
-  pub data-place : s.data_place ≤ 200000
-  pub data-mark : s.data_mark ≤ 255
-  pub data-end : s.data_end ≤ 150000
+  pub size_code : s.size_code ≤ 255
+  pub data_place : s.data_place ≤ 200000
+  pub data_mark : s.data_mark ≤ 255
+  pub data_end : s.data_end ≤ 150000
 
 -- a sector that goes round a track of n cells once at most
 pub record Within (n : ℕ) (s : Sector) : Type 0 where
-  pub id-inside : s.place + 160 ≤ n + n
-  pub data-inside : s.data_end ≤ n + n
+  pub id_inside : s.place + 160 ≤ n + n
+  pub data_inside : s.data_end ≤ n + n
 
 -- a sector, and its data where it has some, lie before a place, and the data is not before the ID
 pub record Clear (s : Sector) (free : ℕ) : Type 0 where

@@ -80,8 +80,8 @@ records-back (x ∷ xs) rest h (suc i) l =
     next-finding x.kind x.level x.place x.detail (numbers_of xs ++ rest) i ∙ records-back xs rest h.1 i (omega arith)
 
 -- the first c findings of a list of numbers that starts with them
-pub front-is : (xs : List Finding) (numbers : List ℕ) → Narrow xs → take (4 * length xs) numbers ≡ numbers_of xs → listed (finding_at numbers) (length xs) ≡ xs
-front-is xs numbers h e = sym (is-listed (finding_at numbers) no_finding xs same)
+pub front_is : (xs : List Finding) (numbers : List ℕ) → Narrow xs → take (4 * length xs) numbers ≡ numbers_of xs → listed (finding_at numbers) (length xs) ≡ xs
+front_is xs numbers h e = sym (is-listed (finding_at numbers) no_finding xs same)
   where
     same : (i : ℕ) → i < length xs → get_or xs i no_finding ≡ finding_at numbers i
     same i l =
@@ -110,10 +110,10 @@ module _ (layout : Layout) (bytes : List ℕ) (N T H : ℕ) where
       narrow-joined _ kinds (λ k h. narrow-joined _ _ (λ i l. narrow-found k h (row_at layout (cell bytes N) N T (sectors_of layout bytes N) k i)))
 
   -- the caller's list after as many stores as the answer has the call write
-  pub list-is : (list : List Finding) (numbers : List ℕ) (c : ℕ) → c ≡ count_written (findings_answer layout bytes N T H (length list)) → c ≤ length list
+  pub list_is : (list : List Finding) (numbers : List ℕ) (c : ℕ) → c ≡ count_written (findings_answer layout bytes N T H (length list)) → c ≤ length list
       → take (4 * c) numbers ≡ numbers_of (take c (findings_of layout bytes N T)) → filled (finding_at numbers) list c ≡ list_after layout bytes N T H list
-  list-is list numbers c e h n =
+  list_is list numbers c e h n =
       let xs = findings_of layout bytes N T in
       let l : length (take c xs) ≡ c = length-take-le c xs (omega (arith, written-few layout bytes N T H (length list))) in
-      let s : listed (finding_at numbers) c ≡ take c xs = rw l at (front-is (take c xs) numbers (narrow-take c xs findings-narrow) (rw l n)) in
+      let s : listed (finding_at numbers) c ≡ take c xs = rw l at (front_is (take c xs) numbers (narrow-take c xs findings-narrow) (rw l n)) in
       filled_is (finding_at numbers) list c h ∙ rw (s, e) (findings-written layout bytes N T H (length list) list)

@@ -58,15 +58,15 @@ module _ (file before : List ℕ) {after : List ℕ} {answer : Answer ℕ} (is-a
       let rest = drop (length (new_file file)) before in
       let few : n < 0x1_0000_0000 = omega (arith, ok.few) in
       let is : after ≡ new_file file ++ rest = is-after ∙ ap (λ (a : Answer ℕ). buffer_after a (new_file file) before) given in
-      let count-is : cell_count after ≡ n = ap cell_count is ∙ count-read (track_of file) (side_of file) n (flux_cells file) rest few in
+      let count_is : cell_count after ≡ n = ap cell_count is ∙ count-read (track_of file) (side_of file) n (flux_cells file) rest few in
       let cells_are : packed_bytes after ≡ packed (cells_of ts) =
       ap packed_bytes is ∙ cells-read (track_of file) (side_of file) n (flux_cells file) rest few (length-packed (cells_of ts)) in
-      let fits : bytes_for n ≤ length buffer = subst (λ (k : ℕ). bytes_for k ≤ length buffer) count-is room in
+      let fits : bytes_for n ≤ length buffer = subst (λ (k : ℕ). bytes_for k ≤ length buffer) count_is room in
       let separated : gives n ≡ separation ts (length buffer) =
       sym
       (separation-judged ts ok.flux.some ok.flux.few (length buffer)
       ∙ rw (le-ltb (first_out ts) (length ts) (omega (arith, ok.all)), le-ltb 131072 n ok.few, le-ltb (length buffer) (bytes_for n) fits)) in
-      as-told count-is cells_are (promised ts buffer separated refl).1.1
+      as-told count_is cells_are (promised ts buffer separated refl).1.1
 
   refused-by-table : refused_at_once file ≡ false → not_a_flux_file file ≡ false → (D J : ℕ) → taken D J ≤ 998 → (p q : ℤ) (vs : List Reversal) → Tolerable D J p q vs ts
       → answer ≡ in_room (length before) (placed (track_of file) (side_of file) (some_cells (refusal_table (flux_count file) (cells_in_all vs) 16384)))

@@ -64,11 +64,11 @@ pub record Fed (portion cells₀ : List ℕ) (reader₀ : FluxReader) (from : �
   pub on : from ≤ i
   pub within : i ≤ length portion
   pub long : length cells ≡ length cells₀
-  pub to-reader : reader_after reader (drop i portion) ≡ reader_after reader₀ (drop from portion)
-  pub to-cells : cells_after reader (drop i portion) cells ≡ cells_after reader₀ (drop from portion) cells₀
+  pub to_reader : reader_after reader (drop i portion) ≡ reader_after reader₀ (drop from portion)
+  pub to_cells : cells_after reader (drop i portion) cells ≡ cells_after reader₀ (drop from portion) cells₀
 
 pub none-fed : (portion cells : List ℕ) (reader : FluxReader) (from : ℕ) → from ≤ length portion → Fed portion cells reader from cells reader from
-none-fed portion cells reader from h = record { on = omega arith; within = h; long = refl; to-reader = refl; to-cells = refl }
+none-fed portion cells reader from h = record { on = omega arith; within = h; long = refl; to_reader = refl; to_cells = refl }
 
 -- the same, as the contract of a part of the walk says it
 abbrev Said : List ℕ → List ℕ → FluxReader → ℕ → List ℕ → FluxReader → ℕ → Type 0
@@ -79,10 +79,10 @@ Said portion cells₀ reader₀ from cells reader i =
 
 module _ {portion cells₀ : List ℕ} {reader₀ : FluxReader} {from : ℕ} {cells : List ℕ} {reader : FluxReader} {i : ℕ} where
   pub as_said : {told : FluxReader} → told ≡ reader₀ → Fed portion cells₀ reader₀ from cells reader i → Said portion cells₀ told from cells reader i
-  as_said e fed = rw e (fed.on, (fed.within, (fed.to-reader, fed.to-cells)))
+  as_said e fed = rw e (fed.on, (fed.within, (fed.to_reader, fed.to_cells)))
 
   pub from-said : Said portion cells₀ reader₀ from cells reader i → length cells ≡ length cells₀ → Fed portion cells₀ reader₀ from cells reader i
-  from-said s l = record { on = s.0; within = s.1.0; long = l; to-reader = s.1.1.0; to-cells = s.1.1.1 }
+  from-said s l = record { on = s.0; within = s.1.0; long = l; to_reader = s.1.1.0; to_cells = s.1.1.1 }
 
 -- the byte at i, and the four from i on
 byte_at : (portion : List ℕ) (i j : ℕ) → j ≡ i + 1 → j ≤ length portion → drop i portion ≡ get_or portion i 0 ∷ drop j portion
@@ -116,8 +116,8 @@ module _ {portion cells₀ : List ℕ} {reader₀ : FluxReader} {from : ℕ} whe
           on = omega arith;
           within = omega arith;
           long = l ∙ fed.long;
-          to-reader = rw e.0 (ap (reader_after reader) (sym rest) ∙ fed.to-reader);
-          to-cells = rw (e.0, e.1) (ap (λ (x : List ℕ). cells_after reader x cells) (sym rest) ∙ fed.to-cells);
+          to_reader = rw e.0 (ap (reader_after reader) (sym rest) ∙ fed.to_reader);
+          to_cells = rw (e.0, e.1) (ap (λ (x : List ℕ). cells_after reader x cells) (sym rest) ∙ fed.to_cells);
         }
 
     pub more-fed : {after : List ℕ} {next : FluxReader} {j : ℕ} → Fed portion cells reader i after next j → Fed portion cells₀ reader₀ from after next j
@@ -128,8 +128,8 @@ module _ {portion cells₀ : List ℕ} {reader₀ : FluxReader} {from : ℕ} whe
           on = omega arith;
           within = more.within;
           long = more.long ∙ fed.long;
-          to-reader = more.to-reader ∙ fed.to-reader;
-          to-cells = more.to-cells ∙ fed.to-cells;
+          to_reader = more.to_reader ∙ fed.to_reader;
+          to_cells = more.to_cells ∙ fed.to_cells;
         }
 
     pub all-fed : length portion ≤ i
@@ -137,7 +137,7 @@ module _ {portion cells₀ : List ℕ} {reader₀ : FluxReader} {from : ℕ} whe
     unfolding reader_after cells_after
     all-fed h =
         let rest = drop_of_length-le portion h in
-        (ap (reader_after reader) (sym rest) ∙ fed.to-reader, ap (λ (x : List ℕ). cells_after reader x cells) (sym rest) ∙ fed.to-cells)
+        (ap (reader_after reader) (sym rest) ∙ fed.to_reader, ap (λ (x : List ℕ). cells_after reader x cells) (sym rest) ∙ fed.to_cells)
 
   -- a whole timing that is not the last
   pub timing-fed : {cells : List ℕ} {place : Place} {left : ℕ} {taken : TakenTimings} {i : ℕ}
@@ -154,6 +154,6 @@ module _ {portion cells₀ : List ℕ} {reader₀ : FluxReader} {from : ℕ} whe
         on = omega arith;
         within = h;
         long = l ∙ fed.long;
-        to-reader = rw (step, e.0, number) (ap (reader_after (Timings place left Empty taken)) (sym rest) ∙ fed.to-reader);
-        to-cells = rw (step, e.0, e.1, number) (ap (λ (x : List ℕ). cells_after (Timings place left Empty taken) x cells) (sym rest) ∙ fed.to-cells);
+        to_reader = rw (step, e.0, number) (ap (reader_after (Timings place left Empty taken)) (sym rest) ∙ fed.to_reader);
+        to_cells = rw (step, e.0, e.1, number) (ap (λ (x : List ℕ). cells_after (Timings place left Empty taken) x cells) (sym rest) ∙ fed.to_cells);
       }

@@ -9,7 +9,7 @@ use borrow.Author.Tests.{ltb-true, ltb-false}
 use lib.IntN.{ℤ, pos, negsuc}
 use lib.ListN.{length, take, length-append}
 use lib.Signed.{lt_z}
-use Rattle.system_calls.specs.Counts.{clamp_len}
+use Rattle.system_calls.specs.Counts.{count_in}
 use Rattle.track_file.specs.Portions.{start_cells}
 use Rattle.flux_file.specs.Portions.{start_of, reader_after, cells_after, reader_after_all, cells_after_all, reader_through, cells_through, is_stopped}
 use Rattle.flux_reader.specs.declared.FluxReader.{FluxReader}
@@ -50,7 +50,7 @@ take_count zero xs = rw (zero-min (length xs))
 take_count (suc n) [] = rw (min-zero (suc n))
 take_count (suc n) (x ∷ xs) = rw (suc-min-suc n (length xs)) (ap (λ (l : List ℕ). x ∷ l) (take_count n xs))
 
-counted : (got : ℤ) (portion : List ℕ) → take (clamp_len got (length portion)) portion ≡ bytes_read got portion
+counted : (got : ℤ) (portion : List ℕ) → take (count_in got (length portion)) portion ≡ bytes_read got portion
 counted (pos n) portion = take_count n portion
 counted (negsuc k) portion = refl
 
@@ -59,7 +59,7 @@ module _ (reader : FluxReader) (got : ℤ) (portion cells : List ℕ) where
   abbrev Taken : ℤ → Input → List ℕ → Type 0
   Taken got input after = (input ≡ input_after reader got portion) × (after ≡ cells_after reader (bytes_read got portion) cells)
 
-  pub taken : {seen : ℤ} → seen ≡ got → {count : ℕ} {next : FluxReader} {after : List ℕ} {input : Input} → count ≡ clamp_len seen (length portion)
+  pub taken : {seen : ℤ} → seen ≡ got → {count : ℕ} {next : FluxReader} {after : List ℕ} {input : Input} → count ≡ count_in seen (length portion)
       → (next ≡ reader_after reader (take count portion)) × (after ≡ cells_after reader (take count portion) cells) → input ≡ input_with seen next
       → Taken got input after
   unfolding input_after
@@ -109,11 +109,11 @@ pub record Reading (first : FluxReader) (before : List ℕ) (reader : FluxReader
   pub reads : List OneRead
   pub leads : Leads (Open first) reads (Open reader)
   pub cells_are : cells ≡ cells_after_all first (portions_of reads) before
-  pub turns-are : turns + length reads ≡ 18446744073709551615
+  pub turns_are : turns + length reads ≡ 18446744073709551615
 
 pub no_reads : (first : FluxReader) (before : List ℕ) → Reading first before first before 18446744073709551615
 unfolding portions_of cells_after_all
-no_reads first before = record { reads = []; leads = none; cells_are = refl; turns-are = refl }
+no_reads first before = record { reads = []; leads = none; cells_are = refl; turns_are = refl }
 
 module _ {first : FluxReader} {before : List ℕ} {reader : FluxReader} {cells : List ℕ} {turns : ℕ} (reading : Reading first before reader cells turns) where
   module _ {portion : List ℕ} {next : Input} {after : List ℕ} (taken : TakenRead reader portion cells next after) where
@@ -124,7 +124,7 @@ module _ {first : FluxReader} {before : List ℕ} {reader : FluxReader} {cells :
     reads = reading.reads ++ (read ∷ [])
 
     leads-on : Leads (Open first) reads next
-    leads-on = rw taken.input-is (led_on reading.leads read)
+    leads-on = rw taken.input_is (led_on reading.leads read)
 
     cells-on : after ≡ cells_after_all first (portions_of reads) before
     cells-on =
@@ -138,8 +138,8 @@ module _ {first : FluxReader} {before : List ℕ} {reader : FluxReader} {cells :
     pub one-read : 0 < turns → {at : FluxReader} → next ≡ Open at → Reading first before at after (turns - 1)
     one-read h goes =
         let n = length-append reading.reads (read ∷ []) in
-        let m = reading.turns-are in
-        record { reads = reads; leads = rw goes at leads-on; cells_are = cells-on; turns-are = omega arith }
+        let m = reading.turns_are in
+        record { reads = reads; leads = rw goes at leads-on; cells_are = cells-on; turns_are = omega arith }
 
     -- it does not
     last-read : {last : Input} → next ≡ last → ((at : FluxReader) → last ≡ Open at → ⊥) → ReadThrough first before last after
@@ -154,7 +154,7 @@ module _ {first : FluxReader} {before : List ℕ} {reader : FluxReader} {cells :
 
   pub no-turns : turns ≡ 0 → ReadThrough first before (Open reader) cells
   no-turns e =
-      let m = reading.turns-are in
+      let m = reading.turns_are in
       record { reads = reading.reads; all = record { leads = reading.leads; to_end = λ at same. omega arith }; cells_are = reading.cells_are }
 
 -- where `start` was called before: the reader and the cells are those of the portions, from the buffer on

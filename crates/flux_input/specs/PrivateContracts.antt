@@ -9,5 +9,5 @@ use Rattle.flux_input.specs.declared.Input.{Input}
 -- one read, that answered some number and left this portion
 pub record TakenRead (reader : FluxReader) (portion before : List ℕ) (next : Input) (after : List ℕ) : Type 0 where
   pub got : ℤ
-  pub input-is : next ≡ input_after reader got portion
+  pub input_is : next ≡ input_after reader got portion
   pub cells_are : after ≡ cells_after reader (bytes_read got portion) before

@@ -32,9 +32,9 @@ module _ (place : Place) where
     unfolding after_flux_count
     too-many-timings h = rw (lt-ltb 65536 count h)
 
-    pub no-timings : count ≤ 65536 → count ≡ 0 → NotATrackFile ≡ after_flux_count place count
+    pub no_timings : count ≤ 65536 → count ≡ 0 → NotATrackFile ≡ after_flux_count place count
     unfolding after_flux_count
-    no-timings few e = rw (le-ltb 65536 count few, eq-eqb count 0 e)
+    no_timings few e = rw (le-ltb 65536 count few, eq-eqb count 0 e)
 
     pub some-timings : count ≤ 65536 → (count ≡ 0 → ⊥) → {taken : TakenTimings} → taken ≡ none_taken
         → Timings place count Empty taken ≡ after_flux_count place count

@@ -10,9 +10,9 @@ use Rattle.refusals.specs.RefusedCalls.Answer.{refused}
 use Rattle.flux_timings.specs.Timings.{first_out, timings_judged}
 
 module _ {A : Type 0} (ts : List ℕ) (next : Answer A) where
-  pub no-timings : length ts ≡ 0 → refused 6 0 ≡ timings_judged ts next
+  pub no_timings : length ts ≡ 0 → refused 6 0 ≡ timings_judged ts next
   unfolding timings_judged
-  no-timings e = rw (eq-eqb (length ts) 0 e)
+  no_timings e = rw (eq-eqb (length ts) 0 e)
 
   module _ (some : length ts ≡ 0 → ⊥) where
     pub too-many-timings : 65536 < length ts → refused 7 (length ts) ≡ timings_judged ts next

@@ -35,8 +35,8 @@ use Rattle.flux_to_cells.specs.OutputOfInput.{output_of, output_of_input, Conver
 -- so many bytes stand at the front of `out`
 record AtFront (made : List ℕ) (n : ℕ) (out : List ℕ) : Type 0 where
   within : n ≤ length out
-  count-is : n ≡ length made
-  front-is : take n out ≡ made
+  count_is : n ≡ length made
+  front_is : take n out ≡ made
 
 -- a file with room for its new file
 module _ (file : List ℕ) where
@@ -89,12 +89,12 @@ module _ (buffer : List ℕ) (long : length buffer ≡ 16384) {first : FluxReade
         last = input;
         all = rw long at (all-from-start buffer started through);
         within = front.within;
-        count-is = front.count-is ∙ ap length (sym e);
-        front-is = front.front-is ∙ sym e;
+        count_is = front.count_is ∙ ap length (sym e);
+        front_is = front.front_is ∙ sym e;
       }
 
   nothing : (out : List ℕ) → AtFront [] 0 out
-  nothing out = record { within = omega arith; count-is = refl; front-is = refl }
+  nothing out = record { within = omega arith; count_is = refl; front_is = refl }
 
   pub still_open : (out : List ℕ) {reader : FluxReader} → input ≡ Open reader → ConvertedInput 0 out
   unfolding output_of_input
@@ -128,8 +128,8 @@ module _ (buffer : List ℕ) (long : length buffer ≡ 16384) {first : FluxReade
         converted (new_file file) (of-file ∙ new.0)
         record {
           within = omega (arith, new.1.1, same);
-          count-is = size;
-          front-is =
+          count_is = size;
+          front_is =
               ap (λ (k : ℕ). take k made) size ∙ ap (take (length (new_file file))) given.1
               ∙ take_at (new_file file) (drop (length (new_file file)) before) (length (new_file file)) refl;
         }
@@ -145,6 +145,6 @@ module _ (buffer : List ℕ) (long : length buffer ≡ 16384) {first : FluxReade
         converted text (of-file ∙ refused-file file (number_of refusal) (value_of refusal) given.0 ∙ ap refused_line (sym is))
         record {
           within = omega (arith, line.0);
-          count-is = line.0;
-          front-is = ap (λ (k : ℕ). take k out) line.0 ∙ ap (take (length text)) written ∙ take_at text (drop (length text) made) (length text) refl;
+          count_is = line.0;
+          front_is = ap (λ (k : ℕ). take k out) line.0 ∙ ap (take (length text)) written ∙ take_at text (drop (length text) made) (length text) refl;
         }

@@ -33,5 +33,5 @@ pub record ConvertedInput (count : ℕ) (out : List ℕ) : Type 0 where
   pub last : Input
   pub all : AllReads (start_of 16384) reads last
   pub within : count ≤ length out
-  pub count-is : count ≡ length (output_of_input last reads)
-  pub front-is : take count out ≡ output_of_input last reads
+  pub count_is : count ≡ length (output_of_input last reads)
+  pub front_is : take count out ≡ output_of_input last reads

@@ -55,17 +55,17 @@ sets-front (x ∷ l) (v ∷ vs) = sets-cons v l 0 vs ∙ ap (λ (r : List ℕ). 
 
 -- what the public functions promise
 module _ {before made after : List ℕ} {most next : ℕ} (w : Wrote before 0 made most after next) where
-  pub answer-is : next ≡ length made
-  answer-is = w.place ∙ omega arith
+  pub answer_is : next ≡ length made
+  answer_is = w.place ∙ omega arith
 
   pub answer-few : next ≤ most
   answer-few = omega (arith, w.place, w.few)
 
-  pub out-is : after ≡ out_after made before
-  out-is = w.bytes ∙ sets-front before made
+  pub out_is : after ≡ out_after made before
+  out_is = w.bytes ∙ sets-front before made
 
   pub promised : (next ≡ length made) × (after ≡ out_after made before)
-  promised = (answer-is, out-is)
+  promised = (answer_is, out_is)
 
 -- and back
 pub wrote-front : {before made after : List ℕ} {next : ℕ} (most : ℕ) → length made ≤ most → next ≡ length made → after ≡ out_after made before

@@ -18,7 +18,7 @@ use Rattle.findings.proofs.Outcome.{findings-accepted}
 use Rattle.lines.specs.Lines.{header_of, refused_line, out_after}
 use Rattle.lines.specs.Writing.{Wrote}
 use Rattle.lines.proofs.Lengths.{header-few, refused-few}
-use Rattle.lines.proofs.Writing.{◌then◌, wrote-front, answer-is, answer-few, out-is}
+use Rattle.lines.proofs.Writing.{◌then◌, wrote-front, answer_is, answer-few, out_is}
 use Rattle.listing.specs.Listing.{lines_of, printed, listing_of}
 use Rattle.listing.specs.PrivateContracts.{line_at}
 use Rattle.listing.proofs.Lines.{lines_are}
@@ -28,7 +28,7 @@ abbrev Told : (made before after : List ℕ) → ℕ → Type 0
 Told made before after r = (r ≡ length made) × ((r ≤ 65536) × (after ≡ out_after made before))
 
 told : {after : List ℕ} {r most : ℕ} (made before : List ℕ) → most ≤ 65536 → Wrote before 0 made most after r → Told made before after r
-told made before few w = (answer-is w, (omega (arith, answer-few w), out-is w))
+told made before few w = (answer_is w, (omega (arith, answer-few w), out_is w))
 
 module _ (bytes : List ℕ) (N T H : ℕ) where
   -- a track that is refused
@@ -40,14 +40,14 @@ module _ (bytes : List ℕ) (N T H : ℕ) where
 
   -- one that is accepted, with so many findings
   module _ (count : ℕ) (e : findings_answer double_density bytes N T H 901 ≡ gives count) where
-    pub few-cells : N ≤ 131072
-    few-cells = (findings-accepted double_density (sound Double) bytes N T H 901 count e).3
+    pub few_cells : N ≤ 131072
+    few_cells = (findings-accepted double_density (sound Double) bytes N T H 901 count e).3
 
-    pub count-is : count ≡ length (findings_of double_density bytes N T)
-    count-is = (findings-accepted double_density (sound Double) bytes N T H 901 count e).0
+    pub count_is : count ≡ length (findings_of double_density bytes N T)
+    count_is = (findings-accepted double_density (sound Double) bytes N T H 901 count e).0
 
-    pub few-findings : count ≤ 901
-    few-findings = (findings-accepted double_density (sound Double) bytes N T H 901 count e).1
+    pub few_findings : count ≤ 901
+    few_findings = (findings-accepted double_density (sound Double) bytes N T H 901 count e).1
 
     module _ (sectors : ℕ) (given : sectors ≡ sectors_given (findings_answer double_density bytes N T H 901) (length (sectors_of double_density bytes N))) where
       pub sectors-are : sectors ≡ length (sectors_of double_density bytes N)
@@ -57,7 +57,7 @@ module _ (bytes : List ℕ) (N T H : ℕ) where
       few-sectors = omega (arith, sectors-are, (findings-accepted double_density (sound Double) bytes N T H 901 count e).2)
 
       pub few-header : H < 0x1_0000_0000 → length (header_of T H N sectors count) ≤ 72
-      few-header h = header-few T H N sectors count h (omega (arith, few-cells)) (omega (arith, few-sectors)) (omega (arith, few-findings))
+      few-header h = header-few T H N sectors count h (omega (arith, few_cells)) (omega (arith, few-sectors)) (omega (arith, few_findings))
 
       -- the header, and a line for each finding that stands in the numbers
       module _ {middle after : List ℕ} {at next : ℕ} (out list numbers : List ℕ) (h : H < 0x1_0000_0000) (long : length list ≡ 3604)
@@ -67,6 +67,6 @@ module _ (bytes : List ℕ) (N T H : ℕ) where
         unfolding listing_of printed buffer_after
         listing-written =
             let fs = findings_of double_density bytes N T in
-            let whole : joined (line_at numbers) count ≡ lines_of fs = rw (is, long, e, count-is) (lines_are (drop (length (numbers_of fs)) list) fs) in
+            let whole : joined (line_at numbers) count ≡ lines_of fs = rw (is, long, e, count_is) (lines_are (drop (length (numbers_of fs)) list) fs) in
             let all = wrote-front 72 (few-header h) head.0 head.1 then lines in
-            rw (e, ← whole, ← count-is, ← sectors-are) (told (header_of T H N sectors count ++ joined (line_at numbers) count) out (omega (arith, few-findings)) all)
+            rw (e, ← whole, ← count_is, ← sectors-are) (told (header_of T H N sectors count ++ joined (line_at numbers) count) out (omega (arith, few_findings)) all)

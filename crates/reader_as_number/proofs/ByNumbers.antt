@@ -92,7 +92,7 @@ held_after u (byte ∷ bytes) h b = held_after (unfinished_after_byte u.held u.z
 left-as-is : {reader : RevolutionReader} {bytes given : List ℕ} → Calls reader bytes given → usable_reader reader ≡ reader
 left-as-is {reader} calls =
     let b = behind-calls calls in
-    as-it-is reader (is-left reader b.few-zeros b.few-timings)
+    as-it-is reader (is-left reader b.few_zeros b.few_timings)
 
 -- calls that keep the reader as a number are calls
 module _ (n : ℕ) (bytes given portion : List ℕ) (room count : ℕ) (calls : Calls (reader_of_number n) bytes given) (byte : HeldByte (reader_of_number n).unfinished.held)

@@ -23,9 +23,9 @@ use Rattle.revolution_portions.proofs.Judging.{is-left, Accepted, accepted}
 
 -- the reader that calls left, and what they gave
 pub record Behind (reader : RevolutionReader) (bytes given : List ℕ) : Type 0 where
-  pub few-zeros : reader.unfinished.zeros ≤ 7
-  pub few-timings : reader.timings ≤ 65536
-  pub unfinished-is : reader.unfinished ≡ unfinished_after (between 0) bytes
+  pub few_zeros : reader.unfinished.zeros ≤ 7
+  pub few_timings : reader.timings ≤ 65536
+  pub unfinished_is : reader.unfinished ≡ unfinished_after (between 0) bytes
   pub given_is : given ≡ timings_ending (between 0) bytes
   pub all_in : first_out given ≡ length given
 
@@ -37,10 +37,10 @@ as-it-is reader e = rw e
 module _ {reader : RevolutionReader} {bytes given : List ℕ} (behind : Behind reader bytes given) (portion : List ℕ) (room count : ℕ)
     (answer : portion_answer reader portion room ≡ gives count) where
   as-left : usable_reader reader ≡ reader
-  as-left = as-it-is reader (is-left reader behind.few-zeros behind.few-timings)
+  as-left = as-it-is reader (is-left reader behind.few_zeros behind.few_timings)
 
   ts-are : portion_timings reader portion ≡ timings_ending (unfinished_after (between 0) bytes) portion
-  ts-are = ap (λ (r : RevolutionReader). timings_ending r.unfinished portion) as-left ∙ ap (λ (u : Unfinished). timings_ending u portion) behind.unfinished-is
+  ts-are = ap (λ (r : RevolutionReader). timings_ending r.unfinished portion) as-left ∙ ap (λ (u : Unfinished). timings_ending u portion) behind.unfinished_is
 
   taken : Accepted (usable_reader reader).timings (portion_timings reader portion) room count
   taken = accepted (usable_reader reader).timings (portion_timings reader portion) room count answer
@@ -63,9 +63,9 @@ module _ {reader : RevolutionReader} {bytes given : List ℕ} (behind : Behind r
   next-behind =
       let u = usable_reader reader in
       record {
-        few-zeros = rw as-left (zeros-stay-few reader.unfinished portion behind.few-zeros);
-        few-timings = omega (arith, taken.few, taken.count-is);
-        unfinished-is = rw (as-left, behind.unfinished-is) (sym (after-append (between 0) bytes portion));
+        few_zeros = rw as-left (zeros-stay-few reader.unfinished portion behind.few_zeros);
+        few_timings = omega (arith, taken.few, taken.count_is);
+        unfinished_is = rw (as-left, behind.unfinished_is) (sym (after-append (between 0) bytes portion));
         given_is = all_are;
         all_in = all-within;
       }
@@ -76,7 +76,7 @@ module _ {reader : RevolutionReader} {bytes given : List ℕ} (behind : Behind r
 
 pub behind-calls : {reader : RevolutionReader} {bytes given : List ℕ} → Calls reader bytes given → Behind reader bytes given
 unfolding unfinished_after timings_ending first_out
-behind-calls none = record { few-zeros = omega arith; few-timings = omega arith; unfinished-is = refl; given_is = refl; all_in = refl }
+behind-calls none = record { few_zeros = omega arith; few_timings = omega arith; unfinished_is = refl; given_is = refl; all_in = refl }
 behind-calls (more portion room count calls answer) = then-behind (behind-calls calls) portion room count answer
 
 -- all that a call promises, from what it answers and leaves
@@ -95,7 +95,7 @@ module _ (reader : RevolutionReader) (portion list : List ℕ) {answer : Answer 
             let a = accepted (usable_reader reader).timings (portion_timings reader portion) (length list) count (sym is ∙ e) in
             let k : after ≡ written_over (portion_timings reader portion) list = kept ∙ ap (λ (x : Answer ℕ). buffer_after x (portion_timings reader portion) list) e in
             let t : take count after ≡ portion_timings reader portion
-            = ap (take count) k ∙ take_at (portion_timings reader portion) (drop (length (portion_timings reader portion)) list) count (sym a.count-is) in
+            = ap (take count) k ∙ take_at (portion_timings reader portion) (drop (length (portion_timings reader portion)) list) count (sym a.count_is) in
             ap (λ (l : List ℕ). given ++ l) t ∙ whole-bytes (behind-calls calls) portion (length list) count (sym is ∙ e);
       }
 

@@ -67,7 +67,7 @@ pub record Accepted (before : ℕ) (ts : List ℕ) (room count : ℕ) : Type 0 w
   pub few : before + length ts ≤ 65536
   pub all_in : first_out ts ≡ length ts
   pub enough : length ts ≤ room
-  pub count-is : count ≡ length ts
+  pub count_is : count ≡ length ts
 
 pub accepted : (before : ℕ) (ts : List ℕ) (room count : ℕ) → portion_judged before ts room ≡ gives count → Accepted before ts room count
 unfolding portion_judged
@@ -88,5 +88,5 @@ accepted before ts room count =
           few = ltb-false 65536 (before + length ts) a;
           all_in = omega (arith, ltb-false (first_out ts) (length ts) b, out_within ts);
           enough = ltb-false room (length ts) c;
-          count-is = cc;
+          count_is = cc;
         }

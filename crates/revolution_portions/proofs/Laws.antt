@@ -40,7 +40,7 @@ module _ (reader : RevolutionReader) (portion : List ℕ) (room count : ℕ) (an
   left-few =
       let used = usable-few reader in
       let a = accepted (usable_reader reader).timings (portion_timings reader portion) room count answer in
-      (zeros-stay-few (usable_reader reader).unfinished portion used.0, omega (arith, a.few, a.count-is))
+      (zeros-stay-few (usable_reader reader).unfinished portion used.0, omega (arith, a.few, a.count_is))
 
   -- so it leaves a state that calls leave
   pub accepted-left : is_left_by_calls (reader_left (gives count) reader portion) ≡ true
@@ -48,7 +48,7 @@ module _ (reader : RevolutionReader) (portion : List ℕ) (room count : ℕ) (an
 
 -- calls leave only states of which `is_left_by_calls` is true
 pub calls-leave : {reader : RevolutionReader} {bytes given : List ℕ} → Calls reader bytes given → is_left_by_calls reader ≡ true
-calls-leave {reader} calls = let b = behind-calls calls in is-left reader b.few-zeros b.few-timings
+calls-leave {reader} calls = let b = behind-calls calls in is-left reader b.few_zeros b.few_timings
 
 -- a reader that calls leave: all bytes that they were handed, and all timings that they gave
 pub record LeftByCalls (reader : RevolutionReader) : Type 0 where
@@ -57,7 +57,7 @@ pub record LeftByCalls (reader : RevolutionReader) : Type 0 where
   pub calls : Calls reader bytes given
 
 -- one portion more, with room for just its timings
-module _ (u : Unfinished) (n : ℕ) (few-zeros : u.zeros ≤ 7) (portion : List ℕ) where
+module _ (u : Unfinished) (n : ℕ) (few_zeros : u.zeros ≤ 7) (portion : List ℕ) where
   abbrev ts : List ℕ
   ts = timings_ending u portion
 
@@ -68,7 +68,7 @@ module _ (u : Unfinished) (n : ℕ) (few-zeros : u.zeros ≤ 7) (portion : List 
       → LeftByCalls (record { unfinished = unfinished_after u portion; timings = n + length ts })
   unfolding reader_left
   one_more few all_in l =
-      let used : usable_reader at ≡ at = sym (used-as-is at few-zeros (omega arith)) in
+      let used : usable_reader at ≡ at = sym (used-as-is at few_zeros (omega arith)) in
       let answer : portion_answer at portion (length ts) ≡ gives (length ts) = rw used (sym (all-given n ts (length ts) few all_in (omega arith))) in
       let left : portion_reader at portion (length ts) ≡ record { unfinished = unfinished_after u portion; timings = n + length ts }
       = ap (λ (a : Answer ℕ). reader_left a at portion) answer ∙ rw used in
@@ -115,10 +115,10 @@ unfolding reader_left
 counted none = refl
 counted (more {reader} {bytes} {given} portion room count calls answer) =
     let b = behind-calls calls in
-    let used = used-as-is reader b.few-zeros b.few-timings in
+    let used = used-as-is reader b.few_zeros b.few_timings in
     let a = accepted (usable_reader reader).timings (portion_timings reader portion) room count answer in
     ap (λ (x : Answer ℕ). (reader_left x reader portion).timings) answer
-    ∙ omega (arith, counted calls, ap (λ (r : RevolutionReader). r.timings) used, a.count-is, length-append given (portion_timings reader portion))
+    ∙ omega (arith, counted calls, ap (λ (r : RevolutionReader). r.timings) used, a.count_is, length-append given (portion_timings reader portion))
 
 -- what calls gave is the timings of their bytes
 pub given-same : {reader : RevolutionReader} {bytes given : List ℕ} → Calls reader bytes given → given ≡ timings_in bytes

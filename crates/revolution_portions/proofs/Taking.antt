@@ -36,9 +36,9 @@ pub looked-over : (unfinished : Unfinished) → unfinished.zeros ≤ 7 → {byte
 looked-over unfinished h {bytes} p =
     let same = few-as-they-are unfinished h in
     record {
-      unfinished-is = p.0 ∙ ap (λ (u : Unfinished). unfinished_after u bytes) same;
-      count-is = p.1.0 ∙ ap (λ (u : Unfinished). length (timings_ending u bytes)) same;
-      out-is = p.1.1.0 ∙ ap (λ (u : Unfinished). first_out (timings_ending u bytes)) same;
+      unfinished_is = p.0 ∙ ap (λ (u : Unfinished). unfinished_after u bytes) same;
+      count_is = p.1.0 ∙ ap (λ (u : Unfinished). length (timings_ending u bytes)) same;
+      out_is = p.1.1.0 ∙ ap (λ (u : Unfinished). first_out (timings_ending u bytes)) same;
     }
 
 -- what is used has few zeros and few timings
@@ -57,46 +57,46 @@ module _ (reader : RevolutionReader) (portion list : List ℕ) {used : Revolutio
   before-is : used.timings ≡ (usable_reader reader).timings
   before-is = ap (λ (r : RevolutionReader). r.timings) used-is
 
-  count-is : count ≡ length (portion_timings reader portion)
-  count-is = seen.count-is ∙ ap length same
+  count_is : count ≡ length (portion_timings reader portion)
+  count_is = seen.count_is ∙ ap length same
 
-  out-is : out ≡ first_out (portion_timings reader portion)
-  out-is = seen.out-is ∙ ap first_out same
+  out_is : out ≡ first_out (portion_timings reader portion)
+  out_is = seen.out_is ∙ ap first_out same
 
   pub take-too-many : 65536 < used.timings + count → Promised reader portion list (refused 7 (used.timings + count)) reader list
   take-too-many h =
-      rw (before-is, count-is)
-      (promised-refused reader portion list (too_many (usable_reader reader).timings (portion_timings reader portion) (length list) (omega (arith, before-is, count-is))))
+      rw (before-is, count_is)
+      (promised-refused reader portion list (too_many (usable_reader reader).timings (portion_timings reader portion) (length list) (omega (arith, before-is, count_is))))
 
   module _ (few : used.timings + count ≤ 65536) where
     few-are : (usable_reader reader).timings + length (portion_timings reader portion) ≤ 65536
-    few-are = omega (arith, before-is, count-is)
+    few-are = omega (arith, before-is, count_is)
 
     pub take-one-out : out < count → Promised reader portion list (refused 8 (used.timings + out)) reader list
     take-one-out h =
-        rw (before-is, out-is)
+        rw (before-is, out_is)
         (promised-refused reader portion list
-        (one_out (usable_reader reader).timings (portion_timings reader portion) (length list) few-are (omega (arith, count-is, out-is))))
+        (one_out (usable_reader reader).timings (portion_timings reader portion) (length list) few-are (omega (arith, count_is, out_is))))
 
     module _ (all_in : count ≤ out) where
       all-are-in : length (portion_timings reader portion) ≤ first_out (portion_timings reader portion)
-      all-are-in = omega (arith, count-is, out-is)
+      all-are-in = omega (arith, count_is, out_is)
 
       pub take-no-room : length list < count → Promised reader portion list (refused 10 count) reader list
       take-no-room h =
-          rw count-is
+          rw count_is
           (promised-refused reader portion list
-          (no_room (usable_reader reader).timings (portion_timings reader portion) (length list) few-are all-are-in (omega (arith, count-is))))
+          (no_room (usable_reader reader).timings (portion_timings reader portion) (length list) few-are all-are-in (omega (arith, count_is))))
 
       pub take-given : count ≤ length list → {after : List ℕ} → after ≡ sets list 0 (timings_ending (capped used.unfinished) portion)
           → Promised reader portion list (gives count) (record { unfinished = unfinished; timings = used.timings + count }) after
       take-given h {after} w =
           let e : gives count ≡ portion_answer reader portion (length list)
-          = ap gives count-is ∙ all-given (usable_reader reader).timings (portion_timings reader portion) (length list) few-are all-are-in (omega (arith, count-is)) in
-          promised-given reader portion list e (seen.unfinished-is ∙ ap (λ (r : RevolutionReader). unfinished_after r.unfinished portion) used-is)
+          = ap gives count_is ∙ all-given (usable_reader reader).timings (portion_timings reader portion) (length list) few-are all-are-in (omega (arith, count_is)) in
+          promised-given reader portion list e (seen.unfinished_is ∙ ap (λ (r : RevolutionReader). unfinished_after r.unfinished portion) used-is)
           (ap (λ (n : ℕ). n + count) before-is)
           (w ∙ ap (λ (u : Unfinished). sets list 0 (timings_ending u portion)) (few-as-they-are used.unfinished (used-few reader used-is).0)
-          ∙ ap (λ (l : List ℕ). sets list 0 l) same ∙ stored list (portion_timings reader portion) (omega (arith, count-is)))
+          ∙ ap (λ (l : List ℕ). sets list 0 l) same ∙ stored list (portion_timings reader portion) (omega (arith, count_is)))
 
 -- a refusal as the code hands it back
 pub told : {reader : RevolutionReader} {portion list : List ℕ} {counted : Counted} {refusal : Refusal} → counted ≡ Refused refusal → {next : RevolutionReader} → next ≡ reader

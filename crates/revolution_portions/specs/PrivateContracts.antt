@@ -6,6 +6,6 @@ use Rattle.revolution_values.specs.declared.Unfinished.{Unfinished}
 
 -- bytes looked at from the start of a portion, with nothing stored
 pub record LookedOver (unfinished : Unfinished) (bytes : List ℕ) (next : Unfinished) (total first : ℕ) : Type 0 where
-  pub unfinished-is : next ≡ unfinished_after unfinished bytes
-  pub count-is : total ≡ length (timings_ending unfinished bytes)
-  pub out-is : first ≡ first_out (timings_ending unfinished bytes)
+  pub unfinished_is : next ≡ unfinished_after unfinished bytes
+  pub count_is : total ≡ length (timings_ending unfinished bytes)
+  pub out_is : first ≡ first_out (timings_ending unfinished bytes)

@@ -92,7 +92,7 @@ module _ (count out : ℕ) (bytes list : List ℕ) (small : (i : ℕ) → get_or
   unfolding first_out_after
   passed-at-once n f l =
       let a = all_end (length bytes / 2) bytes (omega arith) (omega arith) small none in
-      record { unfinished-is = n ∙ a.leaves; count-is = omega (arith, a.many); out-is = rw a.all_in f; list-is = l }
+      record { unfinished_is = n ∙ a.leaves; count_is = omega (arith, a.many); out_is = rw a.all_in f; list_is = l }
 
 -- what is passed over so is the rest of a portion, from byte `from` on
 pub rest-is : (portion : List ℕ) (from : ℕ) → take (length portion - from) (drop from portion) ≡ drop from portion

@@ -89,12 +89,12 @@ module _ (high low : ℕ) {zeros count out value : ℕ} {list : List ℕ} {z c o
     (v : PassedValue zeros count out value list z c o l) where
   after_is : (bytes : List ℕ) → unfinished_after (record { held = High high; zeros = zeros }) (low ∷ bytes) ≡ unfinished_after (between z) bytes
   unfolding unfinished_after
-  after_is bytes = rw (← is) (ap (λ (u : Unfinished). unfinished_after u bytes) (sym v.zeros-are))
+  after_is bytes = rw (← is) (ap (λ (u : Unfinished). unfinished_after u bytes) (sym v.zeros_are))
 
   ending-is : (bytes : List ℕ)
       → timings_ending (record { held = High high; zeros = zeros }) (low ∷ bytes) ≡ timings_of_value zeros value ++ timings_ending (between z) bytes
   unfolding timings_ending
-  ending-is bytes = rw (← is) (ap (λ (u : Unfinished). timings_of_value zeros value ++ timings_ending u bytes) (sym v.zeros-are))
+  ending-is bytes = rw (← is) (ap (λ (u : Unfinished). timings_of_value zeros value ++ timings_ending u bytes) (sym v.zeros_are))
 
   pub passed-held : {bytes : List ℕ} {next : Unfinished} {total first : ℕ} {after : List ℕ} → PassedOver (between z) c o bytes l next total first after
       → PassedOver (record { held = High high; zeros = zeros }) count out (low ∷ bytes) list next total first after
@@ -103,10 +103,10 @@ module _ (high low : ℕ) {zeros count out value : ℕ} {list : List ℕ} {z c o
       let us = timings_ending (between z) bytes in
       let e = ending-is bytes in
       record {
-        unfinished-is = p.unfinished-is ∙ sym (after_is bytes);
-        count-is = omega (arith, p.count-is, v.count-is, length-append ts us, ap length e);
-        out-is = p.out-is ∙ rw (v.count-is, v.out-is, e) (sym (out-after-append count out h ts us));
-        list-is = p.list-is ∙ rw (v.count-is, v.list-is, e) (sym (sets-append list count ts us));
+        unfinished_is = p.unfinished_is ∙ sym (after_is bytes);
+        count_is = omega (arith, p.count_is, v.count_is, length-append ts us, ap length e);
+        out_is = p.out_is ∙ rw (v.count_is, v.out_is, e) (sym (out-after-append count out h ts us));
+        list_is = p.list_is ∙ rw (v.count_is, v.list_is, e) (sym (sets-append list count ts us));
       }
 
   -- both bytes
@@ -115,13 +115,13 @@ module _ (high low : ℕ) {zeros count out value : ℕ} {list : List ℕ} {z c o
   unfolding unfinished_after timings_ending
   passed-value p =
       let q = passed-held p in
-      record { unfinished-is = q.unfinished-is; count-is = q.count-is; out-is = q.out-is; list-is = q.list-is }
+      record { unfinished_is = q.unfinished_is; count_is = q.count_is; out_is = q.out_is; list_is = q.list_is }
 
 -- no bytes
 pub passed-nothing : (unfinished : Unfinished) (count out : ℕ) (list : List ℕ) → out ≤ count → PassedOver unfinished count out [] list unfinished count out list
 unfolding unfinished_after timings_ending first_out_after first_out
 passed-nothing unfinished count out list h =
-    record { unfinished-is = refl; count-is = omega arith; out-is = go (eqb out count) refl; list-is = refl }
+    record { unfinished_is = refl; count_is = omega arith; out_is = go (eqb out count) refl; list_is = refl }
   where
     go : (x : Bool) → eqb out count ≡ x → out ≡ cond x (count + 0) out
     go true e = omega (arith, eqb-true out count e)
@@ -153,10 +153,10 @@ module _ (zeros count out value : ℕ) (list : List ℕ) where
       let p = passed-nothing (between 0) count out list h in
       let t = zero-ends zeros value e in
       record {
-        zeros-are = ap between s ∙ sym (zero-leaves zeros value e);
-        count-is = rw t p.count-is;
-        out-is = rw t p.out-is;
-        list-is = rw t p.list-is;
+        zeros_are = ap between s ∙ sym (zero-leaves zeros value e);
+        count_is = rw t p.count_is;
+        out_is = rw t p.out_is;
+        list_is = rw t p.list_is;
       }
 
   pub value-timing : (value ≡ 0 → ⊥) → {first : ℕ} {after : List ℕ} → first ≡ cond (eqb out count) (count + cond (in_range (25 * (65536 * zeros + value))) 1 0) out
@@ -165,10 +165,10 @@ module _ (zeros count out value : ℕ) (list : List ℕ) where
   value-timing e f l =
       let t = other-ends zeros value e in
       record {
-        zeros-are = sym (other-leaves zeros value e);
-        count-is = rw t;
-        out-is = rw t f;
-        list-is = rw t l;
+        zeros_are = sym (other-leaves zeros value e);
+        count_is = rw t;
+        out_is = rw t f;
+        list_is = rw t l;
       }
 
 -- the end of the bytes, after which at most one is held
@@ -177,10 +177,10 @@ pub passed-end : (zeros count out : ℕ) (list : List ℕ) → out ≤ count →
 unfolding timings_ending
 passed-end zeros count out list h [] l e =
     let p = passed-nothing (between zeros) count out list h in
-    record { unfinished-is = e; count-is = p.count-is; out-is = p.out-is; list-is = p.list-is }
+    record { unfinished_is = e; count_is = p.count_is; out_is = p.out_is; list_is = p.list_is }
 passed-end zeros count out list h (byte ∷ []) l e =
     let p = passed-nothing (between zeros) count out list h in
-    record { unfinished-is = e; count-is = p.count-is; out-is = p.out-is; list-is = p.list-is }
+    record { unfinished_is = e; count_is = p.count_is; out_is = p.out_is; list_is = p.list_is }
 passed-end _ count out list h (byte ∷ next ∷ bytes) l e = absurd (omega arith)
 
 -- what is held at the end of a portion
@@ -206,8 +206,8 @@ reach-start _ count out bytes list = record { onward = λ p. p }
 -- the state of the loop over values at byte i
 pub record AtValue (zeros count out : ℕ) (portion : List ℕ) (from : ℕ) (list : List ℕ) (z c o i : ℕ) (l : List ℕ) : Type 0 where
   pub within : i ≤ length portion
-  pub few-zeros : z ≤ 7
-  pub out-low : o ≤ c
+  pub few_zeros : z ≤ 7
+  pub out_low : o ≤ c
   pub count_low : c ≤ i
   pub long : length l ≡ length list
   pub reaches : Reaches zeros count out (drop from portion) list z c o (drop i portion) l
@@ -215,7 +215,7 @@ pub record AtValue (zeros count out : ℕ) (portion : List ℕ) (from : ℕ) (li
 pub at-start : (zeros count out : ℕ) (portion : List ℕ) (from : ℕ) (list : List ℕ) → from ≤ length portion → zeros ≤ 7 → out ≤ count → count ≤ from
     → AtValue zeros count out portion from list zeros count out from list
 at-start zeros count out portion from list a b c d =
-    record { within = a; few-zeros = b; out-low = c; count_low = d; long = refl; reaches = reach-start zeros count out (drop from portion) list }
+    record { within = a; few_zeros = b; out_low = c; count_low = d; long = refl; reaches = reach-start zeros count out (drop from portion) list }
 
 -- at most 7 zeros are counted
 pub zeros-few : (zeros value : ℕ) → (unfinished_after_value zeros value).zeros ≤ 7
@@ -227,7 +227,7 @@ zeros-few zeros value = go (eqb value 0)
     go false = omega arith
 
 passed-zeros-few : {zeros count out value : ℕ} {list : List ℕ} {z c o : ℕ} {l : List ℕ} → PassedValue zeros count out value list z c o l → z ≤ 7
-passed-zeros-few {zeros} {value = value} v = subst (λ (u : Unfinished). u.zeros ≤ 7) (sym v.zeros-are) (zeros-few zeros value)
+passed-zeros-few {zeros} {value = value} v = subst (λ (u : Unfinished). u.zeros ≤ 7) (sym v.zeros_are) (zeros-few zeros value)
 
 -- two bytes more at byte i
 pub two-more : (bytes : List ℕ) (i : ℕ) → 2 ≤ length bytes - i → drop i bytes ≡ get_or bytes i 0 ∷ get_or bytes (i + 1) 0 ∷ drop (i + 2) bytes
@@ -245,13 +245,13 @@ at_next {portion = portion} {z = z} {c = c} {o = o} {i = i} {l = l} at h {value 
     let s = two-more portion i h in
     record {
       within = omega arith;
-      few-zeros = passed-zeros-few v;
-      out-low = rw (v.out-is, v.count-is) (out-after-within c o at.out-low (timings_of_value z value));
-      count_low = omega (arith, v.count-is, one-timing z value, at.count_low);
-      long = ap length v.list-is ∙ length-sets l c (timings_of_value z value) ∙ at.long;
+      few_zeros = passed-zeros-few v;
+      out_low = rw (v.out_is, v.count_is) (out-after-within c o at.out_low (timings_of_value z value));
+      count_low = omega (arith, v.count_is, one-timing z value, at.count_low);
+      long = ap length v.list_is ∙ length-sets l c (timings_of_value z value) ∙ at.long;
       reaches =
           record {
-            onward = λ p. at.reaches.onward (rw s (passed-value (get_or portion i 0) (get_or portion (i + 1) 0) is at.out-low v p));
+            onward = λ p. at.reaches.onward (rw s (passed-value (get_or portion i 0) (get_or portion (i + 1) 0) is at.out_low v p));
           };
     }
 
@@ -260,7 +260,7 @@ pub at-end : {zeros count out : ℕ} {portion : List ℕ} {from : ℕ} {list : L
     → length portion - i < 2 → {next : Unfinished} → next ≡ unfinished_after (between z) (drop i portion)
     → PassedOver (between zeros) count out (drop from portion) list next c o l
 at-end {portion = portion} {z = z} {c = c} {o = o} {i = i} {l = l} at h e =
-    at.reaches.onward (passed-end z c o l at.out-low (drop i portion) (omega (arith, length-drop i portion)) e)
+    at.reaches.onward (passed-end z c o l at.out_low (drop i portion) (omega (arith, length-drop i portion)) e)
 
 -- a whole portion, by what is held before it
 module _ (unfinished : Unfinished) (portion list : List ℕ) where
@@ -290,12 +290,12 @@ pub value-few : {zeros count out value : ℕ} {list : List ℕ} {z c o : ℕ} {l
     → (z ≤ 7) × ((o ≤ c) × (c ≤ count + 1))
 value-few {zeros} {count} {out} {value} v h = (
   passed-zeros-few v,
-  (rw (v.out-is, v.count-is) (out-after-within count out h (timings_of_value zeros value)), omega (arith, v.count-is, one-timing zeros value)),
+  (rw (v.out_is, v.count_is) (out-after-within count out h (timings_of_value zeros value)), omega (arith, v.count_is, one-timing zeros value)),
 )
 
 -- a pass from the first of some bytes on, where `start` is what is unfinished before them, with its zeros counted up to 7
-pub few-zeros : (unfinished : Unfinished) {start : Unfinished} → start ≡ capped unfinished → start.zeros ≤ 7
-few-zeros unfinished is = subst (λ (u : Unfinished). u.zeros ≤ 7) (sym is) (min-le_right unfinished.zeros 7)
+pub few_zeros : (unfinished : Unfinished) {start : Unfinished} → start ≡ capped unfinished → start.zeros ≤ 7
+few_zeros unfinished is = subst (λ (u : Unfinished). u.zeros ≤ 7) (sym is) (min-le_right unfinished.zeros 7)
 
 pub passed-all : (unfinished : Unfinished) {start : Unfinished} → start ≡ capped unfinished → {bytes list : List ℕ} {next : Unfinished} {total first : ℕ} {after : List ℕ}
     → PassedOver start 0 0 bytes list next total first after
@@ -303,7 +303,7 @@ pub passed-all : (unfinished : Unfinished) {start : Unfinished} → start ≡ ca
     × ((total ≡ length (timings_ending (capped unfinished) bytes))
     × ((first ≡ first_out (timings_ending (capped unfinished) bytes)) × (after ≡ sets list 0 (timings_ending (capped unfinished) bytes))))
 unfolding first_out_after
-passed-all unfinished is p = rw (← is) (p.unfinished-is, (p.count-is ∙ zero-add _, (p.out-is ∙ zero-add _, p.list-is)))
+passed-all unfinished is p = rw (← is) (p.unfinished_is, (p.count_is ∙ zero-add _, (p.out_is ∙ zero-add _, p.list_is)))
 
 -- few zeros are counted as they are
 pub few-as-they-are : (unfinished : Unfinished) → unfinished.zeros ≤ 7 → capped unfinished ≡ unfinished

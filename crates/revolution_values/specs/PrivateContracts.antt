@@ -13,17 +13,17 @@ first_out_after count out ts = cond (eqb out count) (count + first_out ts) out
 -- a value passed, after `count` timings of which `out` is the first out of range: the zeros before the next, how many timings there are
 -- then, which is the first out of range, and the list with it stored, as far as the list reaches
 pub record PassedValue (zeros count out value : ℕ) (list : List ℕ) (next total first : ℕ) (after : List ℕ) : Type 0 where
-  pub zeros-are : between next ≡ unfinished_after_value zeros value
-  pub count-is : total ≡ count + length (timings_of_value zeros value)
-  pub out-is : first ≡ first_out_after count out (timings_of_value zeros value)
-  pub list-is : after ≡ sets list count (timings_of_value zeros value)
+  pub zeros_are : between next ≡ unfinished_after_value zeros value
+  pub count_is : total ≡ count + length (timings_of_value zeros value)
+  pub out_is : first ≡ first_out_after count out (timings_of_value zeros value)
+  pub list_is : after ≡ sets list count (timings_of_value zeros value)
 
 -- bytes passed, in the same way: what is unfinished after them, and the rest
 pub record PassedOver (unfinished : Unfinished) (count out : ℕ) (bytes list : List ℕ) (next : Unfinished) (total first : ℕ) (after : List ℕ) : Type 0 where
-  pub unfinished-is : next ≡ unfinished_after unfinished bytes
-  pub count-is : total ≡ count + length (timings_ending unfinished bytes)
-  pub out-is : first ≡ first_out_after count out (timings_ending unfinished bytes)
-  pub list-is : after ≡ sets list count (timings_ending unfinished bytes)
+  pub unfinished_is : next ≡ unfinished_after unfinished bytes
+  pub count_is : total ≡ count + length (timings_ending unfinished bytes)
+  pub out_is : first ≡ first_out_after count out (timings_ending unfinished bytes)
+  pub list_is : after ≡ sets list count (timings_ending unfinished bytes)
 
 -- no value of some bytes is a 0
 unfoldable pub no_zeros : List ℕ → Bool

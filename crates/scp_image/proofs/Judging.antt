@@ -15,7 +15,7 @@ number-here image at =
 
 -- what is known of an image
 pub record IsImage (image : List ℕ) (n : ℕ) : Type 0 where
-  pub first-there : 688 ≤ length image
+  pub first_there : 688 ≤ length image
   pub long : 688 ≤ n
   pub in_reach : n ≤ 4294967295
 
@@ -39,7 +39,7 @@ module _ (image : List ℕ) (n : ℕ) where
       let behind-a = or_right a (b || (c || d)) all in
       let behind-b = or_right b (c || d) behind-a in
       record {
-        first-there = ltb-false _ _ (or_left a (b || (c || d)) all);
+        first_there = ltb-false _ _ (or_left a (b || (c || d)) all);
         long = ltb-false _ _ (or_left b (c || d) behind-a);
         in_reach = ltb-false _ _ (or_left c d behind-b);
       }

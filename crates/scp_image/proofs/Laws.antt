@@ -35,7 +35,7 @@ module _ (image : List ℕ) (n : ℕ) (none : 168 ≤ first_bad image (limit_of 
       let all : (a || (b || (c || (d || f)))) ≡ false = sym (ap (λ (x : Bool). x && (a || (b || (c || (d || f))))) there) ∙ good in
       let rest = or_right c (d || f) (or_right b (c || (d || f)) (or_right a (b || (c || (d || f))) all)) in
       record {
-        behind-entries = ltb-false _ _ (or_left d f rest);
+        behind_entries = ltb-false _ _ (or_left d f rest);
         has_room = ltb-false _ _ (or_right d f rest);
         in_image = le_trans (end-in-limit image limit e 168) (limit-within (flags_of image) n);
       }

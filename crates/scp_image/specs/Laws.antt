@@ -9,7 +9,7 @@ use Rattle.scp_image.specs.CheckSum.{sum_after}
 
 -- 19.12: a block lies behind the first 688 bytes and within the image, and has room for its letters, its number and its table
 pub record Within (image : List ℕ) (n e : ℕ) : Type 0 where
-  pub behind-entries : 688 ≤ start_of image e
+  pub behind_entries : 688 ≤ start_of image e
   pub has_room : start_of image e + (4 + 12 * revolutions_of image) ≤ end_of image (limit_of image n) e
   pub in_image : end_of image (limit_of image n) e ≤ n
 

@@ -33,14 +33,14 @@ module _ {longest : ℕ} {front : List ℕ} {revolutions k T H : ℕ} {before : 
       → InputWritten block revolutions k T H before ended answer out → (answer ≤ 65536) × ListedBlock longest front revolutions k T H before answer out
   listed-where-stopped {block} {ended} brought last w =
       let t = last.taken in
-      let read : InputRead longest front (is_end t.got) block = stops brought t.got last.room (is-empty _ t.count-is) in (
+      let read : InputRead longest front (is_end t.got) block = stops brought t.got last.room (is-empty _ t.count_is) in (
         w.1.0,
         record {
           block = block;
           ended = ended;
           read = subst (λ (b : Bool). InputRead longest front b block) (sym t.ended_is) read;
-          answer-is = w.0;
-          out-is = w.1.1;
+          answer_is = w.0;
+          out_is = w.1.1;
         },
       )
 
@@ -59,7 +59,7 @@ module _ {longest : ℕ} {front : List ℕ} {revolutions k T H : ℕ} {before : 
 
       go : (got : ℤ) (bytes : List ℕ) → bytes_read got last.room ≡ bytes → ended ≡ is_end got → (answer ≤ 65536) × ListedBlock longest front revolutions k T H before answer out
       go got [] e is =
-          listed-where-stopped brought (record { room = last.room; taken = record { got = got; count-is = sym (ap length e); ended_is = is } }) w
+          listed-where-stopped brought (record { room = last.room; taken = record { got = got; count_is = sym (ap length e); ended_is = is } }) w
       go got (x ∷ bytes) e is =
           let no : ended ≡ false = is ∙ sym (further got x bytes e) in
           let n : length (bytes_read got last.room) ≡ suc (length bytes) = ap length e in
@@ -69,8 +69,8 @@ module _ {longest : ℕ} {front : List ℕ} {revolutions k T H : ℕ} {before : 
               block = block ++ bytes_read got last.room;
               ended = false;
               read = goes_on (more got last.room brought (omega (arith, n))) (omega (arith, n, length-append block (bytes_read got last.room)));
-              answer-is = w'.0;
-              out-is = w'.1.1;
+              answer_is = w'.0;
+              out_is = w'.1.1;
             },
           )
 
@@ -78,7 +78,7 @@ module _ {longest : ℕ} {front : List ℕ} {revolutions k T H : ℕ} {before : 
 pub listed-on : {longest : ℕ} {front middle : List ℕ} {revolutions k T H : ℕ} {before : List ℕ} {answer : ℕ} {out : List ℕ} → Brought front middle
     → ListedBlock longest middle revolutions k T H before answer out → ListedBlock longest front revolutions k T H before answer out
 listed-on first l =
-    record { block = l.block; ended = l.ended; read = then-read first l.read; answer-is = l.answer-is; out-is = l.out-is }
+    record { block = l.block; ended = l.ended; read = then-read first l.read; answer_is = l.answer_is; out_is = l.out_is }
 
 -- bytes that were copied to the front of a room which is long enough
 front-copied : (front room : List ℕ) → length front ≤ length room → {copied : List ℕ} → copied ≡ written_over (take (length room) front) room

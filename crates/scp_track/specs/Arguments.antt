@@ -12,4 +12,4 @@ pub record ChoiceRead (choice : Choice) (first second third fourth : List ℕ) :
   pub b : ℕ
   pub c : ℕ
   pub d : ℕ
-  pub choice-is : choice ≡ choice_of words (take a first) (take b second) (take c third) (take d fourth)
+  pub choice_is : choice ≡ choice_of words (take a first) (take b second) (take c third) (take d fourth)

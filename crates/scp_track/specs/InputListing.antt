@@ -15,5 +15,5 @@ pub record ListedBlock (longest : ℕ) (front : List ℕ) (revolutions k T H : �
   pub block : List ℕ
   pub ended : Bool
   pub read : InputRead longest front ended block
-  pub answer-is : answer ≡ length (input_listing ended block revolutions k T H)
-  pub out-is : out ≡ out_after (input_listing ended block revolutions k T H) before
+  pub answer_is : answer ≡ length (input_listing ended block revolutions k T H)
+  pub out_is : out ≡ out_after (input_listing ended block revolutions k T H) before

@@ -14,7 +14,7 @@ ghost use Rattle.scp_track.specs.Arguments.{ChoiceRead};
 ghost use Rattle.scp_track.specs.InputListing.{input_listing, ListedBlock};
 
 use block_choice::Choice;
-use std::env::Env;
+use std::env::{Env, FillError};
 use std::io::Read;
 
 // Room for a usual block: up to five revolutions, each with some 50,000 values. The longest, as 31 revolutions with 65,536 values each, gets a
@@ -24,6 +24,16 @@ const USUAL_REVOLUTIONS: u8 = 5;
 const USUAL_ROOM: usize = 524_288;
 
 const LONGEST_ROOM: usize = 4_194_304;
+
+// How many words the program was started with, its own name among them. A word for which there is no room is too long, or empty.
+fn word_count<E: Env>(env: &E) -> usize {
+    for i in 0..usize::MAX {
+        if let Err(FillError::NotPresent) = env.arg(i, &mut []) {
+            return i;
+        }
+    }
+    usize::MAX
+}
 
 // The program's arguments, each by way of a room of its own.
 fn read_choice<E: Env>(
@@ -40,7 +50,7 @@ fn read_choice<E: Env>(
     let c = system_calls::word(env, 3, third);
     let d = system_calls::word(env, 4, fourth);
     block_choice::choice_of(
-        system_calls::word_count(env),
+        word_count(env),
         &first[..a],
         &second[..b],
         &third[..c],

@@ -85,7 +85,7 @@ has-mark m e z =
 pub record Part (bytes : List ℕ) (N T H i : ℕ) (image buffer : List ℕ) : Type 0 where
   pub number : (sector_of double_density bytes N (index_of (sectors_of double_density bytes N) (i + 1))).number ≡ i + 1
   pub answer : data_answer double_density bytes N T H (index_of (sectors_of double_density bytes N) (i + 1)) (length buffer) ≡ gives (record { size = 512; good = true })
-  pub bytes-are : take 512 (drop (512 * i) (image_after bytes N T H image))
+  pub bytes_are : take 512 (drop (512 * i) (image_after bytes N T H image))
       ≡ take 512 (data_after double_density bytes N T H (index_of (sectors_of double_density bytes N) (i + 1)) buffer)
 
 module _ (bytes : List ℕ) (N T H : ℕ) (image buffer : List ℕ) (given : image_answer bytes N T H (length image) ≡ gives 4608) (room : 512 ≤ length buffer) where
@@ -159,5 +159,5 @@ module _ (bytes : List ℕ) (N T H : ℕ) (image buffer : List ℕ) (given : ima
       record {
         number = number-found sectors (i + 1) (there i h);
         answer = read i h;
-        bytes-are = part-of-image i h ∙ sym (front i h _ (read i h));
+        bytes_are = part-of-image i h ∙ sym (front i h _ (read i h));
       }

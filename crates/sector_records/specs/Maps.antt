@@ -10,4 +10,4 @@ use Rattle.sector_records.specs.Marks.{word_mark_at}
 -- mark. They go on past the track's end, since data may begin there: up to word n / 64 + 68 and word n / 64 + 64
 pub record TrackMaps (layout : Layout) (bytes : List ℕ) (n : ℕ) (words syncs : List ℕ) : Type 0 where
   pub ones : Holds (one_at (cell bytes n)) words (n / 64 + 68)
-  pub syncs-are : Holds (word_mark_at (cell bytes n) layout.sync) syncs (n / 64 + 64)
+  pub syncs_are : Holds (word_mark_at (cell bytes n) layout.sync) syncs (n / 64 + 64)

@@ -13,4 +13,4 @@ pub at-50-and-250 : {ts : List ℕ} {answer : Answer ℕ} {before after : List �
     → (p q : ℤ) (vs : List Reversal) → Within 250 q p × Track 1950 2050 250 p q vs ts
     → Recovered 651 ts vs answer before after × (border_pulses_of ts ≡ 0)
 at-50-and-250 demand p q vs within =
-    (demand.recovers 50 250 (lit≤ tt) p q vs within, demand.no-border-pulses 50 250 (lit≤ tt) p q vs within)
+    (demand.recovers 50 250 (lit≤ tt) p q vs within, demand.no_border_pulses 50 250 (lit≤ tt) p q vs within)

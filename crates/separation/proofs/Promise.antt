@@ -32,8 +32,8 @@ module _ (ts before : List ℕ) {after : List ℕ} {answer : Answer ℕ} (is-ans
           cells = is-after ∙ ap (λ (x : List ℕ). buffer_after answer (packed x) before) f.cells;
           centres = f.centres;
         };
-    no-border-pulses = λ D J quiet p q vs within.
-        (tolerance D J (farthest_centre D J) (omega arith) (omega arith) within.0 within.1).no-borders (omega arith);
+    no_border_pulses = λ D J quiet p q vs within.
+        (tolerance D J (farthest_centre D J) (omega arith) (omega arith) within.0 within.1).no_borders (omega arith);
   }
 
   pub promised : (answer ≡ separation ts (length before)) × ((after ≡ separated_cells ts before) × Demand3 ts answer before after)

@@ -98,13 +98,13 @@ pub record Followed (D J error : ℕ) (r : ℤ) (vs : List Reversal) (ts : List 
   pub gaps : map (λ (w : Window). w.cells) (windows_from double_half_window r ts) ≡ map (λ (v : Reversal). v.gap) vs
   pub cells : cells_in (windows_from double_half_window r ts) ≡ cells_written vs
   pub centres : Centred error vs (windows_from double_half_window r ts)
-  pub no-borders : 8 * D + 2 * J ≤ 901 → border_pulses_in double_half_window (windows_from double_half_window r ts) ≡ 0
+  pub no_borders : 8 * D + 2 * J ≤ 901 → border_pulses_in double_half_window (windows_from double_half_window r ts) ≡ 0
 
 module _ (D J error : ℕ) (ok : 8 * D + 2 * J ≤ 998) (enough : 8 * D + J ≤ error) where
   followed-from : {p q : ℤ} {vs : List Reversal} {ts : List ℕ} (b : ℕ) → Within J q p → Carried D J b (up (q -ℤ p)) (down (q -ℤ p))
       → Track (2000 - D) (2000 + D) J p q vs ts → Followed D J error (sub_ℕ b 1000) vs ts
   unfolding windows_from cells_in border_pulses_in cells_written first_out
-  followed-from b near carried last = record { in-range = refl; gaps = refl; cells = refl; centres = none; no-borders = λ quiet. refl }
+  followed-from b near carried last = record { in-range = refl; gaps = refl; cells = refl; centres = none; no_borders = λ quiet. refl }
   followed-from b near carried (more {v = v} {vs = vs} {t = t} {ts = ts} fair track) =
       let r = residual_after double_half_window (sub_ℕ b 1000) t in
       let later : Followed D J error r vs ts =
@@ -116,7 +116,7 @@ module _ (D J error : ℕ) (ok : 8 * D + 2 * J ≤ 998) (enough : 8 * D + J ≤ 
         gaps = rw (same, later.gaps);
         cells = rw (same, later.cells);
         centres = also (centre-near ok enough fair b near carried) later.centres;
-        no-borders = λ quiet. rw (no-border ok enough fair b near carried quiet, later.no-borders quiet);
+        no_borders = λ quiet. rw (no-border ok enough fair b near carried quiet, later.no_borders quiet);
       }
 
   -- from the first reversal, whose pulse is off too, with the residual 0

@@ -12,7 +12,7 @@ use Rattle.separation.specs.Demand3.{Reversal, Fair, last, more, Tolerable, take
 
 -- D and J that may be traded, and a track within their tolerance
 pub record Possible (D J : ℕ) (p q : ℤ) (vs : List Reversal) (ts : List ℕ) : Type 0 where
-  pub may-be : taken D J ≤ 998
+  pub may_be : taken D J ≤ 998
   pub track : Tolerable D J p q vs ts
 
 -- two cells of 2,050 ns, three of 1,950 and four of 2,050, with pulses 250 ns off
@@ -35,7 +35,7 @@ fair-four : Fair 1950 2050 250 (pos 9950) (pos 9700) long-four 8700
 fair-four = record { least = lit≤ tt; most = lit≤ tt; short = le_z_yes tt; long = le_z_yes tt; near = lit≤ tt; timing = refl }
 
 pub met : Possible 50 250 (pos 0) (negsuc 249) (long-two ∷ short-three ∷ long-four ∷ []) (4600 ∷ 5350 ∷ 8700 ∷ [])
-met = record { may-be = lit≤ tt; track = (lit≤ tt, more fair-two (more fair-three (more fair-four last))) }
+met = record { may_be = lit≤ tt; track = (lit≤ tt, more fair-two (more fair-three (more fair-four last))) }
 
 -- two cells of 2,124 ns, three of 1,876 and four of 2,124, with pulses 3 ns off
 abbrev pub drifting-two : Reversal
@@ -57,7 +57,7 @@ drifts-four : Fair 1876 2124 3 (pos 9876) (pos 9873) drifting-four 8502
 drifts-four = record { least = lit≤ tt; most = lit≤ tt; short = le_z_yes tt; long = le_z_yes tt; near = lit≤ tt; timing = refl }
 
 pub met-drifting : Possible 124 3 (pos 0) (negsuc 2) (drifting-two ∷ drifting-three ∷ drifting-four ∷ []) (4254 ∷ 5622 ∷ 8502 ∷ [])
-met-drifting = record { may-be = lit≤ tt; track = (lit≤ tt, more drifts-two (more drifts-three (more drifts-four last))) }
+met-drifting = record { may_be = lit≤ tt; track = (lit≤ tt, more drifts-two (more drifts-three (more drifts-four last))) }
 
 -- cells of 2,000 ns, with pulses 499 ns off
 abbrev pub shaking-two : Reversal
@@ -79,7 +79,7 @@ shakes-four : Fair 2000 2000 499 (pos 10000) (pos 9501) shaking-four 8998
 shakes-four = record { least = lit≤ tt; most = lit≤ tt; short = le_z_yes tt; long = le_z_yes tt; near = lit≤ tt; timing = refl }
 
 pub met-shaking : Possible 0 499 (pos 0) (negsuc 498) (shaking-two ∷ shaking-three ∷ shaking-four ∷ []) (4998 ∷ 5002 ∷ 8998 ∷ [])
-met-shaking = record { may-be = lit≤ tt; track = (lit≤ tt, more shakes-two (more shakes-three (more shakes-four last))) }
+met-shaking = record { may_be = lit≤ tt; track = (lit≤ tt, more shakes-two (more shakes-three (more shakes-four last))) }
 
 -- D is 124 at most and J is 499 at most, so the two tracks above are at the ends
 pub ends : (D J : ℕ) → taken D J ≤ 998 → (D ≤ 124) × (J ≤ 499)

@@ -87,5 +87,5 @@ farthest_centre D J = 8 * D + J + 1
 pub record Demand3 (ts : List ℕ) (answer : Answer ℕ) (before after : List ℕ) : Type 0 where
   pub recovers : (D J : ℕ) → taken D J ≤ 998
       → (p q : ℤ) (vs : List Reversal) → Tolerable D J p q vs ts → Recovered (farthest_centre D J) ts vs answer before after
-  pub no-border-pulses : (D J : ℕ) → taken D J ≤ 900
+  pub no_border_pulses : (D J : ℕ) → taken D J ≤ 900
       → (p q : ℤ) (vs : List Reversal) → Tolerable D J p q vs ts → border_pulses_of ts ≡ 0

@@ -29,12 +29,12 @@ use Rattle.st_track.specs.ImageOfInput.{Outputs, number_line, refusal_line, unre
 at_front : (made before : List ℕ) {out : List ℕ} {n : ℕ} → length made ≤ length before → n ≡ length made → out ≡ out_after made before → AtFront made n out
 at_front made before h e o =
     record {
-      count-is = e;
-      front-is = rw (e, o, take_all (length before) made h) (take_at made (drop (length made) before) (length made) refl);
+      count_is = e;
+      front_is = rw (e, o, take_all (length before) made h) (take_at made (drop (length made) before) (length made) refl);
     }
 
 nothing : (out : List ℕ) → AtFront [] 0 out
-nothing out = record { count-is = refl; front-is = refl }
+nothing out = record { count_is = refl; front_is = refl }
 
 -- what a line's writer answers and leaves
 abbrev Line : (made before out : List ℕ) → ℕ → Type 0
@@ -73,8 +73,8 @@ module _ (buffer : List ℕ) (long : length buffer ≡ 16384) {first : Reader} {
         reads = through.reads;
         last = input;
         all = rw long at (all-from-start buffer started through);
-        output-is = subst (λ (x : Outputs). AtFront x.output output out) (sym e) o;
-        message-is = subst (λ (x : Outputs). AtFront x.message message out) (sym e) m;
+        output_is = subst (λ (x : Outputs). AtFront x.output output out) (sym e) o;
+        message_is = subst (λ (x : Outputs). AtFront x.message message out) (sym e) m;
       }
 
   abbrev file : List ℕ
@@ -119,8 +119,8 @@ module _ (buffer : List ℕ) (long : length buffer ≡ 16384) {first : Reader} {
               omega arith,
               imaged _ (of-file ∙ imaged-file file n given.0)
                   record {
-                    count-is = long.0 ∙ sym long.1;
-                    front-is = rw (given.1, long.0, ← long.1) (take_at image (drop (length image) before) (length image) refl);
+                    count_is = long.0 ∙ sym long.1;
+                    front_is = rw (given.1, long.0, ← long.1) (take_at image (drop (length image) before) (length image) refl);
                   }
                   (nothing made),
             ),

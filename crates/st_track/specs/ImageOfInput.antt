@@ -44,13 +44,13 @@ outputs_of_input Failed reads = record { output = []; message = unreadable_line 
 
 -- these bytes stand at the front of `out`, and there are `count` of them
 pub record AtFront (bytes : List ℕ) (count : ℕ) (out : List ℕ) : Type 0 where
-  pub count-is : count ≡ length bytes
-  pub front-is : take count out ≡ bytes
+  pub count_is : count ≡ length bytes
+  pub front_is : take count out ≡ bytes
 
 -- 13.31, 13.34: there are reads of which what is to be written stands at the front of `out`, with so many bytes for each of the two
 pub record ImagedInput (output message : ℕ) (out : List ℕ) : Type 0 where
   pub reads : List OneRead
   pub last : Input
   pub all : AllReads (start_of 16384) reads last
-  pub output-is : AtFront (outputs_of_input last reads).output output out
-  pub message-is : AtFront (outputs_of_input last reads).message message out
+  pub output_is : AtFront (outputs_of_input last reads).output output out
+  pub message_is : AtFront (outputs_of_input last reads).message message out

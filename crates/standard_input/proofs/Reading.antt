@@ -11,7 +11,7 @@ use lib.IntN.{ℤ, pos, negsuc}
 use lib.ListN.{length, take, drop, length-take, length-drop}
 use lib.Seq.{length-take-le, take-append-le, take-append-add, take_at}
 use lib.Signed.{lt_z}
-use Rattle.system_calls.specs.Counts.{clamp_len}
+use Rattle.system_calls.specs.Counts.{count_in}
 use Rattle.standard_input.specs.Reading.{bytes_read, is_end, Brought, TakenRead, ReadOn}
 use Rattle.standard_input.specs.Reading.Brought.{none, more}
 
@@ -38,7 +38,7 @@ at-end (pos (suc n)) e f =
 at-end (negsuc k) e f = cc
 
 -- the bytes of a read are as many as its number counts, and stand at the front of its room
-counted : (got : ℤ) (room : List ℕ) → clamp_len got (length room) ≡ length (bytes_read got room)
+counted : (got : ℤ) (room : List ℕ) → count_in got (length room) ≡ length (bytes_read got room)
 counted (pos n) room = sym (length-take n room)
 counted (negsuc k) room = refl
 
@@ -60,9 +60,9 @@ is-empty [] e = refl
 is-empty (x ∷ l) e = let z : ⊥ = omega arith in absurd z
 
 -- a read is taken. The code reads the number that it answered back from its bits: `seen`
-pub taken : (got : ℤ) (room : List ℕ) {seen : ℤ} → seen ≡ got → {count : ℕ} → count ≡ clamp_len seen (length room) → {ended : Bool} → ended ≡ is_end seen
+pub taken : (got : ℤ) (room : List ℕ) {seen : ℤ} → seen ≡ got → {count : ℕ} → count ≡ count_in seen (length room) → {ended : Bool} → ended ≡ is_end seen
     → (count ≡ length (bytes_read got room)) × (ended ≡ is_end got)
-taken got room same c e = (c ∙ ap (λ (z : ℤ). clamp_len z (length room)) same ∙ counted got room, e ∙ ap is_end same)
+taken got room same c e = (c ∙ ap (λ (z : ℤ). count_in z (length room)) same ∙ counted got room, e ∙ ap is_end same)
 
 -- reads into a block, as the loop makes them: before one, its first `count` bytes are read
 pub record AtByte (front block₀ block : List ℕ) (count : ℕ) : Type 0 where
@@ -85,18 +85,18 @@ module _ {front block₀ block : List ℕ} {count : ℕ} (at : AtByte front bloc
 
   module _ {more-count : ℕ} {ended : Bool} (read : TakenRead part more-count ended) where
     pub in_block : count + more-count ≤ length block
-    in_block = let w = at.within in omega (arith, read.count-is, few_bytes read.got part, part-long)
+    in_block = let w = at.within in omega (arith, read.count_is, few_bytes read.got part, part-long)
 
     -- so many bytes more are read
     more-read : take (count + more-count) after ≡ take count block ++ bytes_read read.got part
     more-read =
         let l : length (take count block) ≡ count = length-take-le count block at.within in
-        let n : more-count ≤ length part = rw read.count-is (few_bytes read.got part) in
+        let n : more-count ≤ length part = rw read.count_is (few_bytes read.got part) in
         ap (λ (n : ℕ). take (n + more-count) after) (sym l)
         ∙ take-append-add (take count block) (part ++ post_of count (length block - count) block) more-count
         ∙ ap (λ (r : List ℕ). take count block ++ r)
         (take-append-le more-count part (post_of count (length block - count) block) n
-        ∙ ap (λ (n : ℕ). take n part) read.count-is
+        ∙ ap (λ (n : ℕ). take n part) read.count_is
         ∙ sym (at_front read.got part))
 
     pub next-byte : 0 < more-count → AtByte front block₀ after (count + more-count)
@@ -104,7 +104,7 @@ module _ {front block₀ block : List ℕ} {count : ℕ} (at : AtByte front bloc
         record {
           within = omega (arith, in_block, as_long, at.long);
           long = as_long;
-          brought = rw more-read (more read.got part at.brought (omega (arith, read.count-is)));
+          brought = rw more-read (more read.got part at.brought (omega (arith, read.count_is)));
         }
 
     -- a read that brought nothing: the block is read
@@ -113,7 +113,7 @@ module _ {front block₀ block : List ℕ} {count : ℕ} (at : AtByte front bloc
         record {
           within = omega (arith, in_block, as_long, at.long);
           brought = rw nothing-new at.brought;
-          stopped = λ h. record { room = part; taken = record { got = read.got; count-is = sym z ∙ read.count-is; ended_is = read.ended_is } };
+          stopped = λ h. record { room = part; taken = record { got = read.got; count_is = sym z ∙ read.count_is; ended_is = read.ended_is } };
           filled = λ h. let z : ⊥ = omega (arith, as_long, at.long) in absurd z;
         }
       where

@@ -23,7 +23,7 @@ pub data Brought (front : List ℕ) : List ℕ → Type 0 where
 -- 13.1: one read, that answered some number and left this room
 pub record TakenRead (room : List ℕ) (count : ℕ) (ended : Bool) : Type 0 where
   pub got : ℤ
-  pub count-is : count ≡ length (bytes_read got room)
+  pub count_is : count ≡ length (bytes_read got room)
   pub ended_is : ended ≡ is_end got
 
 -- the same of a room that is not kept

@@ -30,8 +30,8 @@ module _ (f d : ℕ → ℕ) (m : ℕ → Bool) (L : Lawful f d m) (n : ℕ) (bi
   one-spaced : (p : ℕ) → f p ≡ 1 → (f (p + 1) ≡ 0) × ((f (p + 2) ≡ 1) ⊎ ((f (p + 3) ≡ 1) ⊎ (f (p + 4) ≡ 1)))
   one-spaced p e =
       let s = spaced f d m L (p + n) (omega arith) (again p ∙ e) in (
-        on 1 0 s.zero-next,
-        ⊎_elim (λ z. inl (on 2 1 z)) (λ z. inr (⊎_elim (λ y. inl (on 3 1 y)) (λ y. inr (on 4 1 y)) z)) s.one-soon,
+        on 1 0 s.zero_next,
+        ⊎_elim (λ z. inl (on 2 1 z)) (λ z. inr (⊎_elim (λ y. inl (on 3 1 y)) (λ y. inr (on 4 1 y)) z)) s.one_soon,
       )
     where
       on : (k x : ℕ) → f (p + n + k) ≡ x → f (p + k) ≡ x
@@ -65,14 +65,14 @@ module _ (f d : ℕ → ℕ) (m : ℕ → Bool) (L : Lawful f d m) (n : ℕ) (bi
   unfolding gaps_of
   no-mtv = rw (count_none (violation double_density f n) n 0 (λ q a b. no-violation q))
 
-  few-zeros : (p : ℕ) → zeros_from f n p ≤ 4
+  few_zeros : (p : ℕ) → zeros_from f n p ≤ 4
   unfolding zeros_from
-  few-zeros p =
+  few_zeros p =
       let s = soon f d m L p in
       omega (arith, least-le (is_one f) n p (p + s.on) (omega arith) (one-is f (p + s.on) s.one), s.near)
 
   pub no-nfa : (nfa (gaps_of double_density f n)).holds ≡ false
   unfolding gaps_of longest_run
   no-nfa =
-      let l : most (zeros_from f n) n 0 ≤ 4 = most-le (zeros_from f n) n 0 4 few-zeros in
+      let l : most (zeros_from f n) n 0 ≤ 4 = most-le (zeros_from f n) n 0 4 few_zeros in
       rw (lt-leb 1000 (most (zeros_from f n) n 0) (omega arith))

@@ -34,7 +34,7 @@ piece_at pieces i = get_or pieces (i % 6250) (coded 0)
 -- data bit has to be 0, which is what the first piece was coded after
 pub record Round (pieces : List Piece) : Type 0 where
   pub long : length pieces ≡ 6250
-  pub no-c2 : (i : ℕ) → is_c2 (piece_at pieces i) ≡ false
+  pub no_c2 : (i : ℕ) → is_c2 (piece_at pieces i) ≡ false
   pub bytes : (i : ℕ) → byte_of (piece_at pieces i) < 256
   pub high : (i : ℕ) → is_sync (piece_at pieces i) ≡ true → bit_of (byte_of (piece_at pieces (i + 1))) 0 ≡ 1
   pub closed : byte_of (get_or pieces 6249 (coded 0)) % 2 ≡ 0
@@ -87,7 +87,7 @@ module _ (pieces : List Piece) (rest : List ℕ) (R : Round pieces) where
   clock-later : (i k : ℕ) → k < 7
       → track_cells pieces rest (16 * i + 2 * suc k)
       ≡ cond (is_sync (piece_at pieces i) && eqb (suc k) 5) 0 (clock (bit_of (byte_of (piece_at pieces i)) k) (bit_of (byte_of (piece_at pieces i)) (suc k)))
-  clock-later i k h = on-track i (2 * suc k) (omega arith) ∙ later-clock (bit_at 0 pieces (i % 6250)) (piece_at pieces i) k (R.no-c2 i) h
+  clock-later i k h = on-track i (2 * suc k) (omega arith) ∙ later-clock (bit_at 0 pieces (i % 6250)) (piece_at pieces i) k (R.no_c2 i) h
 
   data-cell : (j : ℕ) → track_cells pieces rest (2 * j + 1) ≡ bits_of pieces j
   data-cell j =
@@ -95,8 +95,8 @@ module _ (pieces : List Piece) (rest : List ℕ) (R : Round pieces) where
       ap (track_cells pieces rest) e ∙ on-track (j / 8) (2 * (j % 8) + 1) (omega arith) ∙ data_of (bit_at 0 pieces (j / 8 % 6250))
       (piece_at pieces (j / 8)) (j % 8) (omega arith)
 
-  clock-cell : (j : ℕ) → track_cells pieces rest (2 * (j + 1)) ≡ cond (misses_at pieces (j + 1)) 0 (clock (bits_of pieces j) (bits_of pieces (j + 1)))
-  clock-cell j = go (ℕ_discrete (j % 8) 7)
+  clock_cell : (j : ℕ) → track_cells pieces rest (2 * (j + 1)) ≡ cond (misses_at pieces (j + 1)) 0 (clock (bits_of pieces j) (bits_of pieces (j + 1)))
+  clock_cell j = go (ℕ_discrete (j % 8) 7)
     where
       go : Dec (j % 8 ≡ 7) → track_cells pieces rest (2 * (j + 1)) ≡ cond (misses_at pieces (j + 1)) 0 (clock (bits_of pieces j) (bits_of pieces (j + 1)))
       go (yes e) =
@@ -125,10 +125,10 @@ module _ (pieces : List Piece) (rest : List ℕ) (R : Round pieces) where
         cells = cell-lt (packed_from 0 pieces ++ rest) 100000;
         bits = λ j. omega arith;
         data-cell = data-cell;
-        clock-cell = clock-cell;
-        missing-two-on = λ j e. (let s = misses (j + 2) e in let t = s.1 in bit_in j ((j + 2) / 8) 3 s.0 (omega arith) (omega arith));
-        zero-after = λ j e. (let s = misses j e in let t = s.1 in bit_in (j + 1) (j / 8) 6 s.0 (omega arith) (omega arith));
-        one-after = λ j e. after j (misses j e);
+        clock_cell = clock_cell;
+        missing_two_on = λ j e. (let s = misses (j + 2) e in let t = s.1 in bit_in j ((j + 2) / 8) 3 s.0 (omega arith) (omega arith));
+        zero_after = λ j e. (let s = misses j e in let t = s.1 in bit_in (j + 1) (j / 8) 6 s.0 (omega arith) (omega arith));
+        one_after = λ j e. after j (misses j e);
         once = λ j e. (let s = misses j e in let t = s.1 in only j (omega arith));
       }
     where

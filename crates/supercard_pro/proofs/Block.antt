@@ -13,7 +13,7 @@ use Rattle.basis.specs.Search.{least}
 use Rattle.basis.proofs.Bools.{or_left, or_right}
 use Rattle.basis.proofs.Search.{least-before}
 use Rattle.flux_timings.specs.Timings.{first_out, timings_judged}
-use Rattle.flux_timings.proofs.Judging.{no-timings}
+use Rattle.flux_timings.proofs.Judging.{no_timings}
 use Rattle.refusals.specs.RefusedCalls.{Answer, buffer_after}
 use Rattle.refusals.specs.RefusedCalls.Answer.{gives, refused}
 use Rattle.supercard_pro.specs.TrackBlock.{value_count, value_offset, table_end, value_bytes, revolution_timings, ends_in_zero, other_letters, table_short, bad_revolution, some_bad, not_a_track_block, block_judged, block_answer, block_timings}
@@ -129,7 +129,7 @@ module _ (block : List ℕ) (revolutions k : ℕ) (list : List ℕ) where
       unfolding buffer_after values_of timings_from
       no-values-no-timings c z =
           let e : length (revolution_timings block k) ≡ 0 = rw (← c, z) in
-          block-promised (no-timings (revolution_timings block k) _ e ∙ judged-on) refl
+          block-promised (no_timings (revolution_timings block k) _ e ∙ judged-on) refl
 
       part-is : (from count : ℕ) → from ≡ value_offset block k → count ≡ value_count block k → take (from + 2 * count - from) (drop from block) ≡ value_bytes block k
       part-is from count o c =
@@ -146,7 +146,7 @@ module _ (block : List ℕ) (revolutions k : ℕ) (list : List ℕ) where
           let n = length-take-le (2 * value_count block k) (drop (value_offset block k) block) (omega (arith, s.ends, length-drop (value_offset block k) block)) in
           let has_value : 2 ≤ length (value_bytes block k) = omega (arith, n, c, some) in
           let has-timing = some-timing 0 (values_of (value_bytes block k)) (some-values (value_bytes block k) has_value) s.last in
-          let answer-is : answer ≡ portion_answer fresh_reader (value_bytes block k) (length list) = e ∙ rw (r, part) in
-          block-promised (answer-is ∙ whole-answer (value_bytes block k) (length list) has-timing ∙ judged-on)
+          let answer_is : answer ≡ portion_answer fresh_reader (value_bytes block k) (length list) = e ∙ rw (r, part) in
+          block-promised (answer_is ∙ whole-answer (value_bytes block k) (length list) has-timing ∙ judged-on)
           (f ∙ rw (r, part) (whole-list (value_bytes block k) list
-          ∙ ap (λ (a : Answer ℕ). buffer_after a (revolution_timings block k) list) (sym answer-is)))
+          ∙ ap (λ (a : Answer ℕ). buffer_after a (revolution_timings block k) list) (sym answer_is)))

@@ -18,7 +18,7 @@ use lib.Dec.{ltb}
 use lib.ListN.{length, length-append}
 use Rattle.basis.specs.Lists.{written_over}
 use Rattle.flux_timings.specs.Timings.{first_out}
-use Rattle.flux_timings.proofs.Judging.{no-timings, timings-accepted}
+use Rattle.flux_timings.proofs.Judging.{no_timings, timings-accepted}
 use Rattle.refusals.specs.RefusedCalls.{Answer, buffer_after}
 use Rattle.refusals.specs.RefusedCalls.Answer.{gives, refused}
 use Rattle.supercard_pro.specs.TrackBlock.{value_bytes, revolution_timings, not_a_track_block, block_judged, block_answer, block_timings}
@@ -79,7 +79,7 @@ module _ (block : List ℕ) (revolutions k : ℕ) where
   as-whole-call block-is has {reader} {given} calls =
       let b = behind-calls calls in
       let same : given ≡ revolution_timings block k = given-same calls in
-      let few : length given ≤ 65536 = omega (arith, b.few-timings, counted calls) in
+      let few : length given ≤ 65536 = omega (arith, b.few_timings, counted calls) in
       record {
         same = same;
         answer = λ some list room. given-whole block-is has same some few b.all_in (length list) room;
@@ -108,7 +108,7 @@ module _ (block : List ℕ) (revolutions k : ℕ) where
       let ts = revolution_timings block k in
       let accepts = judged-on e in
       let some : length ts ≡ 0 → ⊥
-      = λ none. let r = no-timings ts (room_judged (length ts) (length list)) none in let z : ◌≡◌ {A = ℕ} 0 1 = cc in omega arith in
+      = λ none. let r = no_timings ts (room_judged (length ts) (length list)) none in let z : ◌≡◌ {A = ℕ} 0 1 = cc in omega arith in
       let same : portion_answer fresh_reader (value_bytes block k) (length list) ≡ gives count = whole-answer (value_bytes block k) (length list) some ∙ accepts in
       record {
         answer = same;
@@ -122,10 +122,10 @@ module _ (block : List ℕ) (revolutions k : ℕ) where
       let b = behind-calls calls in
       let ts = portion_timings reader portion in
       let us = timings_ending (unfinished_after (unfinished_after (between 0) bytes) portion) rest in
-      let used = used-as-is reader b.few-zeros b.few-timings in
+      let used = used-as-is reader b.few_zeros b.few_timings in
       let whole = accepted 0 (timings_ending (between 0) (value_bytes block k)) (length list) count (sym (one-portion (value_bytes block k) (length list)) ∙ (whole-in-one list count e).answer) in
       let here : timings_ending (unfinished_after (between 0) bytes) portion ≡ ts
-      = ap (λ (u : Unfinished). timings_ending u portion) (sym b.unfinished-is) ∙ ap (λ (r : RevolutionReader). timings_ending r.unfinished portion) used in
+      = ap (λ (u : Unfinished). timings_ending u portion) (sym b.unfinished_is) ∙ ap (λ (r : RevolutionReader). timings_ending r.unfinished portion) used in
       let all : timings_ending (between 0) (value_bytes block k) ≡ given ++ (ts ++ us)
       = ap (timings_ending (between 0)) (sym cut) ∙ ending-append (between 0) bytes (portion ++ rest)
       ∙ rw (← b.given_is, ending-append (unfinished_after (between 0) bytes) portion rest, here) in

@@ -37,7 +37,7 @@ ends_last (suc n) (high ∷ low ∷ h ∷ l ∷ bytes) e =
     rw (a, b) (ends_last n (h ∷ l ∷ bytes) (omega arith))
 
 -- a revolution, judged as the code does: from its offset, where its values end, and their last
-module _ (block : List ℕ) (revolutions k : ℕ) {from count : ℕ} (from_is : from ≡ value_offset block k) (count-is : count ≡ value_count block k) where
+module _ (block : List ℕ) (revolutions k : ℕ) {from count : ℕ} (from_is : from ≡ value_offset block k) (count_is : count ≡ value_count block k) where
   pub starts-in-table : from < table_end revolutions → true ≡ bad_revolution block revolutions k
   unfolding bad_revolution
   starts-in-table h = rw (← from_is, lt-ltb from (table_end revolutions) h)
@@ -45,12 +45,12 @@ module _ (block : List ℕ) (revolutions k : ℕ) {from count : ℕ} (from_is : 
   module _ (after : table_end revolutions ≤ from) where
     pub ends-beyond : length block < from + 2 * count → true ≡ bad_revolution block revolutions k
     unfolding bad_revolution
-    ends-beyond h = rw (← from_is, ← count-is, le-ltb from (table_end revolutions) after, lt-ltb (length block) (from + 2 * count) h)
+    ends-beyond h = rw (← from_is, ← count_is, le-ltb from (table_end revolutions) after, lt-ltb (length block) (from + 2 * count) h)
 
     module _ (inside : from + 2 * count ≤ length block) where
       left : bad_revolution block revolutions k ≡ ends_in_zero (values_of (take (2 * count) (drop from block)))
       unfolding bad_revolution
-      left = rw (← from_is, ← count-is, le-ltb from (table_end revolutions) after, le-ltb (length block) (from + 2 * count) inside)
+      left = rw (← from_is, ← count_is, le-ltb from (table_end revolutions) after, le-ltb (length block) (from + 2 * count) inside)
 
       pub no-values : count ≡ 0 → false ≡ bad_revolution block revolutions k
       unfolding values_of ends_in_zero

@@ -1,16 +1,12 @@
--- What the contracts of reads and words cite. Assumes nothing.
-use Rattle.std.specs.Prelude.{◌≡◌, ℕ, ◌≤◌, min, List, length, take, ℤ, pos, negsuc}
+-- How many bytes of a room a call on the system fills, for the contracts of reads and words. Assumes nothing.
+use Rattle.std.specs.Prelude.{◌≡◌, ℕ, ◌≤◌, min, ℤ, pos, negsuc}
 
--- `&xs[..n]` is in bounds and has n bytes. The second part follows from the first, and spares a caller's `&room[..n]` a proof file.
-abbrev pub IsPrefixLen : ℕ → List ℕ → Type 0
-IsPrefixLen n xs = (n ≤ length xs) × (n ≡ length (take n xs))
+-- what a read of a room of so many bytes may answer: how many bytes it put there, or -1 where it failed
+abbrev pub ReadAnswers : ℕ → ℤ → Type 0
+ReadAnswers room (pos count) = count ≤ room
+ReadAnswers room (negsuc k) = k ≡ 0
 
--- what a read that is handed n bytes may answer: -1, or how many bytes it moved, at most n
-abbrev pub Moved : ℕ → ℤ → Type 0
-Moved n (pos k) = k ≤ n
-Moved n (negsuc k) = k ≡ 0
-
--- what a read answered, brought into `0..=most`
-abbrev pub clamp_len : ℤ → ℕ → ℕ
-clamp_len (pos k) most = min k most
-clamp_len (negsuc k) most = 0
+-- the bytes at the front of a room that an answer speaks of: none where it is below 0, and the whole room where it is above that
+abbrev pub count_in : ℤ → ℕ → ℕ
+count_in (pos count) room = min count room
+count_in (negsuc k) room = 0

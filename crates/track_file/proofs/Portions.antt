@@ -58,11 +58,11 @@ pub record Fed (portion cells₀ : List ℕ) (reader₀ : Reader) (from : ℕ) (
   pub on : from ≤ i
   pub within : i ≤ length portion
   pub long : length cells ≡ length cells₀
-  pub to-reader : reader_after reader (drop i portion) ≡ reader_after reader₀ (drop from portion)
-  pub to-cells : cells_after reader (drop i portion) cells ≡ cells_after reader₀ (drop from portion) cells₀
+  pub to_reader : reader_after reader (drop i portion) ≡ reader_after reader₀ (drop from portion)
+  pub to_cells : cells_after reader (drop i portion) cells ≡ cells_after reader₀ (drop from portion) cells₀
 
 pub none-fed : (portion cells : List ℕ) (reader : Reader) (from : ℕ) → from ≤ length portion → Fed portion cells reader from cells reader from
-none-fed portion cells reader from h = record { on = omega arith; within = h; long = refl; to-reader = refl; to-cells = refl }
+none-fed portion cells reader from h = record { on = omega arith; within = h; long = refl; to_reader = refl; to_cells = refl }
 
 -- the same, as the contract of a part of the walk says it
 abbrev Said : List ℕ → List ℕ → Reader → ℕ → List ℕ → Reader → ℕ → Type 0
@@ -73,10 +73,10 @@ Said portion cells₀ reader₀ from cells reader i =
 
 module _ {portion cells₀ : List ℕ} {reader₀ : Reader} {from : ℕ} {cells : List ℕ} {reader : Reader} {i : ℕ} where
   pub as_said : {told : Reader} → told ≡ reader₀ → Fed portion cells₀ reader₀ from cells reader i → Said portion cells₀ told from cells reader i
-  as_said e fed = rw e (fed.on, (fed.within, (fed.to-reader, fed.to-cells)))
+  as_said e fed = rw e (fed.on, (fed.within, (fed.to_reader, fed.to_cells)))
 
   pub from-said : Said portion cells₀ reader₀ from cells reader i → length cells ≡ length cells₀ → Fed portion cells₀ reader₀ from cells reader i
-  from-said s l = record { on = s.0; within = s.1.0; long = l; to-reader = s.1.1.0; to-cells = s.1.1.1 }
+  from-said s l = record { on = s.0; within = s.1.0; long = l; to_reader = s.1.1.0; to_cells = s.1.1.1 }
 
 -- the byte at i
 byte_at : (portion : List ℕ) (i : ℕ) → i < length portion → drop i portion ≡ get_or portion i 0 ∷ drop (i + 1) portion
@@ -95,8 +95,8 @@ module _ {portion cells₀ : List ℕ} {reader₀ : Reader} {from : ℕ} where
           on = omega arith;
           within = omega arith;
           long = l ∙ fed.long;
-          to-reader = rw e.0 (ap (reader_after reader) (sym rest) ∙ fed.to-reader);
-          to-cells = rw (e.0, e.1) (ap (λ (x : List ℕ). cells_after reader x cells) (sym rest) ∙ fed.to-cells);
+          to_reader = rw e.0 (ap (reader_after reader) (sym rest) ∙ fed.to_reader);
+          to_cells = rw (e.0, e.1) (ap (λ (x : List ℕ). cells_after reader x cells) (sym rest) ∙ fed.to_cells);
         }
 
     pub more-fed : {after : List ℕ} {next : Reader} {j : ℕ} → Fed portion cells reader i after next j → Fed portion cells₀ reader₀ from after next j
@@ -107,8 +107,8 @@ module _ {portion cells₀ : List ℕ} {reader₀ : Reader} {from : ℕ} where
           on = omega arith;
           within = more.within;
           long = more.long ∙ fed.long;
-          to-reader = more.to-reader ∙ fed.to-reader;
-          to-cells = more.to-cells ∙ fed.to-cells;
+          to_reader = more.to_reader ∙ fed.to_reader;
+          to_cells = more.to_cells ∙ fed.to_cells;
         }
 
     pub all-fed : length portion ≤ i
@@ -116,7 +116,7 @@ module _ {portion cells₀ : List ℕ} {reader₀ : Reader} {from : ℕ} where
     unfolding reader_after cells_after
     all-fed h =
         let rest = drop_of_length-le portion h in
-        (ap (reader_after reader) (sym rest) ∙ fed.to-reader, ap (λ (x : List ℕ). cells_after reader x cells) (sym rest) ∙ fed.to-cells)
+        (ap (reader_after reader) (sym rest) ∙ fed.to_reader, ap (λ (x : List ℕ). cells_after reader x cells) (sym rest) ∙ fed.to_cells)
 
   -- a byte of packed cells that is not the last
   pub packed-fed : {cells : List ℕ} {place : Place} {count at i : ℕ} → Fed portion cells₀ reader₀ from cells (PackedCells place count at) i → i < length portion

@@ -18,7 +18,7 @@ module _ (buffer : List ℕ) {first : Reader} {cleared : List ℕ} (started : (f
     {input : Input} {cells : List ℕ} (through : ReadThrough first cleared input cells) where
   listed : {answer : ℕ} {out : List ℕ} → answer ≡ length (listed_of (length buffer) input through.reads) → take answer out ≡ listed_of (length buffer) input through.reads
       → ListedInput buffer answer out
-  listed a f = record { reads = through.reads; last = input; all = all-from-start buffer started through; answer-is = a; front-is = f }
+  listed a f = record { reads = through.reads; last = input; all = all-from-start buffer started through; answer_is = a; front_is = f }
 
   pub still_open : (out : List ℕ) {reader : Reader} → input ≡ Open reader → ListedInput buffer 0 out
   unfolding listed_of

@@ -19,5 +19,5 @@ pub record ListedInput (buffer : List ℕ) (answer : ℕ) (out : List ℕ) : Typ
   pub reads : List OneRead
   pub last : Input
   pub all : AllReads (start_of (length buffer)) reads last
-  pub answer-is : answer ≡ length (listed_of (length buffer) last reads)
-  pub front-is : take answer out ≡ listed_of (length buffer) last reads
+  pub answer_is : answer ≡ length (listed_of (length buffer) last reads)
+  pub front_is : take answer out ≡ listed_of (length buffer) last reads

@@ -58,21 +58,21 @@ module _ (list : List ℕ) (r room : ℕ) (c : UpToMost (length (pieces_of list)
   unfolding judged cell_count
   too_many h = let l = counted-many (length (pieces_of list)) r c h in rw (lt-ltb 131072 (16 * length (pieces_of list)) (omega arith))
 
-  bytes-are : r ≤ 8192 → (16 * length (pieces_of list) + 7) / 8 ≡ 2 * r
-  bytes-are h = let e = counted-few (length (pieces_of list)) r c h in omega arith
+  bytes_are : r ≤ 8192 → (16 * length (pieces_of list) + 7) / 8 ≡ 2 * r
+  bytes_are h = let e = counted-few (length (pieces_of list)) r c h in omega arith
 
   pub no_room : r ≤ 8192 → room < 2 * r → refused 10 (2 * r) ≡ judged (cell_count list) room
   unfolding judged cell_count
   no_room h g =
       let e = counted-few (length (pieces_of list)) r c h in
-      rw (le-ltb 131072 (16 * length (pieces_of list)) (omega arith), bytes-are h, lt-ltb room (2 * r) g)
+      rw (le-ltb 131072 (16 * length (pieces_of list)) (omega arith), bytes_are h, lt-ltb room (2 * r) g)
 
   pub in-room : r ≤ 8192 → 2 * r ≤ room → gives (16 * r) ≡ judged (cell_count list) room
   unfolding judged cell_count
   in-room h g =
       let e = counted-few (length (pieces_of list)) r c h in
       let s : 16 * length (pieces_of list) ≡ 16 * r = omega arith in
-      rw (le-ltb 131072 (16 * length (pieces_of list)) (omega arith), bytes-are h, le-ltb room (2 * r) g, s)
+      rw (le-ltb 131072 (16 * length (pieces_of list)) (omega arith), bytes_are h, le-ltb room (2 * r) g, s)
 
 -- ---- the pieces are counted by the bytes alone: neither the check word nor the runs change their number
 pub piece_count : List ℕ → ℕ

@@ -16,7 +16,7 @@ use Rattle.track_file.proofs.Staged.{never}
 
 -- no refusal is given
 record NoneBefore (file : List ℕ) (content : Content) : Type 0 where
-  few-cells : cell_count_refused file ≡ false
+  few_cells : cell_count_refused file ≡ false
   whole : not_a_track_file file ≡ false
   count : cell_count file ≡ content.cells
 
@@ -37,7 +37,7 @@ none_before file content = go (place_count_refused file) (cell_count_refused fil
     go false true c d p r e = never e
     go false false true d p r e = never e
     go false false false true p r e = never e
-    go false false false false p r e = record { few-cells = p; whole = r; count = same e }
+    go false false false false p r e = record { few_cells = p; whole = r; count = same e }
 
 -- two tests of which none holds, and a test of a count that is there
 neither : (x y : Bool) → (x || y) ≡ false → y ≡ false
@@ -67,11 +67,11 @@ module _ (file : List ℕ) (content : Content) (is : file_answer file ≡ gives 
   after-count : length (drop 4 (cell_section file)) ≡ (length file - 6) - 4
   after-count = length-drop 4 (cell_section file) ∙ ap (λ (k : ℕ). k - 4) (length-drop 6 file)
 
-  few-cells : n ≤ 131072
-  few-cells =
-      ltb-false 131072 n (second (has_count (cell_section file)) (ltb 131072 n) (le-leb 4 (length (cell_section file)) (omega (arith, long, length-drop 6 file))) before.few-cells)
+  few_cells : n ≤ 131072
+  few_cells =
+      ltb-false 131072 n (second (has_count (cell_section file)) (ltb 131072 n) (le-leb 4 (length (cell_section file)) (omega (arith, long, length-drop 6 file))) before.few_cells)
 
   -- the file's cells fill the bytes that their number needs
   pub cells-fill : (length (packed_bytes file) ≡ bytes_for content.cells) × (content.cells ≤ 131072)
   cells-fill =
-      (length-take-le (bytes_for n) (drop 4 (cell_section file)) (omega (arith, long, after-count)) ∙ ap bytes_for before.count, omega (arith, few-cells, before.count))
+      (length-take-le (bytes_for n) (drop 4 (cell_section file)) (omega (arith, long, after-count)) ∙ ap bytes_for before.count, omega (arith, few_cells, before.count))

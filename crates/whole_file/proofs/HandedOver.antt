@@ -63,8 +63,8 @@ module _ (buffer file : List ℕ) (room : length buffer ≡ 16384) {start reader
       let same : file_answer_in (length buffer) (whole_of (file ∷ [])) ≡ file_answer file = rw (one.1.1, room) in
       (w.0 ∙ same, λ content is. one.1.0 ∙ w.1 content is ∙ rw (one.1.1, room))
 
-  pub few-cells : (content : Content) → answer ≡ gives content → content.cells ≤ 131072
-  few-cells content is = (cells-fill file content (sym given.0 ∙ is)).1
+  pub few_cells : (content : Content) → answer ≡ gives content → content.cells ≤ 131072
+  few_cells content is = (cells-fill file content (sym given.0 ∙ is)).1
 
   -- all that `file_cells` promises
   pub all-handed : (before : List ℕ) {after : List ℕ} {told : Answer Content} → Handed answer own before after told

@@ -55,9 +55,9 @@ judged-refused cells number value = go (ltb 131072 cells) refl (ltb 16384 (bytes
 
 -- so many cells are given, those of the list, and they stand at the front
 pub record Given (list cells : List ℕ) (count : ℕ) : Type 0 where
-  pub count-is : count ≡ cell_count list
+  pub count_is : count ≡ cell_count list
   pub few : cell_count list ≤ 131072
-  pub front-is : take (count / 8) cells ≡ written list
+  pub front_is : take (count / 8) cells ≡ written list
 
 -- the call in a room of 16,384 bytes
 module _ (list before : List ℕ) (long : length before ≡ 16384) (answer : Counted) {cells : List ℕ}
@@ -71,9 +71,9 @@ module _ (list before : List ℕ) (long : length before ≡ 16384) (answer : Cou
       call.1 ∙ ap (λ (a : Answer ℕ). buffer_after a (written list) before) (sym told) in
       let bytes : length (written list) ≡ count / 8 = omega (arith, length-written list, is.0) in
       record {
-        count-is = is.0;
+        count_is = is.0;
         few = is.1;
-        front-is = ap (take (count / 8)) made ∙ take_at (written list) (drop (length (written list)) before) (count / 8) bytes;
+        front_is = ap (take (count / 8)) made ∙ take_at (written list) (drop (length (written list)) before) (count / 8) bytes;
       }
 
   -- or it is refused with 20

@@ -14,7 +14,7 @@ use Rattle.write_track.specs.FileOfList.{Outputs, file_with, refusal, unreadable
 use Rattle.write_track.proofs.Cells.{many-cells}
 
 nothing : (out : List ℕ) → AtFront [] 0 out
-nothing out = record { within = omega arith; front-is = refl }
+nothing out = record { within = omega arith; front_is = refl }
 
 -- the lines of standard error
 pub refusal-made : (number : ℕ) → number < 0x1_0000_0000 → (before : List ℕ) {out : List ℕ} {n : ℕ} → length before ≡ 65536
@@ -26,11 +26,11 @@ refusal-made number fits before {out} {n} long same line =
     let all : take (length before) made ≡ made = take_all (length before) made (omega arith) in
     let written : out ≡ made ++ drop (length made) before = line.1 ∙ ap (λ (l : List ℕ). l ++ drop (length l) before) all in
     record {
-      output-is = nothing out;
-      message-is =
+      output_is = nothing out;
+      message_is =
           record {
             within = omega (arith, line.0);
-            front-is =
+            front_is =
                 ap (λ (k : ℕ). take k out) line.0
                 ∙ ap (take (length made)) written
                 ∙ take_at made (drop (length made) before) (length made) refl;
@@ -40,7 +40,7 @@ refusal-made number fits before {out} {n} long same line =
 pub unreadable-made : {out : List ℕ} {n : ℕ} → length out ≡ 65536 → n ≡ 48 → take n out ≡ bytes_of "write_track: the list cannot be read to its end\n"
     → Made unreadable 0 n out
 unfolding unreadable
-unreadable-made {out} long e line = record { output-is = nothing out; message-is = record { within = omega arith; front-is = line } }
+unreadable-made {out} long e line = record { output_is = nothing out; message_is = record { within = omega arith; front_is = line } }
 
 -- where the outputs are known
 made_as : {outputs other : Outputs} → outputs ≡ other → {output message : ℕ} {out : List ℕ} → Made other output message out
@@ -81,7 +81,7 @@ file-made {T} {H} list track side some few {count} {packed} c p {n} {out} at =
     made_as
     {other = record { output = file_with T H (cell_count list) (written list); message = [] }}
     (rw (le-ltb 83 T track, le-ltb 1 H side, ne_eqb (length list) 0 some, le-ltb 131072 (cell_count list) few))
-    record { output-is = rw (← c, ← p) at; message-is = nothing out }
+    record { output_is = rw (← c, ← p) at; message_is = nothing out }
 
 -- an input
 module _ (T H : ℕ) (ended : Bool) (list : List ℕ) {output message : ℕ} {out : List ℕ} where

@@ -41,7 +41,7 @@ unfolding file_with
 file-written T H count packed {front} e i j k b c d first second third within =
     record {
       within = within;
-      front-is =
+      front_is =
           third.1
           ∙ ap (λ (l : List ℕ). l ++ in_four_bytes 0) (second.1 ∙ ap (λ (l : List ℕ). l ++ packed) first.1)
           ∙ append_assoc front packed (in_four_bytes 0)

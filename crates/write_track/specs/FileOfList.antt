@@ -47,12 +47,12 @@ outputs_of_input T H ended list = cond (ltb 8192 (length list)) (outputs_of T H 
 -- these bytes stand at the front of `out`, and there are `count` of them
 pub record AtFront (bytes : List ℕ) (count : ℕ) (out : List ℕ) : Type 0 where
   pub within : count ≤ length out
-  pub front-is : take count out ≡ bytes
+  pub front_is : take count out ≡ bytes
 
 -- the bytes for the two outputs stand at the front of `out`, so many of them
 pub record Made (outputs : Outputs) (output message : ℕ) (out : List ℕ) : Type 0 where
-  pub output-is : AtFront outputs.output output out
-  pub message-is : AtFront outputs.message message out
+  pub output_is : AtFront outputs.output output out
+  pub message_is : AtFront outputs.message message out
 
 -- 13.1, 13.56: there are reads, to the end of a room of 8,193 bytes or up to one that brought nothing, of which what is to be written stands at the
 -- front of `out`

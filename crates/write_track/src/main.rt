@@ -13,7 +13,7 @@ ghost use Rattle.write_track.specs.FileOfList.{front_of, file_with, refusal, unr
 
 use block_choice::Choice;
 use refusals::Counted;
-use std::env::Env;
+use std::env::{Env, FillError};
 use std::io::Read;
 
 // A list of more bytes than a track can hold is refused, so that one byte more is all that need be read.
@@ -28,13 +28,23 @@ struct Written {
     message: usize,
 }
 
+// How many words the program was started with, its own name among them. A word for which there is no room is too long, or empty.
+fn word_count<E: Env>(env: &E) -> usize {
+    for i in 0..usize::MAX {
+        if let Err(FillError::NotPresent) = env.arg(i, &mut []) {
+            return i;
+        }
+    }
+    usize::MAX
+}
+
 // The program's arguments, each by way of a room of its own.
 fn read_place<E: Env>(env: &E, first: &mut [u8], second: &mut [u8]) -> Choice
     ensures { PlaceRead result first.new second.new }
 {
     let a = system_calls::word(env, 1, first);
     let b = system_calls::word(env, 2, second);
-    place_of(system_calls::word_count(env), &first[..a], &second[..b])
+    place_of(word_count(env), &first[..a], &second[..b])
 }
 
 // The place that two words name, where the program was started with so many, its own name among them. They are taken as the last two of the

@@ -1,7 +1,6 @@
 //! What has to hold of rules, definitions, functions and edits. Each check has a name and passes or not.
 use crate::definitions::Definition;
-use crate::edits::MORE;
-use crate::functions::{is_of_program, is_of_the_system};
+use crate::functions::is_of_program;
 use crate::laws::{exception, parsed, EXCEPTIONS, LAWS};
 use crate::numbers::Number;
 use crate::promises::Promises;
@@ -10,9 +9,6 @@ use crate::tables::{found, Found};
 use std::collections::BTreeSet;
 
 pub type Check = (String, bool);
-
-/// The sections of whose rules the gate tries an edit wherever there is one (D75).
-const TRIED_BY_THE_GATE: [u32; 9] = [1, 2, 3, 4, 5, 6, 7, 8, 14];
 
 pub fn checks(repository: &Repository) -> Vec<Check> {
     let promises = Promises::new(&repository.definitions, &repository.functions);
@@ -61,16 +57,17 @@ pub fn checks(repository: &Repository) -> Vec<Check> {
             ),
             edit.applies,
         ));
+        // rt ci tries no edit that stands elsewhere (D75).
+        checks.push((
+            format!(
+                "the edit {} of {} stands right in must-fail",
+                edit.name, edit.krate
+            ),
+            !edit.name.contains('/'),
+        ));
     }
-    checks.extend(
-        rules
-            .iter()
-            .filter(|found| TRIED_BY_THE_GATE.contains(&found.rule.number.section))
-            .filter(|found| !found.edits.is_empty())
-            .map(of_edits),
-    );
     for function in &repository.functions {
-        let good = (function.promises || is_of_the_system(&function.krate, &function.name))
+        let good = function.promises
             && !function.proofs
             && (!function.requires || is_of_program(&function.krate, &function.name));
         checks.push((
@@ -85,13 +82,6 @@ pub fn checks(repository: &Repository) -> Vec<Check> {
 }
 
 /// A rule is promised, run, or has a reason for being neither.
-fn of_edits(found: &Found) -> Check {
-    (
-        format!("the gate tries an edit of rule {}", found.rule.number),
-        found.edits.iter().any(|edit| !edit.name.starts_with(MORE)),
-    )
-}
-
 fn of_rule(found: &Found) -> Check {
     let number = found.rule.number;
     let promised = !found.definitions.is_empty() && !found.functions.is_empty();
@@ -221,15 +211,18 @@ mod tests {
     }
 
     #[test]
-    fn a_rule_that_only_more_edits_try() {
+    fn an_edit_that_the_gate_does_not_try() {
         let mut repository = small(RULES, SPECS, SOURCE, "rule: 3.3\n");
-        repository.edits[0].name = format!("{MORE}half_window_1001");
+        repository.edits[0].name = "more/half_window_1001".to_string();
         let failed: Vec<String> = checks(&repository)
             .into_iter()
             .filter(|(_, good)| !good)
             .map(|(name, _)| name)
             .collect();
-        assert_eq!(failed, ["the gate tries an edit of rule 3.3"]);
+        assert_eq!(
+            failed,
+            ["the edit more/half_window_1001 of separator stands right in must-fail"]
+        );
     }
 
     #[test]

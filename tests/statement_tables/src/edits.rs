@@ -1,12 +1,10 @@
-//! The edits of crates/KRATE/must-fail and of crates/KRATE/more-edits, and the rules whose wrong version they try.
+//! The edits of crates/KRATE/must-fail, and the rules whose wrong version they try.
 use crate::numbers::{numbers_of_list, Number};
 use std::collections::BTreeMap;
 
-/// What the name of an edit of a folder more-edits begins with.
-pub const MORE: &str = "more/";
-
 pub struct Edit {
     pub krate: String,
+    /// With its folder where it does not stand right in must-fail.
     pub name: String,
     /// None where the file has no line `rule: 3.3`, or one that is no list of numbers.
     pub numbers: Option<Vec<Number>>,
@@ -30,8 +28,7 @@ pub fn edit(
     }
 }
 
-/// Whether it changes something, and each text that it changes stands in its file once. The gate does not try the edits of more-edits, so it
-/// would not see there that a text has moved.
+/// Whether it changes something, and each text that it changes stands in its file once.
 fn applies(text: &str, read: impl Fn(&str) -> Option<String>) -> bool {
     let mut files: BTreeMap<&str, String> = BTreeMap::new();
     let (mut file, mut old, mut pairs) = ("", None, 0);

@@ -35,13 +35,6 @@ pub fn is_of_program(krate: &str, name: &str) -> bool {
     OF_PROGRAMS.contains(&(krate, name))
 }
 
-/// No contract can say what the system answers to these.
-const OF_THE_SYSTEM: [(&str, &str); 2] = [("system_calls", "word_count"), ("system_calls", "open")];
-
-pub fn is_of_the_system(krate: &str, name: &str) -> bool {
-    OF_THE_SYSTEM.contains(&(krate, name))
-}
-
 pub fn functions(krate: &str, file: &str, text: &str) -> Vec<Function> {
     let imports = imports(text);
     let mut found = Vec::new();

@@ -1,6 +1,6 @@
 //! What the repository has: rules, definitions, functions, edits, and the tests that name a rule.
 use crate::definitions::{cited, definitions, Definition};
-use crate::edits::{edit, Edit, MORE};
+use crate::edits::{edit, Edit};
 use crate::functions::{functions, Function};
 use crate::numbers::{numbers_in, Number};
 use crate::specification::{sections, Section};
@@ -105,15 +105,15 @@ pub fn read(root: &Path) -> Repository {
             }
             repository.functions.extend(found);
         }
-        for (part, before) in [("must-fail", ""), ("more-edits", MORE)] {
-            for path in with_ending(folder.join(part), "edit") {
+        for path in all_files(&folder) {
+            if path.extension().is_some_and(|ending| ending == "edit") {
                 let read = |file: &str| fs::read_to_string(folder.join(file)).ok();
-                repository.edits.push(edit(
-                    krate,
-                    &format!("{before}{}", stem(&path)),
-                    &text(&path),
-                    read,
-                ));
+                let place = path.with_extension("");
+                let name = place
+                    .strip_prefix(folder.join("must-fail"))
+                    .unwrap_or(&place);
+                let name = name.display().to_string();
+                repository.edits.push(edit(krate, &name, &text(&path), read));
             }
         }
     }

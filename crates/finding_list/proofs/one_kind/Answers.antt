@@ -85,7 +85,7 @@ module _ (layout : Layout) (f : ℕ → ℕ) (n : ℕ) (gaps : Gaps) (g : GapsFo
   gap-row-fits : n ≤ 131072 → (j : ℕ) → Narrow (get_or (gap_rows gaps) j no_row)
   unfolding gap_rows
   gap-row-fits h zero = let b = gaps-few layout f n in record { place = omega (arith, g.first, b.0); detail = omega (arith, g.violations, b.1) }
-  gap-row-fits h (suc zero) = record { place = omega (arith, g.run.start-few); detail = omega (arith, g.run.longest-few) }
+  gap-row-fits h (suc zero) = record { place = omega (arith, g.run.start_few); detail = omega (arith, g.run.longest_few) }
   gap-row-fits h (suc (suc j)) = record { place = omega arith; detail = omega arith }
 
 -- what is left are the kinds from 20 on

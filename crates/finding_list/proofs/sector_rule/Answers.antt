@@ -47,4 +47,4 @@ returns c =
     let low : 11 ≤ a.k = c.if-k-lt-OVERWRITTEN.false in
     let is : a.k ≡ 12 = omega (arith, c.requires.1, c.if-k-eq-OVERWRITTEN.false) in
     let p = c.requires in
-    rw (c.syncs_inside-inside.ensures f (cell-round a.bytes.now a.n) p.0.short p.2 p.3.id-inside p.3.data-inside) (sym (row-sid (layout_of a.density) f a.n a.track (sectors_in a.ss) a.s a.k is))
+    rw (c.syncs_inside-inside.ensures f (cell-round a.bytes.now a.n) p.0.short p.2 p.3.id_inside p.3.data_inside) (sym (row-sid (layout_of a.density) f a.n a.track (sectors_in a.ss) a.s a.k is))

@@ -4,7 +4,7 @@ use mathlib.Core.Path.{sym, ap, ◌∙◌}
 use native.Mathlib.Omega.{arith}
 use lib.ListN.{replicate, length-replicate}
 use Rattle.refusals.specs.RefusedCalls.{counted_answer, number_of, value_of}
-use Rattle.listing.proofs.Track.{few-cells, few-findings, few-sectors, few-header, refusal-written, listing-written}
+use Rattle.listing.proofs.Track.{few_cells, few_findings, few-sectors, few-header, refusal-written, listing-written}
 use Rattle.listing.proofs.list_track.Goals as goal
 
 -- the number of bytes, that it is short enough, and the buffer, as the clauses have them
@@ -19,18 +19,18 @@ overflow_cast-sectors c =
 pub overflow_cast-n : goal.overflow_cast-n
 overflow_cast-n c =
     let a = c.args in
-    record { fits = omega (arith, few-cells a.bytes.now a.n a.track a.side _ (sym c.findings_as_numbers-found.ensures.answer ∙ ap counted_answer c.in-Count.is)) }
+    record { fits = omega (arith, few_cells a.bytes.now a.n a.track a.side _ (sym c.findings_as_numbers-found.ensures.answer ∙ ap counted_answer c.in-Count.is)) }
 
 pub overflow_cast-count : goal.overflow_cast-count
 overflow_cast-count c =
     let a = c.args in
-    record { fits = omega (arith, few-findings a.bytes.now a.n a.track a.side _ (sym c.findings_as_numbers-found.ensures.answer ∙ ap counted_answer c.in-Count.is)) }
+    record { fits = omega (arith, few_findings a.bytes.now a.n a.track a.side _ (sym c.findings_as_numbers-found.ensures.answer ∙ ap counted_answer c.in-Count.is)) }
 
 pub write_lines-requires : goal.write_lines-requires
 write_lines-requires c =
     let a = c.args in
     let few = few-header a.bytes.now a.n a.track a.side _ (sym c.findings_as_numbers-found.ensures.answer ∙ ap counted_answer c.in-Count.is) _ c.findings_as_numbers-found.ensures.sectors c.ranges.side.fits in
-    (omega (arith, c.header-at.ensures.answer, few), few-findings a.bytes.now a.n a.track a.side _ (sym c.findings_as_numbers-found.ensures.answer ∙ ap counted_answer c.in-Count.is))
+    (omega (arith, c.header-at.ensures.answer, few), few_findings a.bytes.now a.n a.track a.side _ (sym c.findings_as_numbers-found.ensures.answer ∙ ap counted_answer c.in-Count.is))
 
 pub returns-in-Refused : goal.returns-in-Refused
 returns-in-Refused c =

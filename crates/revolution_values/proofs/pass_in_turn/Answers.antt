@@ -24,7 +24,7 @@ pass_value-seen-requires c =
     let i = l.invariant in
     let high = c.type_inv.portion l.i in
     let low = c.type_inv.portion (l.i + 1) in
-    (i.few-zeros, omega (arith, c.two_bytes.ensures, high, low), i.out-low, omega (arith, i.count_low, i.within, c.loop-i-test.true))
+    (i.few_zeros, omega (arith, c.two_bytes.ensures, high, low), i.out_low, omega (arith, i.count_low, i.within, c.loop-i-test.true))
 
 pub loop-i-preserved : goal.loop-i-preserved
 loop-i-preserved c =

@@ -9,5 +9,5 @@ returns g c =
       b = c.word-b.result;
       c = c.word-c.result;
       d = c.word-d.result;
-      choice-is = c.choice_of.ensures;
+      choice_is = c.choice_of.ensures;
     }

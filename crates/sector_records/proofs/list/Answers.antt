@@ -17,7 +17,7 @@ list_by-requires c =
     let e = c.layout_of-layout.ensures.layout in
     let one = c.if-layout-eq-SINGLE_DENSITY.true in
     let f = cell c.args.bytes.now c.args.n in
-    let held = rw (single-sync c.args.density (rw e at one)) at c.requires.1.syncs-are in
+    let held = rw (single-sync c.args.density (rw e at one)) at c.requires.1.syncs_are in
     (c.layout_of-layout.ensures.sound, c.requires.0, (c.requires.0, λ other. absurd (other one), λ g. holds-less (word_mark_at f 0xF57E) _ (c.args.n / 64 + 64) (c.args.n / 64 + 63) held (omega arith)))
 
 pub returns-then-layout-eq-SINGLE_DENSITY : goal.returns-then-layout-eq-SINGLE_DENSITY
@@ -28,7 +28,7 @@ list_by-requires-2 c =
     let d = c.layout_of-layout in
     let other = c.if-layout-eq-SINGLE_DENSITY.false in
     let f = cell c.args.bytes.now c.args.n in
-    let held = rw (double-sync c.args.density (λ g. other (rw d.ensures.layout g))) at c.requires.1.syncs-are in
+    let held = rw (double-sync c.args.density (λ g. other (rw d.ensures.layout g))) at c.requires.1.syncs_are in
     let y = c.thrice_map.ensures (word_mark_at f 0x4489) (holds-less (word_mark_at f 0x4489) _ (c.args.n / 64 + 64) (c.args.n / 64 + 63 + 1) held (omega arith)) (search rules) (length-replicate {A = ℕ} 2116 0) in
     let marks = holds_same (thrice_at (word_mark_at f 0x4489)) (mark_at f) (marks-are f) _ _ y.1 in
     let k = c.keep_map.ensures (one_at f) (mark_at f) (holds-less (one_at f) _ (c.args.n / 64 + 68) (c.args.n / 64 + 63 + 1) c.requires.1.ones (omega arith)) marks (search rules) (search rules) (search rules) y.0 in

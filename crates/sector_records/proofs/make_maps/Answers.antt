@@ -23,4 +23,4 @@ returns c =
     let e = c.layout_of-layout.ensures.layout in
     let small : c.layout_of-layout.result.sync < 0x1_0000 = rw e (sync-small a.density) in
     let y = c.word_map.ensures f bit (holds-less (one_at f) _ (a.n / 64 + 68) (a.n / 64 + 64 + 3) o.1 (omega arith)) (search rules) small long-too in
-    record { ones = o.1; syncs-are = rw (← e) (holds_same (stands_at f _) (word_mark_at f _) (stands-mark f _) _ _ y.1) }
+    record { ones = o.1; syncs_are = rw (← e) (holds_same (stands_at f _) (word_mark_at f _) (stands-mark f _) _ _ y.1) }

@@ -8,14 +8,14 @@ use Rattle.separator.specs.declared.Taken.{Taken}
 use Rattle.separator.specs.declared.Taken.TheVariants.{Cells, Refused}
 use Rattle.separation.proofs.cells_given.Goals as goal
 
-count-is : (taken : Taken) {m : ℕ} → taken ≡ Cells m → (n : ℕ) → taken_answer taken ≡ gives n → m ≡ n
-count-is taken e n h = let g = rw e at h in cc
+count_is : (taken : Taken) {m : ℕ} → taken ≡ Cells m → (n : ℕ) → taken_answer taken ≡ gives n → m ≡ n
+count_is taken e n h = let g = rw e at h in cc
 
 count_none : (taken : Taken) {refusal : Refusal} → taken ≡ Refused refusal → (n : ℕ) → taken_answer taken ≡ gives n → 0 ≡ n
 count_none taken e n h = let g = rw e at h in cc
 
 pub returns-in-Cells : goal.returns-in-Cells
-returns-in-Cells c = count-is _ c.in-Cells.is
+returns-in-Cells c = count_is _ c.in-Cells.is
 
 pub returns-in-Refused : goal.returns-in-Refused
 returns-in-Refused c = count_none _ c.in-Refused.is

@@ -8,14 +8,14 @@ use lib.ListN.{length, length-replicate}
 use Rattle.flux_timings.specs.Timings.{first_out}
 use Rattle.refusals.specs.RefusedCalls.Answer.{gives}
 use Rattle.flux_timings.proofs.FirstOut.{out_within}
-use Rattle.flux_timings.proofs.Judging.{no-timings, too-many-timings, timing-out-of-range, timings-accepted}
+use Rattle.flux_timings.proofs.Judging.{no_timings, too-many-timings, timing-out-of-range, timings-accepted}
 use Rattle.separation.proofs.count_border_pulses.Goals as goal
 
 all_in : (ts : List ℕ) {first : ℕ} → first ≡ first_out ts → length ts ≤ first → first_out ts ≡ length ts
 all_in ts is h = omega (arith, out_within ts)
 
 pub returns-then-given-eq0 : goal.returns-then-given-eq0
-returns-then-given-eq0 c = no-timings _ _ c.if-given-eq0.true
+returns-then-given-eq0 c = no_timings _ _ c.if-given-eq0.true
 
 pub returns-then-given-gt-MOST_TIMINGS : goal.returns-then-given-gt-MOST_TIMINGS
 returns-then-given-gt-MOST_TIMINGS c = too-many-timings _ _ c.if-given-eq0.false c.if-given-gt-MOST_TIMINGS.true

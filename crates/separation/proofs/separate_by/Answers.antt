@@ -9,7 +9,7 @@ use Rattle.cells.specs.CellsAndBytes.{bytes_for}
 use Rattle.flux_timings.specs.Timings.{first_out}
 use Rattle.separation.specs.Separation.{cells_of_by, cells_judged, separation_by}
 use Rattle.flux_timings.proofs.FirstOut.{out_within}
-use Rattle.flux_timings.proofs.Judging.{no-timings, too-many-timings, timing-out-of-range, timings-accepted}
+use Rattle.flux_timings.proofs.Judging.{no_timings, too-many-timings, timing-out-of-range, timings-accepted}
 use Rattle.separation.proofs.CellsJudged.{too-many-cells, no-room-for-cells, cells-accepted}
 use Rattle.separation.proofs.Answered.{answered-refused, answered-cells}
 use Rattle.separation.proofs.Writing.{front-copied}
@@ -19,7 +19,7 @@ all_in : (ts : List ℕ) {first : ℕ} → first ≡ first_out ts → length ts 
 all_in ts is h = omega (arith, out_within ts)
 
 pub returns-then-given-eq0 : goal.returns-then-given-eq0
-returns-then-given-eq0 c = let a = c.args in let both = answered-refused a.half_window a.timings.now a.cells.now _ (no-timings _ _ c.if-given-eq0.true) in record { answer = both.0; buffer = both.1.0; border_pulses = both.1.1 }
+returns-then-given-eq0 c = let a = c.args in let both = answered-refused a.half_window a.timings.now a.cells.now _ (no_timings _ _ c.if-given-eq0.true) in record { answer = both.0; buffer = both.1.0; border_pulses = both.1.1 }
 
 pub returns-then-given-gt-MOST_TIMINGS : goal.returns-then-given-gt-MOST_TIMINGS
 returns-then-given-gt-MOST_TIMINGS c =

@@ -2,7 +2,7 @@
 use Prim.Native.Nat.{ℕ}
 use native.Mathlib.Omega.{arith}
 use lib.ListN.{length-replicate}
-use Rattle.whole_file.proofs.HandedOver.{few-cells, all-handed}
+use Rattle.whole_file.proofs.HandedOver.{few_cells, all-handed}
 use Rattle.whole_file.proofs.file_cells.Goals as goal
 
 pub hand_over-requires : goal.hand_over-requires
@@ -10,7 +10,7 @@ hand_over-requires c =
     let s = c.start-start.ensures in
     let f = c.feed-reader.ensures in
     let long = length-replicate {A = ℕ} 16384 0 in
-    (omega (arith, c.feed-reader.auto.cells, c.start-start.auto.cells, long), few-cells _ _ long (s.reader, s.buffer) (f.reader, f.buffer) c.finish-read.ensures.file)
+    (omega (arith, c.feed-reader.auto.cells, c.start-start.auto.cells, long), few_cells _ _ long (s.reader, s.buffer) (f.reader, f.buffer) c.finish-read.ensures.file)
 
 pub returns : goal.returns
 returns c =

@@ -21,29 +21,29 @@ slice_bounds-write_file-end c =
     let start = c in
     let wrote = c.write_track in
     let g = given c.args.list.now c.args.cells.now c.requires.0 _ (wrote.ensures.answer, wrote.ensures.buffer) c.in-Count.is in
-    omega (arith, g.few, g.count-is, wrote.auto.cells, c.requires.0)
+    omega (arith, g.few, g.count_is, wrote.auto.cells, c.requires.0)
 
 pub slice_bounds-write_file-end-in-Count : goal.slice_bounds-write_file-end-in-Count
 slice_bounds-write_file-end-in-Count c =
     let start = c in
     let wrote = c.write_track in
     let g = given c.args.list.now c.args.cells.now c.requires.0 _ (wrote.ensures.answer, wrote.ensures.buffer) c.in-Count.is in
-    sym (length-take-le _ _ (omega (arith, g.few, g.count-is, wrote.auto.cells, c.requires.0)))
+    sym (length-take-le _ _ (omega (arith, g.few, g.count_is, wrote.auto.cells, c.requires.0)))
 
 pub write_file-requires : goal.write_file-requires
 write_file-requires c =
     let start = c in
     let wrote = c.write_track in
     let g = given c.args.list.now c.args.cells.now c.requires.0 _ (wrote.ensures.answer, wrote.ensures.buffer) c.in-Count.is in
-    let l = length-take-le (c.in-Count.count / 8) wrote.new.cells (omega (arith, g.few, g.count-is, wrote.auto.cells, c.requires.0)) in
-    (omega (arith, l, g.few, g.count-is), c.requires.1)
+    let l = length-take-le (c.in-Count.count / 8) wrote.new.cells (omega (arith, g.few, g.count_is, wrote.auto.cells, c.requires.0)) in
+    (omega (arith, l, g.few, g.count_is), c.requires.1)
 
 pub returns-in-Count : goal.returns-in-Count
 returns-in-Count c =
     let start = c in
     let wrote = c.write_track in
     let g = given c.args.list.now c.args.cells.now c.requires.0 _ (wrote.ensures.answer, wrote.ensures.buffer) c.in-Count.is in
-    file-made c.args.list.now c.if-track-gt83.false c.if-side-gt1.false c.if-list-eq0.false g.few g.count-is g.front-is c.write_file.ensures
+    file-made c.args.list.now c.if-track-gt83.false c.if-side-gt1.false c.if-list-eq0.false g.few g.count_is g.front_is c.write_file.ensures
 
 pub returns-in-Refused : goal.returns-in-Refused
 returns-in-Refused c =

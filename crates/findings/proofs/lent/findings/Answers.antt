@@ -1,7 +1,7 @@
 -- `findings::lent::findings` meets its contract: at the end all the findings that `plan` counted are stored. Assumes nothing.
 use mathlib.Core.Path.{◌≡◌, ◌∙◌}
 use native.Mathlib.Omega.{arith}
-use Rattle.findings.proofs.Records.{list-is}
+use Rattle.findings.proofs.Records.{list_is}
 use Rattle.layouts.specs.Layouts.{layout_of}
 use Rattle.findings.proofs.lent.findings.Goals as goal
 
@@ -11,4 +11,4 @@ returns-clause-list c =
     let plan = c.plan-planned in
     let p = plan.ensures in
     let e : c.loop-i.i ≡ plan.result.count = omega arith in
-    rw e at c.loop-i.invariant.1 ∙ list-is (layout_of a.density) a.bytes.now a.n a.track a.side a.list.now plan.new.numbers plan.result.count p.counts.0 p.bounds.1 p.numbers
+    rw e at c.loop-i.invariant.1 ∙ list_is (layout_of a.density) a.bytes.now a.n a.track a.side a.list.now plan.new.numbers plan.result.count p.counts.0 p.bounds.1 p.numbers

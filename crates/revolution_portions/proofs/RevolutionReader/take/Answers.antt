@@ -10,12 +10,12 @@ look-seen-requires c = (used-few _ c.usable-reader.ensures).0
 pub overflow_add-before : goal.overflow_add-before
 overflow_add-before c =
     let u = c.usable-reader in
-    omega (arith, (used-few _ u.ensures).1, c.look-seen.ensures.count-is, ending-few u.result.unfinished c.args.portion.now)
+    omega (arith, (used-few _ u.ensures).1, c.look-seen.ensures.count_is, ending-few u.result.unfinished c.args.portion.now)
 
 pub overflow_add-before-then-before-count-gt-MOST_TIMINGS : goal.overflow_add-before-then-before-count-gt-MOST_TIMINGS
 overflow_add-before-then-before-count-gt-MOST_TIMINGS c =
     let u = c.usable-reader in
-    omega (arith, (used-few _ u.ensures).1, c.look-seen.ensures.count-is, ending-few u.result.unfinished c.args.portion.now)
+    omega (arith, (used-few _ u.ensures).1, c.look-seen.ensures.count_is, ending-few u.result.unfinished c.args.portion.now)
 
 pub returns-then-before-count-gt-MOST_TIMINGS : goal.returns-then-before-count-gt-MOST_TIMINGS
 returns-then-before-count-gt-MOST_TIMINGS c = let both = told c.refused.ensures.answer c.refused.ensures.next
