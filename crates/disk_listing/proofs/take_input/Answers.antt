@@ -1,4 +1,4 @@
--- `disk_listing::take_input` meets its contract. Assumes nothing but the contract of the system's `read`.
+-- `disk_listing::take_input` meets its contract. Assumes nothing but the contract of a reader's `read`.
 use Rattle.disk_listing.proofs.Gathering.{still_open, read-failed, track-taken, refusal-taken}
 use Rattle.disk_listing.proofs.take_input.Goals as goal
 

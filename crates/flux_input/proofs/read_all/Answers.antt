@@ -1,5 +1,5 @@
--- `flux_input::read_all` meets its contract: the reads so far led to the reader and the cells. Assumes nothing but the contract of the
--- system's `read`.
+-- `flux_input::read_all` meets its contract: the reads so far led to the reader and the cells. Assumes nothing but the contract of a
+-- reader's `read`.
 use native.Mathlib.Omega.{arith}
 use borrow.Author.Rules.{rules}
 use Rattle.flux_input.proofs.Reading.{no_reads, one-read, read-to-end, failed-read, no-turns}

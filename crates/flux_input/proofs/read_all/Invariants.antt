@@ -1,5 +1,5 @@
--- `flux_input::read_all` meets its contract: the reads so far led to the reader and the cells. Assumes nothing but the contract of the
--- system's `read`.
+-- `flux_input::read_all` meets its contract: the reads so far led to the reader and the cells. Assumes nothing but the contract of a
+-- reader's `read`.
 use mathlib.Core.Path.{◌≡◌}
 use lib.ListN.{length}
 use Rattle.flux_input.proofs.Reading.{Reading}

@@ -1,4 +1,4 @@
--- `flux_to_cells::convert_input` meets its contract. Assumes nothing but the contract of the system's `read`.
+-- `flux_to_cells::convert_input` meets its contract. Assumes nothing but the contract of a reader's `read`.
 use mathlib.Core.Path.{◌∙◌}
 use Rattle.flux_to_cells.proofs.Converted.{still_open, read-failed, has-file, is-refused}
 use Rattle.flux_to_cells.proofs.convert_input.Goals as goal

@@ -1,4 +1,4 @@
--- `scp_track::read_first` meets its contract. Assumes nothing but the contract of the system's `read`.
+-- `scp_track::read_first` meets its contract. Assumes nothing but the contract of a reader's `read`.
 use mathlib.Core.Path.{sym}
 use lib.Seq.{length-take-le}
 use Rattle.scp_track.proofs.Reading.{listed-where-stopped, listed-on, whole_room}

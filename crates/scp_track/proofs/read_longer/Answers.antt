@@ -1,4 +1,4 @@
--- `scp_track::read_longer` meets its contract. Assumes nothing but the contract of the system's `read`.
+-- `scp_track::read_longer` meets its contract. Assumes nothing but the contract of a reader's `read`.
 use mathlib.Core.Path.{sym}
 use native.Mathlib.Omega.{arith}
 use lib.Seq.{length-take-le}

@@ -1,4 +1,4 @@
--- `st_track::image_input` meets its contract. Assumes nothing but the contract of the system's `read`.
+-- `st_track::image_input` meets its contract. Assumes nothing but the contract of a reader's `read`.
 use mathlib.Core.Path.{◌∙◌}
 use Rattle.st_track.proofs.Imaged.{still_open, read-failed, has-image, is-refused}
 use Rattle.st_track.proofs.image_input.Goals as goal

@@ -1,4 +1,4 @@
--- `standard_input::read_on` meets its contract. Assumes nothing but the contract of the system's `read`.
+-- `standard_input::read_on` meets its contract. Assumes nothing but the contract of a reader's `read`.
 use Prim.Native.Nat.{◌-◌}
 use native.Mathlib.Omega.{arith}
 use Rattle.standard_input.proofs.Reading.{at_first, as_long, in_block, next-byte, no_more, full}

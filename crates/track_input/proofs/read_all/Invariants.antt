@@ -1,5 +1,5 @@
--- `track_input::read_all` meets its contract: the reads so far led to the reader and the cells. Assumes nothing but the contract of the
--- system's `read`.
+-- `track_input::read_all` meets its contract: the reads so far led to the reader and the cells. Assumes nothing but the contract of a
+-- reader's `read`.
 use mathlib.Core.Path.{◌≡◌}
 use lib.ListN.{length}
 use Rattle.track_input.proofs.Reading.{Reading}

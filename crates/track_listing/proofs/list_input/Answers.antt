@@ -1,4 +1,4 @@
--- `track_listing::list_input` meets its contract. Assumes nothing but the contract of the system's `read`.
+-- `track_listing::list_input` meets its contract. Assumes nothing but the contract of a reader's `read`.
 use native.Mathlib.Omega.{arith}
 use Rattle.track_listing.proofs.Listing.{still_open, read-failed, has_ended}
 use Rattle.track_listing.proofs.list_input.Goals as goal

@@ -1,4 +1,4 @@
--- `write_track::write_input` meets its contract. Assumes nothing but the contract of the system's `read`.
+-- `write_track::write_input` meets its contract. Assumes nothing but the contract of a reader's `read`.
 use mathlib.Core.Path.{sym, ◌∙◌}
 use lib.Seq.{length-take-le}
 use Rattle.write_track.proofs.write_input.Goals as goal
