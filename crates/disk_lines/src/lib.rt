@@ -2,7 +2,7 @@
 #![tactic(auto)]
 
 ghost use Rattle.std.specs.Prelude.{◌≡◌};
-ghost use Rattle.lines.specs.Lines.{digit as digitOf};
+ghost use Rattle.lines.specs.Lines.{digit as digit_of};
 ghost use Rattle.lines.specs.Writing.{Wrote};
 ghost use Rattle.disk_lines.specs.EntryLines.{start_of, entry_line};
 
@@ -44,7 +44,7 @@ fn write_start(out: &mut [u8], side: u32, first: u32, last: u32) -> usize
 
 // The last decimal digit of a number, as a character.
 fn digit(n: u32) -> u8
-    ensures { result ≡ digitOf n }
+    ensures { result ≡ digit_of n }
 {
     b'0' + (n % 10) as u8
 }

@@ -1,6 +1,6 @@
 -- Section 13 of the specification, rules 13.41 to 13.45: the tracks and findings that disk_listing makes a page of. Reads are as track_input has
 -- them. The main property: the two lists are made of what each file brought, in the order of the files, and no file is passed over (`AllFiles`).
--- Which files these are, and that each is the next argument, is seen in the code of `next_file`. Assumes nothing.
+-- Which files these are, and that each is the next argument, is seen in the code of `next_file` and `main`. Assumes nothing.
 use Rattle.std.specs.Prelude.{ℕ, ◌+◌, ◌≤◌, ◌≡◌, List, [], ◌++◌, length}
 use Rattle.std.proofs.lemmas.List.Edits.{sets}
 use Rattle.disk_files.specs.TrackOfFile.{FoundTrack, track_of_file, track_numbers, finding_numbers}

@@ -156,7 +156,7 @@ fn tell_refusal<P: Print>(to: &P, number: u32) {
     let _ = to.write_all(b"\n");
 }
 
-// How many words the program was started with, its own name among them. A word for which there is no room is too long, or empty.
+// The length of the command line in words, of which the first is the program's name. A word for which there is no room is too long, or empty.
 fn word_count<E: Env>(env: &E) -> usize {
     for i in 0..usize::MAX {
         if let Err(FillError::NotPresent) = env.arg(i, &mut []) {

@@ -1,5 +1,5 @@
 -- Section 13 of the specification, rules 13.1, 13.2 and 13.62: how an old flux file is read from an input. A read, and the bytes that it brought,
--- are as track_input has them, and so is what no contract can say of a reader's `read`. Assumes nothing.
+-- are as track_input has them, and so is what no contract says of the system's reads. Assumes nothing.
 use Rattle.std.specs.Prelude.{ℕ, zero, suc, ◌≡◌, cond, List, [], ◌∷◌, ℤ, pos, negsuc, length}
 use Rattle.flux_file.specs.Portions.{reader_after, cells_after_all, is_stopped}
 use Rattle.track_input.specs.Reading.{bytes_read, OneRead, portions_of}

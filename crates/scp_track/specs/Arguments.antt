@@ -1,6 +1,6 @@
 -- Section 13 of the specification, rules 13.9 and 13.10: the arguments of scp_track. The contracts of the system's calls do not say which
 -- words a process was started with: that those here are its own, the first in the first room and so on, is seen in the code of
--- `read_choice`. Assumes nothing.
+-- `read_choice` and `main`. Assumes nothing.
 use Rattle.std.specs.Prelude.{ℕ, ◌≡◌, List, take}
 use Rattle.block_choice.specs.Arguments.{choice_of}
 use Rattle.block_choice.specs.declared.Choice.{Choice}

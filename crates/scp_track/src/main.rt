@@ -25,7 +25,7 @@ const USUAL_ROOM: usize = 524_288;
 
 const LONGEST_ROOM: usize = 4_194_304;
 
-// How many words the program was started with, its own name among them. A word for which there is no room is too long, or empty.
+// The length of the command line in words, of which the first is the program's name. A word for which there is no room is too long, or empty.
 fn word_count<E: Env>(env: &E) -> usize {
     for i in 0..usize::MAX {
         if let Err(FillError::NotPresent) = env.arg(i, &mut []) {

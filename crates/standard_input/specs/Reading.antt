@@ -1,7 +1,7 @@
--- Section 13 of the specification, rules 13.1 and 13.2: what reads of an input bring. The contract of a reader's `read` says how
--- many bytes it may put at the start of a room, and not which. So a read is here a number that was answered and a room that was left, and
--- the promises say that there are reads of which all this holds; that they are those of the reader that is lent is seen in the code of `read_once`,
--- and a program that makes them up meets the promises too. Assumes nothing.
+-- Section 13 of the specification, rules 13.1 and 13.2: what reads of an input bring. Of an input such as the system's a
+-- contract says how many bytes a read may put at the start of a room, and not which. So a read is here a number that was answered and a room that
+-- was left, and the promises say that there are reads of which all this holds; that they are those of the reader that is lent is seen in the code
+-- of `read_once`, and a program that makes them up meets the promises too. Assumes nothing.
 use Rattle.std.specs.Prelude.{ℕ, zero, suc, ◌<◌, ◌≤◌, ◌≡◌, Bool, true, false, List, [], ◌++◌, ℤ, pos, negsuc, length, take}
 
 -- 13.1, 13.2: the bytes that a read brought, which answered this and left this room: none at the end of the input, and none where it failed

@@ -1,4 +1,4 @@
--- How many bytes of a room a call on the system fills, for the contracts of reads and words. Assumes nothing.
+-- How many bytes of a room a read fills. Assumes nothing.
 use Rattle.std.specs.Prelude.{◌≡◌, ℕ, ◌≤◌, min, ℤ, pos, negsuc}
 
 -- what a read of a room of so many bytes may answer: how many bytes it put there, or -1 where it failed

@@ -1,6 +1,7 @@
 // What the programs ask of the system, over std: a read, a word of the command line, and rooms for these.
 //
-// No contract can say which bytes a read brings and which words a program was started with. No call needs the heap.
+// What the system brings is not known to a contract: neither the bytes of a read nor the words that a program was started with. So the calls promise
+// how much they bring, of any reader and any command line. No call needs the heap.
 #![tactic(auto)]
 
 ghost use Rattle.std.specs.Prelude.{◌≡◌, ◌≤◌, length, replicate};
@@ -47,8 +48,8 @@ pub fn count(got: isize, room: &[u8]) -> usize
     }
 }
 
-// Puts word i of the command line at the front of the room; the answer is its length, or 0 where there is no such word or it is longer than the
-// room. Word 0 is the program's name.
+// Word i of the command line, copied to the front of the room: the answer is how many bytes it has. A word that is missing or does not fit has none.
+// Word 0 is the program's name.
 pub fn word<E: Env>(env: &E, i: usize, room: &mut [u8]) -> usize
     ensures { result ≤ length room.new }
 {

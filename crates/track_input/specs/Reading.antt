@@ -1,7 +1,7 @@
--- Section 13 of the specification, rules 13.1, 13.2 and 13.5: how a track file is read from an input. The contract of a reader's `read`
--- says how many bytes it may put at the start of a portion, and not which. So a read is here a number that was answered and a portion that was
--- left, and the promises say that there are reads of which all this holds; that they are those of the reader that is lent is seen in the code of
--- `read_portion`, and a program that reads nothing and takes its first read for a failure meets them too. Assumes nothing.
+-- Section 13 of the specification, rules 13.1, 13.2 and 13.5: how a track file is read from an input. Of an input such as the
+-- system's a contract says how many bytes a read may put at the start of a portion, and not which. So a read is here a number that was answered
+-- and a portion that was left, and the promises say that there are reads of which all this holds; that they are those of the reader that is lent is
+-- seen in the code of `read_portion`, and a program that reads nothing and takes its first read for a failure meets them too. Assumes nothing.
 use Rattle.std.specs.Prelude.{ℕ, zero, suc, ◌≡◌, cond, List, [], ◌∷◌, ℤ, pos, negsuc, length, take}
 use Rattle.track_file.specs.Portions.{reader_after, cells_after_all, is_stopped}
 use Rattle.file_reader.specs.declared.Reader.{Reader}

@@ -1,6 +1,6 @@
 -- Section 13 of the specification, rules 13.52 and 13.53: the arguments of write_track, which are read as scp_track reads its last two. The
 -- contracts of the system's calls do not say which words a process was started with: that those here are its own is seen in the code of
--- `read_place`. Assumes nothing.
+-- `read_place` and `main`. Assumes nothing.
 use Rattle.std.specs.Prelude.{ℕ, ◌≡◌, cond, List, eqb, take}
 use Rattle.block_choice.specs.Arguments.{argument_of, no_choice, chosen}
 use Rattle.block_choice.specs.declared.Argument.TheVariants.{Byte}
