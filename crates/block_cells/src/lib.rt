@@ -2,12 +2,12 @@
 #![tactic(auto)]
 
 ghost use Rattle.std.specs.Prelude.{◌≡◌, ℕ, length};
-ghost use Rattle.refusals.specs.RefusedCalls.{counted_answer};
+ghost use Rattle.refusals.specs.RefusedCalls.{answer_of};
 ghost use Rattle.refusals.specs.RefusedCalls.Answer.{gives};
 ghost use Rattle.supercard_pro.specs.TrackBlock.{block_answer, block_timings};
 ghost use Rattle.block_cells.specs.BlockToCells.{block_separation, block_cells, block_border_pulses, timings_border_pulses, BlockDemand3};
 
-use refusals::Counted;
+use refusals::Refusal;
 use supercard_pro::revolution_timings;
 
 // The cells of one revolution of a block, counted from 0, at the front of a buffer (rule 9.16), and the number of its border pulses: its
@@ -18,17 +18,17 @@ pub fn separate_revolution(
     revolution: u32,
     cells: &mut [u8],
     border_pulses: &mut usize,
-) -> Counted
-    ensures answer { counted_answer result ≡ block_separation block.now revolutions revolution (length cells.old) }
+) -> Result<usize, Refusal>
+    ensures answer { answer_of result ≡ block_separation block.now revolutions revolution (length cells.old) }
     ensures buffer { cells.new ≡ block_cells block.now revolutions revolution cells.old }
     ensures border_pulses { border_pulses.new ≡ block_border_pulses block.now revolutions revolution (length cells.old) border_pulses.old }
-    ensures demand3 { BlockDemand3 block.now revolutions revolution (counted_answer result) cells.old cells.new }
+    ensures demand3 { BlockDemand3 block.now revolutions revolution (answer_of result) cells.old cells.new }
 {
     let mut timings = room_for_timings();
     let counted = revolution_timings(block, revolutions, revolution, &mut timings);
     match counted {
-        Counted::Count(count) => { separation::separate(&timings[..count], cells, border_pulses) }
-        Counted::Refused(refusal) => Counted::Refused(refusal),
+        Ok(count) => { separation::separate(&timings[..count], cells, border_pulses) }
+        Err(refusal) => Err(refusal),
     }
 }
 
@@ -39,28 +39,28 @@ pub fn timings_with_border_pulses(
     revolution: u32,
     timings: &mut [u32],
     border_pulses: &mut usize,
-) -> Counted
-    ensures answer { counted_answer result ≡ block_answer block.now revolutions revolution (length timings.old) }
+) -> Result<usize, Refusal>
+    ensures answer { answer_of result ≡ block_answer block.now revolutions revolution (length timings.old) }
     ensures list { timings.new ≡ block_timings block.now revolutions revolution timings.old }
     ensures border_pulses { border_pulses.new ≡ timings_border_pulses block.now revolutions revolution (length timings.old) border_pulses.old }
 {
     let counted = revolution_timings(block, revolutions, revolution, timings);
     match counted {
-        Counted::Count(count) => {
+        Ok(count) => {
             *border_pulses = number_counted(separation::count_border_pulses(&timings[..count]));
-            Counted::Count(count)
+            Ok(count)
         }
-        Counted::Refused(refusal) => Counted::Refused(refusal),
+        Err(refusal) => Err(refusal),
     }
 }
 
 // The number of a count; 0 where it is refused.
-fn number_counted(counted: Counted) -> usize
-    ensures { (n : ℕ) → counted_answer counted ≡ gives n → result ≡ n }
+fn number_counted(counted: Result<usize, Refusal>) -> usize
+    ensures { (n : ℕ) → answer_of counted ≡ gives n → result ≡ n }
 {
     match counted {
-        Counted::Count(number) => number,
-        Counted::Refused(_) => 0,
+        Ok(number) => number,
+        Err(_) => 0,
     }
 }
 

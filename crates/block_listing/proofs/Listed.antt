@@ -4,12 +4,11 @@ use mathlib.Core.Path.{◌≡◌, sym, ◌∙◌, ap}
 use mathlib.Core.List.{List}
 use native.Mathlib.Omega.{arith}
 use lib.ListN.{length}
-use Rattle.refusals.specs.declared.Counted.{Counted}
-use Rattle.refusals.specs.declared.Counted.TheVariants.{Count, Refused}
+use Rattle.std.specs.Prelude.{Result, Ok, Err}
 use Rattle.listing.specs.Listing.{listing_of}
 use Rattle.lines.specs.Lines.{refused_line, out_after}
 use Rattle.lines.proofs.Lengths.{refused-few}
-use Rattle.refusals.specs.RefusedCalls.{Answer, refused_with, counted_answer, number_of}
+use Rattle.refusals.specs.RefusedCalls.{Answer, refused_with, answer_of, number_of}
 use Rattle.refusals.specs.RefusedCalls.Answer.{gives}
 use Rattle.refusals.specs.declared.Refusal.{Refusal}
 use Rattle.block_cells.specs.BlockToCells.{block_separation, block_cells}
@@ -30,20 +29,20 @@ module _ (block : List ℕ) (revolutions k T H : ℕ) where
         ∙ ap (λ (b : List ℕ). printed_cells (block_separation block revolutions k (length room_for_cells)) b T H) (left ∙ ap (block_cells block revolutions k) room-is))
 
     -- the cells are counted
-    pub cells-written : {separated : Counted} {count : ℕ} → separated ≡ Count count → counted_answer separated ≡ block_separation block revolutions k (length room)
+    pub cells-written : {separated : Result ℕ Refusal} {count : ℕ} → separated ≡ Count count → answer_of separated ≡ block_separation block revolutions k (length room)
         → {cells : List ℕ} → cells ≡ block_cells block revolutions k room → (out : List ℕ) {after : List ℕ} {r : ℕ}
         → (r ≡ length (listing_of cells count T H)) × ((r ≤ 65536) × (after ≡ out_after (listing_of cells count T H) out)) → Written out r after
     unfolding printed_cells
     cells-written {count = count} e is {cells} left out w =
-        let l : block_listing block revolutions k T H ≡ listing_of cells count T H = listing-is (gives count) cells (ap counted_answer (sym e) ∙ is) left in
+        let l : block_listing block revolutions k T H ≡ listing_of cells count T H = listing-is (gives count) cells (ap answer_of (sym e) ∙ is) left in
         rw l w
 
-    pub refusal-written : {separated : Counted} {refusal : Refusal} → separated ≡ Refused refusal
-        → counted_answer separated ≡ block_separation block revolutions k (length room) → {cells : List ℕ} → cells ≡ block_cells block revolutions k room
+    pub refusal-written : {separated : Result ℕ Refusal} {refusal : Refusal} → separated ≡ Refused refusal
+        → answer_of separated ≡ block_separation block revolutions k (length room) → {cells : List ℕ} → cells ≡ block_cells block revolutions k room
         → {number : ℕ} → number ≡ number_of refusal → number < 0x1_0000_0000 → (before : List ℕ) {after : List ℕ} {r : ℕ}
         → (r ≡ length (refused_line number)) × (after ≡ out_after (refused_line number) before) → Written before r after
     unfolding printed_cells
     refusal-written {separated} {refusal} e is {cells} left {number} n fits before w =
         let l : block_listing block revolutions k T H ≡ refused_line number
-        = listing-is (refused_with refusal) cells (ap counted_answer (sym e) ∙ is) left ∙ ap refused_line (sym n) in
+        = listing-is (refused_with refusal) cells (ap answer_of (sym e) ∙ is) left ∙ ap refused_line (sym n) in
         rw l (w.0, (omega (arith, w.0, refused-few number fits), w.1))

@@ -5,7 +5,7 @@ ghost use Rattle.std.specs.Prelude.{◌≡◌, ◌≤◌, length};
 ghost use Rattle.lines.specs.Lines.{out_after};
 ghost use Rattle.block_listing.specs.BlockListing.{room_for_cells, block_listing};
 
-use refusals::Counted;
+use refusals::Refusal;
 
 // The listing of a revolution of a block, at the front of `out` (rule 9.17); the answer is the number of its bytes.
 pub fn list_block(
@@ -30,8 +30,8 @@ pub fn list_block(
         &mut pulses,
     );
     match separated {
-        Counted::Count(count) => listing::list_track(&cells, count, track, side, out),
-        Counted::Refused(refusal) => lines::refused_line(out, refusal.number()),
+        Ok(count) => listing::list_track(&cells, count, track, side, out),
+        Err(refusal) => lines::refused_line(out, refusal.number()),
     }
 }
 

@@ -3,13 +3,13 @@
 
 ghost use Rattle.std.specs.Prelude.{◌≡◌};
 ghost use Rattle.std.proofs.lemmas.List.Edits.{sets};
-ghost use Rattle.refusals.specs.RefusedCalls.{counted_answer};
+ghost use Rattle.refusals.specs.RefusedCalls.{answer_of};
 ghost use Rattle.track_file.specs.Portions.{finish_answer};
 ghost use Rattle.disk_files.specs.TrackOfFile.{track_found, file_track, finding_count, track_numbers, finding_numbers};
 
 use file_reader::Reader;
 use finding_list::NUMBERS;
-use refusals::Counted;
+use refusals::Refusal;
 use track_file::Read;
 
 // The end of a track file that came in portions: its track, as three numbers, goes to `tracks` from index `at` on, and the track's findings go
@@ -22,8 +22,8 @@ pub fn add_file(
     at: usize,
     findings: &mut [u32],
     from: usize,
-) -> Counted
-    ensures answer { counted_answer result ≡ finding_count (file_track (finish_answer reader) cells.now) }
+) -> Result<usize, Refusal>
+    ensures answer { answer_of result ≡ finding_count (file_track (finish_answer reader) cells.now) }
     ensures tracks { tracks.new ≡ sets tracks.old at (track_numbers (file_track (finish_answer reader) cells.now)) }
     ensures findings { findings.new ≡ sets findings.old from (finding_numbers (file_track (finish_answer reader) cells.now)) }
 {
@@ -39,7 +39,7 @@ pub fn add_file(
             findings,
             from,
         ),
-        Read::Refused(refusal) => Counted::Refused(refusal),
+        Read::Refused(refusal) => Err(refusal),
     }
 }
 
@@ -53,8 +53,8 @@ fn add_track(
     at: usize,
     findings: &mut [u32],
     from: usize,
-) -> Counted
-    ensures answer { counted_answer result ≡ finding_count (track_found cells.now n track side) }
+) -> Result<usize, Refusal>
+    ensures answer { answer_of result ≡ finding_count (track_found cells.now n track side) }
     ensures tracks { tracks.new ≡ sets tracks.old at (track_numbers (track_found cells.now n track side)) }
     ensures findings { findings.new ≡ sets findings.old from (finding_numbers (track_found cells.now n track side)) }
 {
@@ -62,11 +62,11 @@ fn add_track(
     let found = findings::findings_as_numbers(cells, n, track, side, &mut numbers);
     let answer = found.answer;
     match answer {
-        Counted::Refused(refusal) => Counted::Refused(refusal),
-        Counted::Count(count) => {
+        Err(refusal) => Err(refusal),
+        Ok(count) => {
             put(&[track, side, count as u32], tracks, at);
             put(&numbers[..4 * count], findings, from);
-            Counted::Count(count)
+            Ok(count)
         }
     }
 }
@@ -76,5 +76,5 @@ fn put(numbers: &[u32], list: &mut [u32], at: usize)
     ensures { list.new ≡ sets list.old at numbers.now }
 {
     let start = basis::smaller(at, list.len());
-    basis::copy_numbers(numbers, &mut list[start..]);
+    basis::copy(numbers, &mut list[start..]);
 }

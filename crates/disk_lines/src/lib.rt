@@ -35,10 +35,10 @@ fn write_start(out: &mut [u8], side: u32, first: u32, last: u32) -> usize
     if first < last {
         let c = digit(last / 10);
         let d = digit(last);
-        basis::copy_bytes(&[b'T', a, b, b'-', c, d, b' ', b'H', s, b' '], out);
+        basis::copy(&[b'T', a, b, b'-', c, d, b' ', b'H', s, b' '], out);
         return 10;
     }
-    basis::copy_bytes(&[b'T', a, b, b' ', b'H', s, b' '], out);
+    basis::copy(&[b'T', a, b, b' ', b'H', s, b' '], out);
     7
 }
 

@@ -10,10 +10,9 @@ use Rattle.disk_files.proofs.Added.{Adds, whole-track, few-numbers}
 use Rattle.finding_list.specs.Calls.{numbers_of}
 use Rattle.finding_list.proofs.Numbers.{length-numbers}
 use Rattle.file_reader.specs.declared.Reader.{Reader}
-use Rattle.refusals.specs.RefusedCalls.{Answer, counted_answer, number_of, value_of}
+use Rattle.refusals.specs.RefusedCalls.{Answer, answer_of, number_of, value_of}
 use Rattle.refusals.specs.RefusedCalls.Answer.{gives, refused}
-use Rattle.refusals.specs.declared.Counted.{Counted}
-use Rattle.refusals.specs.declared.Counted.TheVariants.{Count, Refused}
+use Rattle.std.specs.Prelude.{Result, Ok, Err}
 use Rattle.refusals.specs.declared.Refusal.{Refusal}
 use Rattle.track_file.specs.Portions.{start_of, start_cells, finish_answer, whole_of}
 use Rattle.track_input.specs.declared.Input.{Input}
@@ -68,15 +67,15 @@ module _ (buffer : List ℕ) (long : length buffer ≡ 16384) {first : Reader} {
     read-failed e = not-read tracks findings at from (rw e)
 
   -- one that is read: its track, or its refusal
-  module _ {reader : Reader} (ended : input ≡ Ended reader) (answer : Counted) (tracks after : List ℕ) (at : ℕ) (findings later : List ℕ) (from : ℕ)
-      (adds : Adds (file_track (finish_answer reader) cells) (counted_answer answer) tracks after at findings later from) where
+  module _ {reader : Reader} (ended : input ≡ Ended reader) (answer : Result ℕ Refusal) (tracks after : List ℕ) (at : ℕ) (findings later : List ℕ) (from : ℕ)
+      (adds : Adds (file_track (finish_answer reader) cells) (answer_of answer) tracks after at findings later from) where
     same : file_track (finish_answer reader) cells ≡ track_of_file 16384 file
     same =
         subst (λ (n : ℕ). file_track (finish_answer reader) cells ≡ track_of_file n file) long
         (whole-track reader cells buffer (portions_of through.reads) (reader-from-start buffer started through ended) (cells-from-start buffer started through))
 
-    adds-file : Adds (track_of_file 16384 file) (counted_answer answer) tracks after at findings later from
-    adds-file = subst (λ (x : Answer FoundTrack). Adds x (counted_answer answer) tracks after at findings later from) same adds
+    adds-file : Adds (track_of_file 16384 file) (answer_of answer) tracks after at findings later from
+    adds-file = subst (λ (x : Answer FoundTrack). Adds x (answer_of answer) tracks after at findings later from) same adds
 
     taken : (r : File) → r ≡ told (brings (track_of_file 16384 file)) → TakenFile r tracks after at findings later from
     unfolding outcome_of tracks_of findings_of

@@ -10,10 +10,9 @@ use Rattle.disk_tracks.specs.Judgement.{judged}
 use Rattle.disk_page.specs.Page.{giving, page_of, page_answer}
 use Rattle.disk_page.specs.Parts.{part_of, part_answer}
 use Rattle.disk_page.proofs.Parts.{parts-are-page}
-use Rattle.refusals.specs.RefusedCalls.{Answer, counted_answer, number_of, value_of}
+use Rattle.refusals.specs.RefusedCalls.{Answer, answer_of, number_of, value_of}
 use Rattle.refusals.specs.RefusedCalls.Answer.{gives, refused}
-use Rattle.refusals.specs.declared.Counted.{Counted}
-use Rattle.refusals.specs.declared.Counted.TheVariants.{Count, Refused}
+use Rattle.std.specs.Prelude.{Result, Ok, Err}
 use Rattle.refusals.specs.declared.Refusal.{Refusal}
 use Rattle.disk_listing.specs.declared.Printed.TheVariants.{Whole}
 use Rattle.disk_listing.specs.declared.Printed.TheVariants.{Refused as PageRefused}
@@ -43,11 +42,11 @@ module _ (tracks findings : List ℕ) where
   unfolding joined
   none-printed = record { total_is = refl; few = omega arith; whole_too = λ f. absurd (f refl) }
 
-  module _ {answer : Counted} (part : ℕ) (is : counted_answer answer ≡ part_answer tracks findings part) where
+  module _ {answer : Result ℕ Refusal} (part : ℕ) (is : answer_of answer ≡ part_answer tracks findings part) where
     pub one-more-printed : {total count : ℕ} → PartsPrinted total part → answer ≡ Count count → count ≤ 72080 → PartsPrinted (total + count) (part + 1)
     unfolding part_answer
     one-more-printed {total} {count} before e small =
-        let a = accepted (judged tracks findings) (sym is ∙ ap counted_answer e) in
+        let a = accepted (judged tracks findings) (sym is ∙ ap answer_of e) in
         let more = joined-more (part_of tracks findings) part in
         record {
           total_is =
@@ -60,7 +59,7 @@ module _ (tracks findings : List ℕ) where
     unfolding part_answer page_answer
     refusal-told {refusal} {number} e n =
         page_refused {number = number} {value = value_of refusal}
-        (rw n (still-refused (judged tracks findings) (length (part_of tracks findings part)) (sym is ∙ ap counted_answer e) (length (page_of tracks findings))))
+        (rw n (still-refused (judged tracks findings) (length (part_of tracks findings part)) (sym is ∙ ap answer_of e) (length (page_of tracks findings))))
 
   pub all-printed : {total part : ℕ} → PartsPrinted total part → 169 ≤ part → part ≤ 169 → PagePrinted tracks findings (Whole total)
   unfolding page_answer

@@ -11,7 +11,7 @@ ghost use Rattle.std.specs.Prelude.{◌≡◌, ◌+◌, ◌<◌, ◌≤◌, leng
 ghost use Rattle.disk_listing.specs.DiskOfFiles.{TakenFile, AllFiles, FilesTaken, PagePrinted};
 ghost use Rattle.disk_listing.specs.PrivateContracts.{with_file, Small, Gathered};
 
-use refusals::Counted;
+use refusals::Refusal;
 use std::env::{Env, FillError};
 use std::fs::Files;
 use std::io::Read;
@@ -98,8 +98,8 @@ fn take_input<R: Read>(
         Input::Ended(reader) => {
             let answer = disk_files::add_file(reader, cells, tracks, at, findings, from);
             match answer {
-                Counted::Count(count) => File::Track(count),
-                Counted::Refused(refusal) => File::Refused(refusal.number()),
+                Ok(count) => File::Track(count),
+                Err(refusal) => File::Refused(refusal.number()),
             }
         }
         Input::Open(_) => File::Unreadable,
@@ -266,8 +266,8 @@ fn print_page<P: Print>(to: &P, tracks: &[u32], findings: &[u32], out: &mut [u8]
     while part < 169 {
         let answer = disk_page::page_part(tracks, findings, part, out);
         match answer {
-            Counted::Refused(refusal) => return Printed::Refused(refusal.number()),
-            Counted::Count(length) => {
+            Err(refusal) => return Printed::Refused(refusal.number()),
+            Ok(length) => {
                 if out.len() < length {
                     return Printed::NotTaken;
                 }

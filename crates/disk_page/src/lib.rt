@@ -7,37 +7,37 @@ ghost use Rattle.std.specs.Prelude.{◌≡◌, cond, ◌&&◌, ◌+◌, ◌*◌,
 ghost use Rattle.basis.specs.Lists.{joined};
 ghost use Rattle.disk_tracks.specs.Given.{some, kind_at, findings_in};
 ghost use Rattle.lines.specs.Writing.{Wrote};
-ghost use Rattle.refusals.specs.RefusedCalls.{counted_answer};
+ghost use Rattle.refusals.specs.RefusedCalls.{answer_of};
 ghost use Rattle.disk_page.specs.Ranges.{has_tnf, goes_on, last_of, is_empty, is_single_sided};
 ghost use Rattle.disk_page.specs.Page.{entry, entry_of, line_of, entry_lines, track_entries, side_entries, page_of, page_answer, page_after};
 ghost use Rattle.disk_page.specs.Parts.{part_of, part_answer, part_after};
 ghost use Rattle.disk_page.specs.PrivateContracts.{Whole, far};
 
-use refusals::Counted;
+use refusals::Refusal;
 
 // The page of the tracks, three numbers each (track, side, how many findings), and of their findings in the same order, four numbers each
 // (kind, level, place, detail).
-pub fn disk_page(tracks: &[u32], findings: &[u32], out: &mut [u8]) -> Counted
-    ensures answer { counted_answer result ≡ page_answer tracks.now findings.now }
+pub fn disk_page(tracks: &[u32], findings: &[u32], out: &mut [u8]) -> Result<usize, Refusal>
+    ensures answer { answer_of result ≡ page_answer tracks.now findings.now }
     ensures out { out.new ≡ page_after tracks.now findings.now out.old }
 {
     let judged = disk_tracks::judge_tracks(tracks, findings);
     match judged {
-        Counted::Refused(refusal) => Counted::Refused(refusal),
-        Counted::Count(_) => Counted::Count(write_page(tracks, findings, out)),
+        Err(refusal) => Err(refusal),
+        Ok(_) => Ok(write_page(tracks, findings, out)),
     }
 }
 
 // One part of the page, for those who have no room for all of it: 84 * H + T is the number of the part that has the lines of track T of side H, and
 // 168 that of the part with the last line. The parts 0 to 168, one after the other, are the page.
-pub fn page_part(tracks: &[u32], findings: &[u32], part: usize, out: &mut [u8]) -> Counted
-    ensures answer { counted_answer result ≡ part_answer tracks.now findings.now part }
+pub fn page_part(tracks: &[u32], findings: &[u32], part: usize, out: &mut [u8]) -> Result<usize, Refusal>
+    ensures answer { answer_of result ≡ part_answer tracks.now findings.now part }
     ensures out { out.new ≡ part_after tracks.now findings.now part out.old }
 {
     let judged = disk_tracks::judge_tracks(tracks, findings);
     match judged {
-        Counted::Refused(refusal) => Counted::Refused(refusal),
-        Counted::Count(_) => Counted::Count(write_part(tracks, findings, part, out)),
+        Err(refusal) => Err(refusal),
+        Ok(_) => Ok(write_part(tracks, findings, part, out)),
     }
 }
 
@@ -197,7 +197,7 @@ fn write_word(out: &mut [u8], at: usize, bytes: &[u8]) -> usize
     ensures { Wrote out.old at bytes.now (length bytes.now) out.new result }
 {
     let from = basis::smaller(at, out.len());
-    basis::copy_bytes(bytes, &mut out[from..]);
+    basis::copy(bytes, &mut out[from..]);
     at + bytes.len()
 }
 

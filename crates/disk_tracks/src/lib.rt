@@ -2,33 +2,33 @@
 #![tactic(auto)]
 
 ghost use Rattle.std.specs.Prelude.{◌≡◌, true, not, ◌&&◌, ◌+◌, ◌*◌, ◌/◌, ◌<◌, ◌≤◌, eqb, length};
-ghost use Rattle.refusals.specs.RefusedCalls.{counted_answer};
+ghost use Rattle.refusals.specs.RefusedCalls.{answer_of};
 ghost use Rattle.disk_tracks.specs.Given.{some, before, tracks_in, findings_in};
 ghost use Rattle.disk_tracks.specs.Judgement.{is_outside, some_outside, is_at, some_twice, add_up, is_amiss, is_later, amiss_at, some_amiss, judged};
 
-use refusals::{Counted, Refusal};
+use refusals::Refusal;
 
 // How many findings the tracks have, or why they are refused. A track is three numbers: track, side, how many findings; a finding is four: kind,
 // level, place, detail. The findings stand in the order of the tracks.
-pub fn judge_tracks(tracks: &[u32], findings: &[u32]) -> Counted
-    ensures { counted_answer result ≡ judged tracks.now findings.now }
+pub fn judge_tracks(tracks: &[u32], findings: &[u32]) -> Result<usize, Refusal>
+    ensures { answer_of result ≡ judged tracks.now findings.now }
 {
     if tracks.len() / 3 > 168 {
-        return Counted::Refused(Refusal::TooManyTracks);
+        return Err(Refusal::TooManyTracks);
     }
     if some_outside(tracks) {
-        return Counted::Refused(Refusal::TrackOrSide);
+        return Err(Refusal::TrackOrSide);
     }
     if some_twice(tracks) {
-        return Counted::Refused(Refusal::TrackGivenTwice);
+        return Err(Refusal::TrackGivenTwice);
     }
     if !add_up(tracks, findings) {
-        return Counted::Refused(Refusal::NotTheirFindings);
+        return Err(Refusal::NotTheirFindings);
     }
     if some_amiss(tracks, findings) {
-        return Counted::Refused(Refusal::NotTheirFindings);
+        return Err(Refusal::NotTheirFindings);
     }
-    Counted::Count(findings.len() / 4)
+    Ok(findings.len() / 4)
 }
 
 // Whether some track is none of a disk.

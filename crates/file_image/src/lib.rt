@@ -2,33 +2,33 @@
 #![tactic(auto)]
 
 ghost use Rattle.std.specs.Prelude.{◌≡◌, length};
-ghost use Rattle.refusals.specs.RefusedCalls.{counted_answer, buffer_after};
+ghost use Rattle.refusals.specs.RefusedCalls.{answer_of, buffer_after};
 ghost use Rattle.track_file.specs.Portions.{read_answer, finish_answer};
 ghost use Rattle.file_image.specs.ImageOfFile.{image_given, image_bytes, WholeImage};
 
 use file_reader::Reader;
-use refusals::Counted;
+use refusals::Refusal;
 use track_file::Read;
 
 // The end of a track file that came in portions: its image, at the front of `image`. `cells` is the buffer that the file was read with.
-pub fn image_file(reader: Reader, cells: &[u8], image: &mut [u8]) -> Counted
-    ensures answer { counted_answer result ≡ image_given (finish_answer reader) cells.now (length image.old) }
+pub fn image_file(reader: Reader, cells: &[u8], image: &mut [u8]) -> Result<usize, Refusal>
+    ensures answer { answer_of result ≡ image_given (finish_answer reader) cells.now (length image.old) }
     ensures image { image.new ≡ buffer_after (image_given (finish_answer reader) cells.now (length image.old)) (image_bytes (finish_answer reader) cells.now) image.old }
-    ensures file { WholeImage reader cells.now (counted_answer result) image.old image.new }
+    ensures file { WholeImage reader cells.now (answer_of result) image.old image.new }
 {
     let read = track_file::finish(reader);
     image_read(read, cells, image)
 }
 
 // The image of what a file gave.
-fn image_read(read: Read, cells: &[u8], image: &mut [u8]) -> Counted
-    ensures answer { counted_answer result ≡ image_given (read_answer read) cells.now (length image.old) }
+fn image_read(read: Read, cells: &[u8], image: &mut [u8]) -> Result<usize, Refusal>
+    ensures answer { answer_of result ≡ image_given (read_answer read) cells.now (length image.old) }
     ensures image { image.new ≡ buffer_after (image_given (read_answer read) cells.now (length image.old)) (image_bytes (read_answer read) cells.now) image.old }
 {
     match read {
         Read::Cells { track, side, count } => {
             sector_image::sector_image(cells, count, track as u32, side as u32, image)
         }
-        Read::Refused(refusal) => Counted::Refused(refusal),
+        Read::Refused(refusal) => Err(refusal),
     }
 }

@@ -9,7 +9,7 @@ ghost use Rattle.cell_patterns.specs.Cells.{GapsFound};
 ghost use Rattle.finding_rules.specs.Rules.{no_row, nth, starts_in_data, some_sector, sector_rows};
 ghost use Rattle.finding_list.specs.Findings.{kinds, found_by, of_kind, findings_of};
 ghost use Rattle.finding_list.specs.Calls.{survey_answer, sectors_given, array_after};
-ghost use Rattle.refusals.specs.RefusedCalls.{counted_answer};
+ghost use Rattle.refusals.specs.RefusedCalls.{answer_of};
 ghost use Rattle.layouts.specs.Layouts.{layout_of};
 ghost use Rattle.sector_records.specs.Maps.{TrackMaps};
 ghost use Rattle.sector_records.specs.Sectors.{sectors_of};
@@ -19,7 +19,7 @@ use cell_patterns::Gaps;
 use cell_words::WORDS;
 use finding_rules::Row;
 use layouts::{Density, layout_of};
-use refusals::Counted;
+use refusals::Refusal;
 use sector_records::{Sector, Sectors};
 
 // A finding (rule 7.31): its kind from 1 to 21, the kind's level, its place in cells, and its detail.
@@ -36,7 +36,7 @@ pub struct Finding {
 #[derive(Clone, Copy)]
 pub struct Found {
     pub sectors: usize,
-    pub answer: Counted,
+    pub answer: Result<usize, Refusal>,
 }
 
 // The numbers of the most findings that there can be, four for each: with 64 sectors there are at most 901 (rule 7.35).
@@ -52,7 +52,7 @@ pub fn survey(
     track: u32,
     side: u32,
 ) -> Found
-    ensures answer { counted_answer result.answer ≡ survey_answer (layout_of density) bytes.now n track side }
+    ensures answer { answer_of result.answer ≡ survey_answer (layout_of density) bytes.now n track side }
     ensures sectors { result.sectors ≡ sectors_given (survey_answer (layout_of density) bytes.now n track side) (length (sectors_of (layout_of density) bytes.now n)) }
     ensures numbers { numbers.new ≡ array_after (survey_answer (layout_of density) bytes.now n track side) (findings_of (layout_of density) bytes.now n track) numbers.old }
 {
@@ -62,15 +62,15 @@ pub fn survey(
     let ss = listed.sectors;
     let answer = listed.answer;
     match answer {
-        Counted::Refused(refusal) => Found {
+        Err(refusal) => Found {
             sectors: 0,
-            answer: Counted::Refused(refusal),
+            answer: Err(refusal),
         },
-        Counted::Count(sectors) => {
+        Ok(sectors) => {
             let count = all_kinds(density, numbers, bytes, n, &words, &syncs, track, ss);
             Found {
                 sectors,
-                answer: Counted::Count(count),
+                answer: Ok(count),
             }
         }
     }

@@ -14,8 +14,8 @@ use Rattle.layouts.specs.declared.Density.{Density}
 use Rattle.layouts.specs.declared.Layout.{Layout}
 use Rattle.layouts.specs.contracts.Density as D
 use Rattle.layouts.proofs.Density.TheLaws as D'
-use Rattle.refusals.specs.RefusedCalls.{counted_answer}
-use Rattle.refusals.specs.declared.Counted.{Counted}
+use Rattle.refusals.specs.RefusedCalls.{answer_of}
+use Rattle.refusals.specs.declared.Refusal.{Refusal}
 use Rattle.refusals.specs.contracts.Counted as N
 use Rattle.refusals.proofs.Counted.TheLaws as N'
 
@@ -37,4 +37,4 @@ density-vals = EL.vals D.the_type D'.the_laws
 
 -- the promise on the answer of the call, for a list with room for `room` findings
 abbrev pub Answers : Layout → List ℕ → (cells track side room : ℕ) → Counted → Type 0
-Answers layout bytes cells track side room r = counted_answer r ≡ findings_answer layout bytes cells track side room
+Answers layout bytes cells track side room r = answer_of r ≡ findings_answer layout bytes cells track side room

@@ -2,12 +2,12 @@
 ghost use Rattle.std.specs.Prelude.{◌≡◌, length};
 ghost use Rattle.findings.specs.Calls.{findings_answer, list_after};
 ghost use Rattle.layouts.specs.Layouts.{layout_of};
-ghost use Rattle.refusals.specs.RefusedCalls.{counted_answer};
+ghost use Rattle.refusals.specs.RefusedCalls.{answer_of};
 
 use crate::{finding_at, plan};
 use finding_list::{Finding, NUMBERS};
 use layouts::Density;
-use refusals::Counted;
+use refusals::Refusal;
 
 // The findings of a track of either density, of n cells, packed in `bytes`, at the front of the list, and what follows is kept (rules 9.1,
 // 9.44). `track` and `side` are the drive's. All is decided by `plan`, on numbers: what a finding is never stands in this function.
@@ -18,8 +18,8 @@ pub fn findings(
     track: u32,
     side: u32,
     list: &mut [Finding],
-) -> Counted
-    ensures answer { counted_answer result ≡ findings_answer (layout_of density) bytes.now n track side (length list.old) }
+) -> Result<usize, Refusal>
+    ensures answer { answer_of result ≡ findings_answer (layout_of density) bytes.now n track side (length list.old) }
     ensures list { list.new ≡ list_after (layout_of density) bytes.now n track side list.old }
 {
     let mut numbers: [u32; NUMBERS] = [0; NUMBERS];

@@ -8,7 +8,7 @@ ghost use Rattle.finding_list.specs.Calls.{sectors_given, numbers_of};
 ghost use Rattle.finding_list.specs.Findings.{findings_of};
 ghost use Rattle.findings.specs.Calls.{findings_answer, numbers_after};
 ghost use Rattle.findings.specs.PrivateContracts.{count_written, finding_at};
-ghost use Rattle.refusals.specs.RefusedCalls.{refused_with, counted_answer};
+ghost use Rattle.refusals.specs.RefusedCalls.{refused_with, answer_of};
 ghost use Rattle.layouts.specs.Layouts.{double_density, layout_of};
 ghost use Rattle.sector_records.specs.Sectors.{sectors_of};
 
@@ -16,12 +16,12 @@ use finding_list::NUMBERS;
 pub use finding_list::{Finding, Found};
 pub use layouts::Density;
 pub use lent::findings;
-use refusals::{Counted, Refusal};
+use refusals::Refusal;
 
 // The findings of a track of n cells, packed in `bytes`, as numbers at the front of the list: kind, level, place and detail of each (rule
 // 9.24). `track` and `side` are the drive's.
 pub fn findings_as_numbers(bytes: &[u8], n: usize, track: u32, side: u32, list: &mut [u32]) -> Found
-    ensures answer { counted_answer result.answer ≡ findings_answer double_density bytes.now n track side (length list.old / 4) }
+    ensures answer { answer_of result.answer ≡ findings_answer double_density bytes.now n track side (length list.old / 4) }
     ensures sectors { result.sectors ≡ sectors_given (findings_answer double_density bytes.now n track side (length list.old / 4)) (length (sectors_of double_density bytes.now n)) }
     ensures list { list.new ≡ numbers_after double_density bytes.now n track side list.old }
 {
@@ -37,14 +37,14 @@ pub fn findings_as_numbers_in(
     side: u32,
     list: &mut [u32],
 ) -> Found
-    ensures answer { counted_answer result.answer ≡ findings_answer (layout_of density) bytes.now n track side (length list.old / 4) }
+    ensures answer { answer_of result.answer ≡ findings_answer (layout_of density) bytes.now n track side (length list.old / 4) }
     ensures sectors { result.sectors ≡ sectors_given (findings_answer (layout_of density) bytes.now n track side (length list.old / 4)) (length (sectors_of (layout_of density) bytes.now n)) }
     ensures list { list.new ≡ numbers_after (layout_of density) bytes.now n track side list.old }
 {
     let mut numbers: [u32; NUMBERS] = [0; NUMBERS];
     let room = list.len() / 4;
     let planned = plan(density, &mut numbers, bytes, n, track, side, room);
-    basis::copy_numbers(&numbers[..4 * planned.count], list);
+    basis::copy(&numbers[..4 * planned.count], list);
     let sectors = planned.sectors;
     let answer = planned.answer;
     Found { sectors, answer }
@@ -55,7 +55,7 @@ pub fn findings_as_numbers_in(
 #[derive(Clone, Copy)]
 struct Planned {
     pub count: usize,
-    pub answer: Counted,
+    pub answer: Result<usize, Refusal>,
     pub sectors: usize,
 }
 
@@ -70,7 +70,7 @@ fn plan(
     side: u32,
     room: usize,
 ) -> Planned
-    ensures answer { counted_answer result.answer ≡ findings_answer (layout_of density) bytes.now n track side room }
+    ensures answer { answer_of result.answer ≡ findings_answer (layout_of density) bytes.now n track side room }
     ensures counts { (result.count ≡ count_written (findings_answer (layout_of density) bytes.now n track side room)) × (result.sectors ≡ sectors_given (findings_answer (layout_of density) bytes.now n track side room) (length (sectors_of (layout_of density) bytes.now n))) }
     ensures numbers { take (4 * result.count) numbers.new ≡ numbers_of (take result.count (findings_of (layout_of density) bytes.now n track)) }
     ensures bounds { (result.count ≤ 901) × (result.count ≤ room) }
@@ -79,14 +79,14 @@ fn plan(
     let sectors = found.sectors;
     let answer = found.answer;
     match answer {
-        Counted::Refused(refusal) => nothing_planned(refusal),
-        Counted::Count(count) => {
+        Err(refusal) => nothing_planned(refusal),
+        Ok(count) => {
             if room < count {
                 return nothing_planned(Refusal::ListTooShort(count));
             }
             Planned {
                 count,
-                answer: Counted::Count(count),
+                answer: Ok(count),
                 sectors,
             }
         }
@@ -95,11 +95,11 @@ fn plan(
 
 // Nothing goes to the list beside a refusal.
 fn nothing_planned(refusal: Refusal) -> Planned
-    ensures { (counted_answer result.answer ≡ refused_with refusal) × (result.count ≡ 0) × (result.sectors ≡ 0) }
+    ensures { (answer_of result.answer ≡ refused_with refusal) × (result.count ≡ 0) × (result.sectors ≡ 0) }
 {
     Planned {
         count: 0,
-        answer: Counted::Refused(refusal),
+        answer: Err(refusal),
         sectors: 0,
     }
 }

@@ -3,7 +3,7 @@
 
 ghost use Rattle.std.specs.Prelude.{◌≡◌, ◌+◌, ◌≤◌, length};
 ghost use Rattle.basis.specs.Lists.{written_over};
-ghost use Rattle.refusals.specs.RefusedCalls.{counted_answer, buffer_after};
+ghost use Rattle.refusals.specs.RefusedCalls.{answer_of, buffer_after};
 ghost use Rattle.track_file.specs.Portions.{read_answer};
 ghost use Rattle.flux_file.specs.Portions.{finish_answer};
 ghost use Rattle.flux_conversion.specs.Conversion.{front_of, file_with, conversion, converted};
@@ -12,17 +12,17 @@ ghost use Rattle.flux_conversion.specs.Portions.{conversion_of, new_file_of, Who
 ghost use Rattle.flux_conversion.specs.PrivateContracts.{put_at, FewCells};
 
 use flux_reader::FluxReader;
-use refusals::{Counted, Refusal};
+use refusals::Refusal;
 use track_file::Read;
 
 // The most bytes that a new file has: 131,072 cells, and the three counts with the place.
 pub const MOST_BYTES: usize = 14 + track_file::ROOM;
 
 // The conversion of a whole file in memory (rule 9.64). The file is read into a buffer of our own, so that a refused call writes nothing.
-pub fn convert_file(file: &[u8], out: &mut [u8]) -> Counted
-    ensures answer { counted_answer result ≡ conversion (length out.old) file.now }
+pub fn convert_file(file: &[u8], out: &mut [u8]) -> Result<usize, Refusal>
+    ensures answer { answer_of result ≡ conversion (length out.old) file.now }
     ensures out { out.new ≡ converted file.now out.old }
-    ensures demand3 { ConversionDemand3 file.now (counted_answer result) out.old out.new }
+    ensures demand3 { ConversionDemand3 file.now (answer_of result) out.old out.new }
 {
     let mut cells = [0u8; track_file::ROOM];
     let start = flux_file::start(&mut cells);
@@ -31,34 +31,34 @@ pub fn convert_file(file: &[u8], out: &mut [u8]) -> Counted
 }
 
 // The conversion at the end of a file that came in portions, whose cells stand in `cells` (rules 18.11 to 18.14).
-pub fn convert(reader: FluxReader, cells: &[u8], out: &mut [u8]) -> Counted
-    ensures answer { counted_answer result ≡ conversion_of (finish_answer reader) cells.now (length out.old) }
+pub fn convert(reader: FluxReader, cells: &[u8], out: &mut [u8]) -> Result<usize, Refusal>
+    ensures answer { answer_of result ≡ conversion_of (finish_answer reader) cells.now (length out.old) }
     ensures out { out.new ≡ buffer_after (conversion_of (finish_answer reader) cells.now (length out.old)) (new_file_of (finish_answer reader) cells.now) out.old }
-    ensures file { WholeConversion reader cells.now (counted_answer result) out.old out.new }
+    ensures file { WholeConversion reader cells.now (answer_of result) out.old out.new }
 {
     convert_read(flux_file::finish(reader), cells, out)
 }
 
 // The conversion of a file that gives this.
-fn convert_read(read: Read, cells: &[u8], out: &mut [u8]) -> Counted
+fn convert_read(read: Read, cells: &[u8], out: &mut [u8]) -> Result<usize, Refusal>
     requires { FewCells (read_answer read) }
-    ensures answer { counted_answer result ≡ conversion_of (read_answer read) cells.now (length out.old) }
+    ensures answer { answer_of result ≡ conversion_of (read_answer read) cells.now (length out.old) }
     ensures out { out.new ≡ buffer_after (conversion_of (read_answer read) cells.now (length out.old)) (new_file_of (read_answer read) cells.now) out.old }
 {
     match read {
         Read::Cells { track, side, count } => {
             if cells.len() < track_file::ROOM {
-                return Counted::Refused(Refusal::NoRoom(track_file::ROOM));
+                return Err(Refusal::NoRoom(track_file::ROOM));
             }
             let bytes = (count + 7) / 8;
             let needed = 14 + bytes;
             if out.len() < needed {
-                return Counted::Refused(Refusal::NoRoom(needed));
+                return Err(Refusal::NoRoom(needed));
             }
             write_file(track, side, count, &cells[..bytes], out);
-            Counted::Count(needed)
+            Ok(needed)
         }
-        Read::Refused(refusal) => Counted::Refused(refusal),
+        Read::Refused(refusal) => Err(refusal),
     }
 }
 
@@ -97,6 +97,6 @@ fn put(out: &mut [u8], at: usize, bytes: &[u8]) -> usize
     ensures place { result ≡ at + length bytes.now }
     ensures out { out.new ≡ put_at at bytes.now out.old }
 {
-    basis::copy_bytes(bytes, &mut out[at..]);
+    basis::copy(bytes, &mut out[at..]);
     at + bytes.len()
 }

@@ -6,10 +6,9 @@ use mathlib.Core.List.{List, [], ◌∷◌}
 use borrow.Author.Tests.{lt-ltb, le-ltb, eq-eqb, ne_eqb}
 use lib.ListN.{length}
 use Rattle.cells.specs.CellsAndBytes.{cleared}
-use Rattle.refusals.specs.RefusedCalls.{Answer, refused_with, counted_answer}
+use Rattle.refusals.specs.RefusedCalls.{Answer, refused_with, answer_of}
 use Rattle.refusals.specs.RefusedCalls.Answer.{refused}
-use Rattle.refusals.specs.declared.Counted.{Counted}
-use Rattle.refusals.specs.declared.Counted.TheVariants.{Count, Refused as CountRefused}
+use Rattle.std.specs.Prelude.{Result, Ok, Err as CountRefused}
 use Rattle.refusals.specs.declared.Refusal.{Refusal}
 use Rattle.refusals.specs.declared.Refusal.TheVariants.{NoRoom}
 use Rattle.taken_timings.specs.Timings.{timings_answer}
@@ -44,17 +43,17 @@ reader-stays refusal [] = refl
 reader-stays refusal (byte ∷ bytes) = reader-stays refusal bytes
 
 -- so many cells, and none
-module _ (place : Place) (counted : Counted) where
-  pub no-cells-given : {count : ℕ} → counted ≡ Count count → count ≡ 0 → refused 2 0 ≡ placed place.track place.side (some_cells (counted_answer counted))
+module _ (place : Place) (counted : Result ℕ Refusal) where
+  pub no-cells-given : {count : ℕ} → counted ≡ Count count → count ≡ 0 → refused 2 0 ≡ placed place.track place.side (some_cells (answer_of counted))
   unfolding placed some_cells
   no-cells-given {count} e none = rw (e, eq-eqb count 0 none)
 
   pub some-cells-given : {count : ℕ} → counted ≡ Count count → (count ≡ 0 → ⊥)
-      → read_answer (Cells place.track place.side count) ≡ placed place.track place.side (some_cells (counted_answer counted))
+      → read_answer (Cells place.track place.side count) ≡ placed place.track place.side (some_cells (answer_of counted))
   unfolding placed some_cells
   some-cells-given {count} e some = rw (e, ne_eqb count 0 some)
 
-  pub refusal-given : {refusal : Refusal} → counted ≡ CountRefused refusal → refused_with refusal ≡ placed place.track place.side (some_cells (counted_answer counted))
+  pub refusal-given : {refusal : Refusal} → counted ≡ CountRefused refusal → refused_with refusal ≡ placed place.track place.side (some_cells (answer_of counted))
   unfolding placed some_cells
   refusal-given e = rw e
 

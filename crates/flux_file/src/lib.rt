@@ -3,14 +3,14 @@
 #![tactic(auto)]
 
 ghost use Rattle.std.specs.Prelude.{◌≡◌, ◌≤◌, length, drop};
-ghost use Rattle.refusals.specs.RefusedCalls.{counted_answer};
+ghost use Rattle.refusals.specs.RefusedCalls.{answer_of};
 ghost use Rattle.track_file.specs.Portions.{start_cells, read_answer};
 ghost use Rattle.flux_file.specs.FluxFile.{some_cells, placed};
 ghost use Rattle.flux_file.specs.Portions.{start_of, reader_after, cells_after, is_stopped, AtOnce, finish_answer, WholeFluxFile};
 
 use file_reader::{Number, Place};
 use flux_reader::FluxReader;
-use refusals::{Counted, Refusal};
+use refusals::Refusal;
 use track_file::Read;
 
 // The beginning, before any byte: the cell buffer is cleared, or refused where it has too little room (rule 18.8).
@@ -75,11 +75,11 @@ fn given(reader: FluxReader) -> Read
 }
 
 // What so many cells give. A track file without cells has no meaning, so none are refused.
-fn given_cells(place: Place, counted: Counted) -> Read
-    ensures { read_answer result ≡ placed place.track place.side (some_cells (counted_answer counted)) }
+fn given_cells(place: Place, counted: Result<usize, Refusal>) -> Read
+    ensures { read_answer result ≡ placed place.track place.side (some_cells (answer_of counted)) }
 {
     match counted {
-        Counted::Count(count) => {
+        Ok(count) => {
             if count == 0 {
                 return Read::Refused(Refusal::CellCount(0));
             }
@@ -89,7 +89,7 @@ fn given_cells(place: Place, counted: Counted) -> Read
                 count,
             }
         }
-        Counted::Refused(refusal) => Read::Refused(refusal),
+        Err(refusal) => Read::Refused(refusal),
     }
 }
 

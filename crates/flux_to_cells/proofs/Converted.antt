@@ -10,10 +10,9 @@ use Rattle.lines.specs.Lines.{refused_line, out_after}
 use Rattle.lines.proofs.Lengths.{refused-few}
 use Rattle.cells.proofs.Packing.{length-packed}
 use Rattle.separation.specs.Separation.{cells_of}
-use Rattle.refusals.specs.RefusedCalls.{Answer, number_of, value_of, counted_answer, buffer_after}
+use Rattle.refusals.specs.RefusedCalls.{Answer, number_of, value_of, answer_of, buffer_after}
 use Rattle.refusals.specs.RefusedCalls.Answer.{gives, refused}
-use Rattle.refusals.specs.declared.Counted.{Counted}
-use Rattle.refusals.specs.declared.Counted.TheVariants.{Count, Refused}
+use Rattle.std.specs.Prelude.{Result, Ok, Err}
 use Rattle.refusals.specs.declared.Refusal.{Refusal}
 use Rattle.taken_timings.proofs.TimingCells.{never}
 use Rattle.track_file.specs.Portions.{start_cells, whole_of}
@@ -104,12 +103,12 @@ module _ (buffer : List ℕ) (long : length buffer ≡ 16384) {first : FluxReade
   unfolding output_of_input
   read-failed out e = converted [] (rw e) (nothing out)
 
-  module _ (before : List ℕ) (room : length before ≡ 65536) {reader : FluxReader} (ended : input ≡ Ended reader) (answer : Counted) {made : List ℕ}
-      (whole : WholeConversion reader cells (counted_answer answer) before made) where
+  module _ (before : List ℕ) (room : length before ≡ 65536) {reader : FluxReader} (ended : input ≡ Ended reader) (answer : Result ℕ Refusal) {made : List ℕ}
+      (whole : WholeConversion reader cells (answer_of answer) before made) where
     abbrev file : List ℕ
     file = whole_of (portions_of through.reads)
 
-    told : (counted_answer answer ≡ conversion 65536 file) × (made ≡ buffer_after (counted_answer answer) (new_file file) before)
+    told : (answer_of answer ≡ conversion 65536 file) × (made ≡ buffer_after (answer_of answer) (new_file file) before)
     unfolding conversion_in
     told =
         let all = whole.whole buffer (portions_of through.reads) (reader-from-start buffer started through ended) (cells-from-start buffer started through) in

@@ -8,7 +8,7 @@ ghost use Rattle.std.specs.Prelude.{◌≡◌, length};
 ghost use Rattle.flux_to_cells.specs.OutputOfInput.{ConvertedInput};
 
 use flux_input::Input;
-use refusals::Counted;
+use refusals::Refusal;
 use std::io::Read;
 
 // Reads the input, by way of `buffer`, and then puts what is to be written at the front of `buffer`; the answer is the number of its bytes. It
@@ -23,8 +23,8 @@ fn convert_input<R: Read>(from: &mut R, cells: &mut [u8], buffer: &mut [u8]) -> 
         Input::Ended(reader) => {
             let answer = flux_conversion::convert(reader, cells, buffer);
             match answer {
-                Counted::Count(count) => count,
-                Counted::Refused(refusal) => lines::refused_line(buffer, refusal.number()),
+                Ok(count) => count,
+                Err(refusal) => lines::refused_line(buffer, refusal.number()),
             }
         }
         Input::Open(_) => 0,

@@ -3,17 +3,17 @@
 
 ghost use Rattle.std.specs.Prelude.{◌≡◌, min, ◌≤◌, length, replicate};
 ghost use Rattle.histogram.specs.Histogram.{bin_of, counts_of, counting, counts_after, sum_after, sum_of};
-ghost use Rattle.refusals.specs.RefusedCalls.{counted_answer};
+ghost use Rattle.refusals.specs.RefusedCalls.{answer_of};
 ghost use Rattle.refusals.specs.declared.Counted.{Counted};
 
 use flux_timings::{MOST_TIMINGS, first_out};
-use refusals::{Counted, Refusal};
+use refusals::Refusal;
 
 // A histogram: 256 counts, all zeros beside a refusal, and what the call answers.
 #[derive(Clone, Copy)]
 pub struct Histogram {
     pub counts: [u32; 256],
-    pub answer: Counted,
+    pub answer: Result<usize, Refusal>,
 }
 
 // The last count is of all timings from here up, in nanoseconds.
@@ -60,13 +60,13 @@ fn refused(refusal: Refusal) -> Histogram
 {
     Histogram {
         counts: [0u32; 256],
-        answer: Counted::Refused(refusal),
+        answer: Err(refusal),
     }
 }
 
 // Histogram: how many timings are 0 to 99 ns, 100 to 199 ns, and so on; the last count is of all from 25,500 ns up.
 pub fn histogram_of(timings: &[u32]) -> Histogram
-    ensures answer { counted_answer result.answer ≡ counting timings.now }
+    ensures answer { answer_of result.answer ≡ counting timings.now }
     ensures counts { result.counts ≡ counts_after (counting timings.now) timings.now }
     ensures sum { sum_of result.counts ≡ sum_after (counting timings.now) timings.now }
 {
@@ -84,6 +84,6 @@ pub fn histogram_of(timings: &[u32]) -> Histogram
     let counts = counts_of(timings);
     Histogram {
         counts: counts,
-        answer: Counted::Count(given),
+        answer: Ok(given),
     }
 }

@@ -9,7 +9,7 @@ ghost use Rattle.lines.specs.Writing.{Wrote};
 ghost use Rattle.listing.specs.Listing.{listing_of};
 ghost use Rattle.listing.specs.PrivateContracts.{line_at};
 
-use refusals::Counted;
+use refusals::Refusal;
 
 // The whole listing of a track of n cells, packed in `bytes`; `track` and `side` are the drive's. A buffer of 65,536 bytes holds any.
 pub fn list_track(bytes: &[u8], n: usize, track: u32, side: u32, out: &mut [u8]) -> usize
@@ -21,8 +21,8 @@ pub fn list_track(bytes: &[u8], n: usize, track: u32, side: u32, out: &mut [u8])
     let found = findings::findings_as_numbers(bytes, n, track, side, &mut numbers);
     let answer = found.answer;
     match answer {
-        Counted::Refused(refusal) => { lines::refused_line(out, refusal.number()) }
-        Counted::Count(count) => {
+        Err(refusal) => { lines::refused_line(out, refusal.number()) }
+        Ok(count) => {
             let sectors = found.sectors as u32;
             let at = lines::header(out, track, side, n as u32, sectors, count as u32);
             write_lines(out, at, &numbers, count)

@@ -5,14 +5,14 @@ mod table;
 
 ghost use Rattle.std.specs.Prelude.{◌≡◌, cond, ℕ, ◌<◌, ◌≤◌, ◌*◌, ◌+◌, ◌/◌, ◌%◌, ◌^◌, length};
 ghost use Rattle.basis.specs.Lists.{written_over};
-ghost use Rattle.refusals.specs.RefusedCalls.{counted_answer};
+ghost use Rattle.refusals.specs.RefusedCalls.{answer_of};
 ghost use Rattle.cells.specs.CellsAndBytes.{cell, word};
 ghost use Rattle.mfm.specs.Coding.{byte_cells, data_cell, byte_on, encoded, decoded};
 ghost use Rattle.mfm.specs.PrivateContracts.{coded_by};
 ghost use Rattle.mfm.specs.Table.{cell_table, entry_of};
 ghost use Rattle.mfm.specs.Calls.{coding_answer, decoding_answer, encoded_after, decoded_after};
 
-use refusals::{Counted, Refusal};
+use refusals::Refusal;
 use table::CELLS;
 
 // The most bytes that one call codes, and the most bytes of cells that one call decodes.
@@ -21,38 +21,38 @@ pub const MOST_TO_CODE: usize = 8192;
 pub const MOST_TO_DECODE: usize = 16384;
 
 // Coding: two bytes of cells for each byte, at the front of `cells`; they are counted. `before` is the data bit before the bytes.
-pub fn encode(bytes: &[u8], before: bool, cells: &mut [u8]) -> Counted
-    ensures answer { counted_answer result ≡ coding_answer bytes.now cells.old }
+pub fn encode(bytes: &[u8], before: bool, cells: &mut [u8]) -> Result<usize, Refusal>
+    ensures answer { answer_of result ≡ coding_answer bytes.now cells.old }
     ensures buffer { cells.new ≡ encoded_after (cond before 1 0) bytes.now cells.old }
 {
     let given = bytes.len();
     if MOST_TO_CODE < given {
-        return Counted::Refused(Refusal::TooManyBytes(given));
+        return Err(Refusal::TooManyBytes(given));
     }
     let needed = 2 * given;
     if cells.len() < needed {
-        return Counted::Refused(Refusal::NoRoomForBytes(needed));
+        return Err(Refusal::NoRoomForBytes(needed));
     }
     write_cells(bytes, before, cells);
-    Counted::Count(needed)
+    Ok(needed)
 }
 
 // Decoding: each two bytes of `cells` make a byte, at the front of `bytes`; a last one that stands alone is passed over. The bytes written
 // are counted.
-pub fn decode(cells: &[u8], bytes: &mut [u8]) -> Counted
-    ensures answer { counted_answer result ≡ decoding_answer cells.now bytes.old }
+pub fn decode(cells: &[u8], bytes: &mut [u8]) -> Result<usize, Refusal>
+    ensures answer { answer_of result ≡ decoding_answer cells.now bytes.old }
     ensures buffer { bytes.new ≡ decoded_after cells.now bytes.old }
 {
     let given = cells.len();
     if MOST_TO_DECODE < given {
-        return Counted::Refused(Refusal::TooManyBytes(given));
+        return Err(Refusal::TooManyBytes(given));
     }
     let needed = given / 2;
     if bytes.len() < needed {
-        return Counted::Refused(Refusal::NoRoomForBytes(needed));
+        return Err(Refusal::NoRoomForBytes(needed));
     }
     write_bytes(cells, bytes);
-    Counted::Count(needed)
+    Ok(needed)
 }
 
 // The sixteen cells of a byte after a data bit, as a number.

@@ -1,9 +1,7 @@
 -- Section 8 of the specification: the number of each refusal, what is given beside it, and what a call leaves in a lent buffer. When a
 -- refusal is given is stated where it is judged. The main property: a refused call leaves the buffer as it was. Assumes nothing.
-use Rattle.std.specs.Prelude.{ℕ, List}
+use Rattle.std.specs.Prelude.{ℕ, List, Result, Ok, Err}
 use Rattle.basis.specs.Lists.{written_over}
-use Rattle.refusals.specs.declared.Counted.{Counted}
-use Rattle.refusals.specs.declared.Counted.TheVariants.{Count, Refused}
 use Rattle.refusals.specs.declared.Refusal.{Refusal}
 use Rattle.refusals.specs.declared.Refusal.TheVariants.{TrackOrSide, CellCount, TooFewBytes, TooManySectors, ListTooShort, NoTimings, TooManyTimings, TimingOutOfRange, TooManyCells, NoRoom, NoSuchSector, NoData, NoRoomForBytes, TooManyBytes, NotATrackFile, NotATrackBlock, NoSuchRevolution, LengthsDiffer, NotASectorLength, TooLongATrack, TrackGivenTwice, TooManyTracks, FluxSection, NoPlainImage, NotTheirFindings, NotAnImage, ImageHeader, ImageEntry, ImageCheckSum}
 
@@ -80,10 +78,15 @@ pub data Answer (A : Type 0) : Type 0 where
 abbrev pub refused_with : {A : Type 0} → Refusal → Answer A
 refused_with refusal = refused (number_of refusal) (value_of refusal)
 
--- 8.33: the answer of a call that counts something: how many, or its refusal
-abbrev pub counted_answer : Counted → Answer ℕ
-counted_answer (Count count) = gives count
-counted_answer (Refused refusal) = refused_with refusal
+-- 8.33: the answer of a call that gives what the rules speak of, or its refusal
+abbrev pub answer_of : {A : Type 0} → Result A Refusal → Answer A
+answer_of (Ok result) = gives result
+answer_of (Err refusal) = refused_with refusal
+
+-- 8.33: the same of a call whose result the rules see through a function, as the count of a record
+abbrev pub answer_by : {A B : Type 0} → (A → B) → Result A Refusal → Answer B
+answer_by see (Ok result) = gives (see result)
+answer_by see (Err refusal) = refused_with refusal
 
 -- 8.31: a lent buffer after a call. Where the call is refused, it is as it was. Where it is accepted, what the call made stands at the
 -- front and the rest is kept

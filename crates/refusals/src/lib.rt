@@ -5,7 +5,7 @@ ghost use Rattle.std.specs.Prelude.{◌≡◌};
 ghost use Rattle.refusals.specs.RefusedCalls.{number_of, value_of};
 
 // Why a call was refused, with the number that is given beside it.
-#[derive(Clone, Copy)]
+#[derive(Clone, Copy, Debug, PartialEq, Eq)]
 pub enum Refusal {
     // 1: the track is above 83 or the side above 1.
     TrackOrSide,
@@ -65,13 +65,6 @@ pub enum Refusal {
     ImageEntry(usize),
     // 29: the sum of an image's bytes, where its header says another one.
     ImageCheckSum(usize),
-}
-
-// What a call answers that counts something, as bytes written or findings: their number, or a refusal.
-#[derive(Clone, Copy)]
-pub enum Counted {
-    Count(usize),
-    Refused(Refusal),
 }
 
 impl Refusal {

@@ -6,10 +6,9 @@ use native.Mathlib.Omega.{arith}
 use lib.ListN.{length, drop}
 use lib.Seq.{sets, sets-eq}
 use Rattle.basis.specs.Lists.{written_over}
-use Rattle.refusals.specs.RefusedCalls.{refused_with, counted_answer}
+use Rattle.refusals.specs.RefusedCalls.{refused_with, answer_of}
 use Rattle.refusals.specs.RefusedCalls.Answer.{gives, refused}
-use Rattle.refusals.specs.declared.Counted.{Counted}
-use Rattle.refusals.specs.declared.Counted.TheVariants.{Refused}
+use Rattle.std.specs.Prelude.{Result, Err}
 use Rattle.refusals.specs.declared.Refusal.{Refusal}
 use Rattle.flux_timings.specs.Timings.{first_out}
 use Rattle.revolution_values.specs.Values.{unfinished_after, timings_ending, capped}
@@ -99,8 +98,8 @@ module _ (reader : RevolutionReader) (portion list : List ℕ) {used : Revolutio
           ∙ ap (λ (l : List ℕ). sets list 0 l) same ∙ stored list (portion_timings reader portion) (omega (arith, count_is)))
 
 -- a refusal as the code hands it back
-pub told : {reader : RevolutionReader} {portion list : List ℕ} {counted : Counted} {refusal : Refusal} → counted ≡ Refused refusal → {next : RevolutionReader} → next ≡ reader
-    → Promised reader portion list (refused_with refusal) reader list → Promised reader portion list (counted_answer counted) next list
+pub told : {reader : RevolutionReader} {portion list : List ℕ} {counted : Result ℕ Refusal} {refusal : Refusal} → counted ≡ Refused refusal → {next : RevolutionReader} → next ≡ reader
+    → Promised reader portion list (refused_with refusal) reader list → Promised reader portion list (answer_of counted) next list
 told {reader} {portion} {list} {counted} {refusal} g {next} n p =
-    subst (λ (x : Counted). Promised reader portion list (counted_answer x) next list) (sym g)
+    subst (λ (x : Result ℕ Refusal). Promised reader portion list (answer_of x) next list) (sym g)
     (subst (λ (x : RevolutionReader). Promised reader portion list (refused_with refusal) x list) (sym n) p)

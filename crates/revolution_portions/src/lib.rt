@@ -5,12 +5,12 @@
 #![tactic(auto)]
 
 ghost use Rattle.std.specs.Prelude.{◌≡◌, ◌≤◌, length};
-ghost use Rattle.refusals.specs.RefusedCalls.{counted_answer};
+ghost use Rattle.refusals.specs.RefusedCalls.{answer_of};
 ghost use Rattle.refusals.specs.declared.Counted.{Counted};
 ghost use Rattle.revolution_portions.specs.Portions.{fresh_reader, usable_reader, portion_answer, portion_reader, portion_list, AllTimings};
 ghost use Rattle.revolution_portions.specs.PrivateContracts.{LookedOver};
 
-use refusals::{Counted, Refusal};
+use refusals::Refusal;
 use revolution_values::{Held, Passed, Unfinished};
 
 // Where the reading of a revolution's values stands (rule 12.16): the timing that has not ended, and how many have.
@@ -23,7 +23,7 @@ pub struct RevolutionReader {
 // A portion taken: how many timings end in it, or a refusal, and the next state, which is the same beside a refusal.
 #[derive(Clone, Copy)]
 pub struct TakenPortion {
-    pub answer: Counted,
+    pub answer: Result<usize, Refusal>,
     pub next: RevolutionReader,
 }
 
@@ -57,10 +57,10 @@ impl RevolutionReader {
 
     // A portion more of the values: the timings that end in it, to the front of a list (rule 9.15).
     pub fn take(self, portion: &[u8], timings: &mut [u32]) -> TakenPortion
-        ensures answer { counted_answer result.answer ≡ portion_answer self portion.now (length timings.old) }
+        ensures answer { answer_of result.answer ≡ portion_answer self portion.now (length timings.old) }
         ensures state { result.next ≡ portion_reader self portion.now (length timings.old) }
         ensures list { timings.new ≡ portion_list self portion.now timings.old }
-        ensures all { AllTimings self portion.now (counted_answer result.answer) timings.new }
+        ensures all { AllTimings self portion.now (answer_of result.answer) timings.new }
     {
         let reader = self.usable();
         let unfinished = reader.unfinished;
@@ -80,7 +80,7 @@ impl RevolutionReader {
         revolution_values::pass(unfinished, portion, timings);
         let left = seen.unfinished;
         TakenPortion {
-            answer: Counted::Count(count),
+            answer: Ok(count),
             next: RevolutionReader {
                 unfinished: left,
                 timings: (before + count) as u32,
@@ -95,7 +95,7 @@ fn refused(reader: RevolutionReader, refusal: Refusal) -> TakenPortion
     ensures next { result.next ≡ reader }
 {
     TakenPortion {
-        answer: Counted::Refused(refusal),
+        answer: Err(refusal),
         next: reader,
     }
 }

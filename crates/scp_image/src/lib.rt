@@ -6,51 +6,51 @@ ghost use Rattle.std.specs.Prelude.{◌≡◌, ◌+◌, ◌*◌, ◌<◌, ◌≤
 ghost use Rattle.basis.specs.Bytes.{number};
 ghost use Rattle.basis.specs.Lists.{listed, written_over};
 ghost use Rattle.basis.specs.Search.{count};
-ghost use Rattle.refusals.specs.RefusedCalls.{counted_answer};
+ghost use Rattle.refusals.specs.RefusedCalls.{answer_of};
 ghost use Rattle.scp_image.specs.Header.{other_letters, not_an_image, may_change, fault_among, fault_of, header_numbers, header_answer, header_after};
 ghost use Rattle.scp_image.specs.Entries.{start_of, is_there, blocks_end, nearer, end_of, other_side, misplaced, bad_entry, first_bad, place_number, entries_answer, entries_after};
 ghost use Rattle.scp_image.specs.CheckSum.{sum_after, check_answer};
 ghost use Rattle.scp_image.specs.Laws.{WellPlaced, AllSummed};
 
-use refusals::{Counted, Refusal};
+use refusals::Refusal;
 
 // The ten numbers of the header, to the front of a list (rule 9.71).
-pub fn image_header(first: &[u8], image_length: usize, numbers: &mut [u32]) -> Counted
-    ensures answer { counted_answer result ≡ header_answer first.now image_length }
+pub fn image_header(first: &[u8], image_length: usize, numbers: &mut [u32]) -> Result<usize, Refusal>
+    ensures answer { answer_of result ≡ header_answer first.now image_length }
     ensures list { numbers.new ≡ header_after first.now image_length numbers.old }
 {
     if not_an_image(first, image_length) {
-        return Counted::Refused(Refusal::NotAnImage);
+        return Err(Refusal::NotAnImage);
     }
     let place = fault(first);
     if place < 12 {
-        return Counted::Refused(Refusal::ImageHeader(place));
+        return Err(Refusal::ImageHeader(place));
     }
     let made = header_numbers(first);
-    basis::copy_numbers(&made, numbers);
-    Counted::Count(10)
+    basis::copy(&made, numbers);
+    Ok(10)
 }
 
 // Where the block of each entry begins, and before what it has to end, to the front of a list (rule 9.72).
-pub fn image_entries(first: &[u8], image_length: usize, places: &mut [u32]) -> Counted
-    ensures answer { counted_answer result ≡ entries_answer first.now image_length }
+pub fn image_entries(first: &[u8], image_length: usize, places: &mut [u32]) -> Result<usize, Refusal>
+    ensures answer { answer_of result ≡ entries_answer first.now image_length }
     ensures list { places.new ≡ entries_after first.now image_length places.old }
-    ensures placed { WellPlaced first.now image_length (counted_answer result) }
+    ensures placed { WellPlaced first.now image_length (answer_of result) }
 {
     if not_an_image(first, image_length) {
-        return Counted::Refused(Refusal::NotAnImage);
+        return Err(Refusal::NotAnImage);
     }
     let place = fault(first);
     if place < 12 {
-        return Counted::Refused(Refusal::ImageHeader(place));
+        return Err(Refusal::ImageHeader(place));
     }
     let limit = blocks_end(first[8], image_length);
     let entry = first_bad(first, limit);
     if entry < 168 {
-        return Counted::Refused(Refusal::ImageEntry(entry));
+        return Err(Refusal::ImageEntry(entry));
     }
     write_places(first, limit, places);
-    Counted::Count(tracks_there(first))
+    Ok(tracks_there(first))
 }
 
 // The sum of bytes after a portion more, from the sum that those before it left (rule 9.73).
@@ -68,20 +68,20 @@ pub fn image_sum(sum: u32, portion: &[u8]) -> u32
 }
 
 // Whether the sum of the bytes is the one that the header says (rule 9.74).
-pub fn image_check(first: &[u8], image_length: usize, sum: u32) -> Counted
-    ensures { counted_answer result ≡ check_answer first.now image_length sum }
+pub fn image_check(first: &[u8], image_length: usize, sum: u32) -> Result<usize, Refusal>
+    ensures { answer_of result ≡ check_answer first.now image_length sum }
 {
     if not_an_image(first, image_length) {
-        return Counted::Refused(Refusal::NotAnImage);
+        return Err(Refusal::NotAnImage);
     }
     let place = fault(first);
     if place < 12 {
-        return Counted::Refused(Refusal::ImageHeader(place));
+        return Err(Refusal::ImageHeader(place));
     }
     if sum_good(first[8], sum, number_at(first, 12)) {
-        return Counted::Count(sum as usize);
+        return Ok(sum as usize);
     }
-    Counted::Refused(Refusal::ImageCheckSum(sum as usize))
+    Err(Refusal::ImageCheckSum(sum as usize))
 }
 
 // Whether the bytes are no image (rule 19.5).

@@ -161,7 +161,7 @@ fn read_longer<R: Read>(
     ensures few { result ≤ 65536 }
     ensures listing { ListedBlock 4194304 front.now choice.revolutions choice.revolution choice.track choice.side out.old result out.new }
 {
-    basis::copy_bytes(front, block);
+    basis::copy(front, block);
     let input = standard_input::read_on(from, block, front.len());
     let count = input.count;
     if count < block.len() {

@@ -6,12 +6,12 @@ ghost use Rattle.std.proofs.lemmas.List.Edits.{sets};
 ghost use Rattle.basis.specs.Lists.{written_over};
 ghost use Rattle.basis.specs.Search.{least};
 ghost use Rattle.cells.specs.CellsAndBytes.{cell};
-ghost use Rattle.refusals.specs.RefusedCalls.{counted_answer, buffer_after};
+ghost use Rattle.refusals.specs.RefusedCalls.{answer_of, buffer_after};
 ghost use Rattle.sector_records.specs.Sectors.{bytes_from};
 ghost use Rattle.sector_image.specs.Image.{numbered, is_plain, fits, first_unfit, some_outside, image_judged, image_of, image_answer, image_after};
 ghost use Rattle.sector_image.specs.PrivateContracts.{AtMost64, OfTrack, AllThere, sectors_in};
 
-use refusals::{Counted, Refusal};
+use refusals::Refusal;
 use sector_records::BYTE_LENGTH;
 use sectors::{Sector, Sectors};
 
@@ -29,37 +29,37 @@ const MARK_LENGTH: usize = 64;
 const SIZE_CODE: u8 = 2;
 
 // Puts the plain image of a track of n cells, packed in `bytes`, at the front of `image` (rule 9.61); `track` and `side` are the drive's.
-pub fn sector_image(bytes: &[u8], n: usize, track: u32, side: u32, image: &mut [u8]) -> Counted
-    ensures answer { counted_answer result ≡ image_answer bytes.now n track side (length image.old) }
+pub fn sector_image(bytes: &[u8], n: usize, track: u32, side: u32, image: &mut [u8]) -> Result<usize, Refusal>
+    ensures answer { answer_of result ≡ image_answer bytes.now n track side (length image.old) }
     ensures image { image.new ≡ image_after bytes.now n track side image.old }
 {
     let found = sectors::sectors_of(bytes, n, track, side);
     let ss = found.sectors;
     let answer = found.answer;
     match answer {
-        Counted::Refused(refusal) => Counted::Refused(refusal),
-        Counted::Count(_) => put_image(bytes, n, ss, image),
+        Err(refusal) => Err(refusal),
+        Ok(_) => put_image(bytes, n, ss, image),
     }
 }
 
 // The image of a track with the sectors ss.
-fn put_image(bytes: &[u8], n: usize, ss: Sectors, image: &mut [u8]) -> Counted
+fn put_image(bytes: &[u8], n: usize, ss: Sectors, image: &mut [u8]) -> Result<usize, Refusal>
     requires { OfTrack ss }
-    ensures answer { counted_answer result ≡ image_judged (sectors_in ss) (length image.old) }
+    ensures answer { answer_of result ≡ image_judged (sectors_in ss) (length image.old) }
     ensures image { image.new ≡ buffer_after (image_judged (sectors_in ss) (length image.old)) (image_of (cell bytes.now n) (sectors_in ss)) image.old }
 {
     let broken = first_unfit(ss);
     if broken <= SECTORS {
-        return Counted::Refused(Refusal::NoPlainImage(broken));
+        return Err(Refusal::NoPlainImage(broken));
     }
     if some_outside(ss) {
-        return Counted::Refused(Refusal::NoPlainImage(0));
+        return Err(Refusal::NoPlainImage(0));
     }
     if image.len() < IMAGE {
-        return Counted::Refused(Refusal::NoRoomForBytes(IMAGE));
+        return Err(Refusal::NoRoomForBytes(IMAGE));
     }
     write_image(bytes, n, ss, image);
-    Counted::Count(IMAGE)
+    Ok(IMAGE)
 }
 
 // The first number from 1 to 9 that stands in the way; 10 where none does.

@@ -4,7 +4,7 @@
 ghost use Rattle.std.specs.Prelude.{◌≡◌, [], ℕ, ◌≤◌, length};
 ghost use Rattle.basis.specs.Lists.{written_over};
 ghost use Rattle.cells.specs.CellsAndBytes.{cell};
-ghost use Rattle.refusals.specs.RefusedCalls.{refused_with, counted_answer, buffer_after};
+ghost use Rattle.refusals.specs.RefusedCalls.{refused_with, answer_of, buffer_after};
 ghost use Rattle.refusals.specs.RefusedCalls.Answer.{gives};
 ghost use Rattle.layouts.specs.Layouts.{double_density, layout_of};
 ghost use Rattle.sector_records.specs.Maps.{TrackMaps};
@@ -14,7 +14,7 @@ ghost use Rattle.sectors.specs.Calls.{sectors_answer, sectors_beside, index_answ
 use cell_words::WORDS;
 pub use layouts::Density;
 use layouts::layout_of;
-use refusals::{Counted, Refusal};
+use refusals::Refusal;
 use sector_records::{BYTE_LENGTH, MOST_CELLS, MOST_SECTORS};
 pub use sector_records::{Sector, Sectors};
 
@@ -30,14 +30,14 @@ pub const FEWEST_CELLS: usize = 20000;
 #[derive(Clone, Copy)]
 pub struct TrackSectors {
     pub sectors: Sectors,
-    pub answer: Counted,
+    pub answer: Result<usize, Refusal>,
 }
 
 // A sector by index and the number of sectors; the record is all zeros beside a refusal.
 #[derive(Clone, Copy)]
 pub struct Indexed {
     pub sector: Sector,
-    pub answer: Counted,
+    pub answer: Result<usize, Refusal>,
 }
 
 // What reading out gives: the number of data bytes and whether their check is good, or a refusal.
@@ -49,7 +49,7 @@ pub enum ReadOut {
 
 // The sectors of a track of n cells, packed in `bytes` (rule 9.3); `track` and `side` are the drive's.
 pub fn sectors_of(bytes: &[u8], n: usize, track: u32, side: u32) -> TrackSectors
-    ensures answer { counted_answer result.answer ≡ sectors_answer double_density bytes.now n track side }
+    ensures answer { answer_of result.answer ≡ sectors_answer double_density bytes.now n track side }
     ensures sectors { result.sectors ≡ sectors_beside (sectors_answer double_density bytes.now n track side) (sectors_of double_density bytes.now n) }
 {
     sectors_in(Density::Double, bytes, n, track, side)
@@ -57,7 +57,7 @@ pub fn sectors_of(bytes: &[u8], n: usize, track: u32, side: u32) -> TrackSectors
 
 // Sector `index` of a track, from 0, with the number of its sectors (rule 9.2).
 pub fn sector_by_index(bytes: &[u8], n: usize, track: u32, side: u32, index: usize) -> Indexed
-    ensures answer { counted_answer result.answer ≡ index_answer double_density bytes.now n track side index }
+    ensures answer { answer_of result.answer ≡ index_answer double_density bytes.now n track side index }
     ensures sector { result.sector ≡ record_beside (index_answer double_density bytes.now n track side index) (sector_of double_density bytes.now n index) }
 {
     sector_in(Density::Double, bytes, n, track, side, index)
@@ -80,7 +80,7 @@ pub fn read_out(
 
 // The sectors of a track of either density (rules 9.3, 9.41).
 pub fn sectors_in(density: Density, bytes: &[u8], n: usize, track: u32, side: u32) -> TrackSectors
-    ensures answer { counted_answer result.answer ≡ sectors_answer (layout_of density) bytes.now n track side }
+    ensures answer { answer_of result.answer ≡ sectors_answer (layout_of density) bytes.now n track side }
     ensures sectors { result.sectors ≡ sectors_beside (sectors_answer (layout_of density) bytes.now n track side) (sectors_of (layout_of density) bytes.now n) }
 {
     let mut words = [0u64; WORDS];
@@ -98,9 +98,9 @@ pub fn sectors_with_maps(
     words: &mut [u64; WORDS],
     syncs: &mut [u64; WORDS],
 ) -> TrackSectors
-    ensures answer { counted_answer result.answer ≡ sectors_answer (layout_of density) bytes.now n track side }
+    ensures answer { answer_of result.answer ≡ sectors_answer (layout_of density) bytes.now n track side }
     ensures sectors { result.sectors ≡ sectors_beside (sectors_answer (layout_of density) bytes.now n track side) (sectors_of (layout_of density) bytes.now n) }
-    ensures maps { (count : ℕ) → counted_answer result.answer ≡ gives count → TrackMaps (layout_of density) bytes.now n words.new syncs.new }
+    ensures maps { (count : ℕ) → answer_of result.answer ≡ gives count → TrackMaps (layout_of density) bytes.now n words.new syncs.new }
 {
     if (LAST_TRACK < track) | (LAST_SIDE < side) {
         return no_list(Refusal::TrackOrSide);
@@ -119,7 +119,7 @@ pub fn sectors_with_maps(
     }
     TrackSectors {
         sectors,
-        answer: Counted::Count(count),
+        answer: Ok(count),
     }
 }
 
@@ -132,21 +132,21 @@ pub fn sector_in(
     side: u32,
     index: usize,
 ) -> Indexed
-    ensures answer { counted_answer result.answer ≡ index_answer (layout_of density) bytes.now n track side index }
+    ensures answer { answer_of result.answer ≡ index_answer (layout_of density) bytes.now n track side index }
     ensures sector { result.sector ≡ record_beside (index_answer (layout_of density) bytes.now n track side index) (sector_of (layout_of density) bytes.now n index) }
 {
     let found = sectors_in(density, bytes, n, track, side);
     let sectors = found.sectors;
     let answer = found.answer;
     match answer {
-        Counted::Refused(refusal) => no_record(refusal),
-        Counted::Count(count) => {
+        Err(refusal) => no_record(refusal),
+        Ok(count) => {
             if count <= index {
                 return no_record(Refusal::NoSuchSector(count));
             }
             Indexed {
                 sector: sectors.all[index],
-                answer: Counted::Count(count),
+                answer: Ok(count),
             }
         }
     }
@@ -169,29 +169,29 @@ pub fn read_out_in(
     let sector = found.sector;
     let answer = found.answer;
     match answer {
-        Counted::Refused(refusal) => ReadOut::Refused(refusal),
-        Counted::Count(_) => read_sector(density, bytes, n, sector, buffer),
+        Err(refusal) => ReadOut::Refused(refusal),
+        Ok(_) => read_sector(density, bytes, n, sector, buffer),
     }
 }
 
 // No sectors, beside a refusal.
 fn no_list(refusal: Refusal) -> TrackSectors
-    ensures { (counted_answer result.answer ≡ refused_with refusal) × (result.sectors ≡ kept []) }
+    ensures { (answer_of result.answer ≡ refused_with refusal) × (result.sectors ≡ kept []) }
 {
     let sectors = sector_records::no_sectors();
     TrackSectors {
         sectors,
-        answer: Counted::Refused(refusal),
+        answer: Err(refusal),
     }
 }
 
 // No sector, beside a refusal.
 fn no_record(refusal: Refusal) -> Indexed
-    ensures { (counted_answer result.answer ≡ refused_with refusal) × (result.sector ≡ no_sector) }
+    ensures { (answer_of result.answer ≡ refused_with refusal) × (result.sector ≡ no_sector) }
 {
     Indexed {
         sector: sector_records::no_sector(),
-        answer: Counted::Refused(refusal),
+        answer: Err(refusal),
     }
 }
 

@@ -3,7 +3,7 @@
 
 ghost use Rattle.std.specs.Prelude.{◌≡◌, cond, ℕ, ◌+◌, ◌-◌, ◌≤◌, eqb, length};
 ghost use Rattle.basis.specs.Lists.{listed};
-ghost use Rattle.refusals.specs.RefusedCalls.{counted_answer};
+ghost use Rattle.refusals.specs.RefusedCalls.{answer_of};
 ghost use Rattle.refusals.specs.RefusedCalls.Answer.{gives};
 ghost use Rattle.cells.specs.CellsAndBytes.{packed_byte, with_one};
 ghost use Rattle.flux_timings.specs.Timings.{first_out};
@@ -13,7 +13,7 @@ ghost use Rattle.separation.specs.Demand3.{Demand3};
 ghost use Rattle.separation.specs.PrivateContracts.{IsHalfWindow};
 
 use flux_timings::{MOST_TIMINGS, first_out};
-use refusals::{Counted, Refusal};
+use refusals::Refusal;
 use separator::{DOUBLE_HALF_WINDOW, SINGLE_HALF_WINDOW, Separator, Stepped, Taken};
 
 // The most cells that one call gives.
@@ -23,18 +23,18 @@ pub const MOST_CELLS: usize = 131_072;
 const MOST_CELL_BYTES: usize = 16_384;
 
 // The whole list of timings, to cells at the front of a buffer; they are counted, and the border pulses too.
-pub fn separate(timings: &[u32], cells: &mut [u8], border_pulses: &mut usize) -> Counted
-    ensures answer { counted_answer result ≡ separation timings.now (length cells.old) }
+pub fn separate(timings: &[u32], cells: &mut [u8], border_pulses: &mut usize) -> Result<usize, Refusal>
+    ensures answer { answer_of result ≡ separation timings.now (length cells.old) }
     ensures buffer { cells.new ≡ separated_cells timings.now cells.old }
     ensures border_pulses { border_pulses.new ≡ border_pulses_after (separation timings.now (length cells.old)) (border_pulses_of timings.now) border_pulses.old }
-    ensures demand3 { Demand3 timings.now (counted_answer result) cells.old cells.new }
+    ensures demand3 { Demand3 timings.now (answer_of result) cells.old cells.new }
 {
     separate_by(DOUBLE_HALF_WINDOW, timings, cells, border_pulses)
 }
 
 // The same for a track of single density. Demand 3 is not claimed of it.
-pub fn separate_single(timings: &[u32], cells: &mut [u8], border_pulses: &mut usize) -> Counted
-    ensures answer { counted_answer result ≡ separation_by single_half_window timings.now (length cells.old) }
+pub fn separate_single(timings: &[u32], cells: &mut [u8], border_pulses: &mut usize) -> Result<usize, Refusal>
+    ensures answer { answer_of result ≡ separation_by single_half_window timings.now (length cells.old) }
     ensures buffer { cells.new ≡ separated_cells_by single_half_window timings.now cells.old }
     ensures border_pulses { border_pulses.new ≡ border_pulses_after (separation_by single_half_window timings.now (length cells.old)) (border_pulses_of_by single_half_window timings.now) border_pulses.old }
 {
@@ -42,23 +42,23 @@ pub fn separate_single(timings: &[u32], cells: &mut [u8], border_pulses: &mut us
 }
 
 // The number of border pulses of a list of timings, without its cells (rule 3.23).
-pub fn count_border_pulses(timings: &[u32]) -> Counted
-    ensures { counted_answer result ≡ border_pulses_counted timings.now }
+pub fn count_border_pulses(timings: &[u32]) -> Result<usize, Refusal>
+    ensures { answer_of result ≡ border_pulses_counted timings.now }
 {
     let given = timings.len();
     if given == 0 {
-        return Counted::Refused(Refusal::NoTimings);
+        return Err(Refusal::NoTimings);
     }
     if MOST_TIMINGS < given {
-        return Counted::Refused(Refusal::TooManyTimings(given));
+        return Err(Refusal::TooManyTimings(given));
     }
     let first = first_out(timings);
     if first < given {
-        return Counted::Refused(Refusal::TimingOutOfRange(first));
+        return Err(Refusal::TimingOutOfRange(first));
     }
     let mut room = [0u8; MOST_CELL_BYTES];
     let counts = fill(DOUBLE_HALF_WINDOW, timings, &mut room);
-    Counted::Count(counts.border_pulses)
+    Ok(counts.border_pulses)
 }
 
 // Separates by half of the window.
@@ -67,36 +67,36 @@ fn separate_by(
     timings: &[u32],
     cells: &mut [u8],
     border_pulses: &mut usize,
-) -> Counted
+) -> Result<usize, Refusal>
     requires { IsHalfWindow half_window }
-    ensures answer { counted_answer result ≡ separation_by half_window timings.now (length cells.old) }
+    ensures answer { answer_of result ≡ separation_by half_window timings.now (length cells.old) }
     ensures buffer { cells.new ≡ separated_cells_by half_window timings.now cells.old }
     ensures border_pulses { border_pulses.new ≡ border_pulses_after (separation_by half_window timings.now (length cells.old)) (border_pulses_of_by half_window timings.now) border_pulses.old }
 {
     let given = timings.len();
     if given == 0 {
-        return Counted::Refused(Refusal::NoTimings);
+        return Err(Refusal::NoTimings);
     }
     if MOST_TIMINGS < given {
-        return Counted::Refused(Refusal::TooManyTimings(given));
+        return Err(Refusal::TooManyTimings(given));
     }
     let first = first_out(timings);
     if first < given {
-        return Counted::Refused(Refusal::TimingOutOfRange(first));
+        return Err(Refusal::TimingOutOfRange(first));
     }
     let mut room = [0u8; MOST_CELL_BYTES];
     let counts = fill(half_window, timings, &mut room);
     let count = counts.cells;
     if MOST_CELLS < count {
-        return Counted::Refused(Refusal::TooManyCells(count));
+        return Err(Refusal::TooManyCells(count));
     }
     let needed = (count + 7) / 8;
     if cells.len() < needed {
-        return Counted::Refused(Refusal::NoRoom(needed));
+        return Err(Refusal::NoRoom(needed));
     }
-    basis::copy_bytes(&room[..needed], cells);
+    basis::copy(&room[..needed], cells);
     *border_pulses = counts.border_pulses;
-    Counted::Count(count)
+    Ok(count)
 }
 
 // What timings have in all: cells, and border pulses.

@@ -10,10 +10,9 @@ use lib.Seq.{take_all, take_at}
 use Rattle.basis.specs.Lists.{written_over}
 use Rattle.lines.specs.Lines.{bytes_of, refused_line, out_after}
 use Rattle.lines.proofs.Lengths.{refused-few}
-use Rattle.refusals.specs.RefusedCalls.{Answer, number_of, value_of, counted_answer, buffer_after}
+use Rattle.refusals.specs.RefusedCalls.{Answer, number_of, value_of, answer_of, buffer_after}
 use Rattle.refusals.specs.RefusedCalls.Answer.{gives, refused}
-use Rattle.refusals.specs.declared.Counted.{Counted}
-use Rattle.refusals.specs.declared.Counted.TheVariants.{Count, Refused}
+use Rattle.std.specs.Prelude.{Result, Ok, Err}
 use Rattle.refusals.specs.declared.Refusal.{Refusal}
 use Rattle.track_file.specs.Portions.{start_of, start_cells, whole_of}
 use Rattle.file_reader.specs.declared.Reader.{Reader}
@@ -98,8 +97,8 @@ module _ (buffer : List ℕ) (long : length buffer ≡ 16384) {first : Reader} {
       unfolding outputs_of_input
       read-failed e = unreadable (rw e)
 
-    module _ {reader : Reader} (ended : input ≡ Ended reader) (answer : Counted) {made : List ℕ} (whole : WholeImage reader cells (counted_answer answer) before made) where
-      told : (counted_answer answer ≡ file_image_answer 16384 65536 file) × (made ≡ buffer_after (counted_answer answer) (file_image 16384 file) before)
+    module _ {reader : Reader} (ended : input ≡ Ended reader) (answer : Result ℕ Refusal) {made : List ℕ} (whole : WholeImage reader cells (answer_of answer) before made) where
+      told : (answer_of answer ≡ file_image_answer 16384 65536 file) × (made ≡ buffer_after (answer_of answer) (file_image 16384 file) before)
       told =
           rw (long, room)
           at (whole.whole buffer (portions_of through.reads) (reader-from-start buffer started through ended) (cells-from-start buffer started through))

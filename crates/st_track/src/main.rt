@@ -8,7 +8,7 @@ ghost use Rattle.lines.specs.Lines.{digit, out_after};
 ghost use Rattle.refusals.specs.RefusedCalls.{number_of, value_of};
 ghost use Rattle.st_track.specs.ImageOfInput.{number_line, refusal_line, unreadable_line, ImagedInput};
 
-use refusals::{Counted, Refusal};
+use refusals::Refusal;
 use std::io::Read;
 use track_input::Input;
 
@@ -32,11 +32,11 @@ fn image_input<R: Read>(from: &mut R, cells: &mut [u8], buffer: &mut [u8]) -> Wr
         Input::Ended(reader) => {
             let answer = file_image::image_file(reader, cells, buffer);
             match answer {
-                Counted::Count(count) => Written {
+                Ok(count) => Written {
                     output: count,
                     message: 0,
                 },
-                Counted::Refused(refusal) => Written {
+                Err(refusal) => Written {
                     output: 0,
                     message: write_refusal(refusal, buffer),
                 },
@@ -73,7 +73,7 @@ fn write_number(value: usize, out: &mut [u8]) -> usize
 {
     let mut line = *b"refused 24 number 0\n";
     line[18] = last_digit(value);
-    basis::copy_bytes(&line, out);
+    basis::copy(&line, out);
     20
 }
 
@@ -89,7 +89,7 @@ fn write_unreadable(out: &mut [u8]) -> usize
     ensures answer { result ≡ 46 }
     ensures out { out.new ≡ out_after unreadable_line out.old }
 {
-    basis::copy_bytes(b"st_track: the input cannot be read to its end\n", out);
+    basis::copy(b"st_track: the input cannot be read to its end\n", out);
     46
 }
 

@@ -6,10 +6,10 @@
 
 ghost use Rattle.std.specs.Prelude.{◌≡◌, ◌+◌, ◌*◌, ◌≤◌, ◌<◌, length, drop};
 ghost use Rattle.basis.specs.Bytes.{number};
-ghost use Rattle.refusals.specs.RefusedCalls.{counted_answer};
+ghost use Rattle.refusals.specs.RefusedCalls.{answer_of};
 ghost use Rattle.supercard_pro.specs.TrackBlock.{value_count, value_offset, table_end, other_letters, bad_revolution, some_bad, not_a_track_block, block_answer, block_timings};
 
-use refusals::{Counted, Refusal};
+use refusals::Refusal;
 use revolution_portions::RevolutionReader;
 use revolution_values::two_bytes;
 
@@ -20,19 +20,19 @@ pub fn revolution_timings(
     revolutions: u32,
     revolution: u32,
     timings: &mut [u32],
-) -> Counted
-    ensures answer { counted_answer result ≡ block_answer block.now revolutions revolution (length timings.old) }
+) -> Result<usize, Refusal>
+    ensures answer { answer_of result ≡ block_answer block.now revolutions revolution (length timings.old) }
     ensures list { timings.new ≡ block_timings block.now revolutions revolution timings.old }
 {
     if not_a_block(block, revolutions) {
-        return Counted::Refused(Refusal::NotATrackBlock);
+        return Err(Refusal::NotATrackBlock);
     }
     if revolutions <= revolution {
-        return Counted::Refused(Refusal::NoSuchRevolution);
+        return Err(Refusal::NoSuchRevolution);
     }
     let count = value_count(block, revolution);
     if count == 0 {
-        return Counted::Refused(Refusal::NoTimings);
+        return Err(Refusal::NoTimings);
     }
     let from = value_offset(block, revolution);
     let to = from + 2 * count;

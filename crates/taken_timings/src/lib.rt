@@ -2,10 +2,10 @@
 #![tactic(auto)]
 
 ghost use Rattle.std.specs.Prelude.{◌≡◌};
-ghost use Rattle.refusals.specs.RefusedCalls.{counted_answer};
+ghost use Rattle.refusals.specs.RefusedCalls.{answer_of};
 ghost use Rattle.taken_timings.specs.Timings.{none_taken, count_after, timing_cells, taken_after, taken_cells, timings_answer};
 
-use refusals::{Counted, Refusal};
+use refusals::Refusal;
 use separator::{Separator, Taken};
 
 // The timings taken so far: all in range, with their number, their cells in all and the separator's state; or the index of the first outside
@@ -63,8 +63,8 @@ pub fn take_timing(taken: TakenTimings, timing: u32, cells: &mut [u8]) -> TakenT
 }
 
 // What the timings give in all: the number of their cells, or a refusal.
-pub fn count_taken(taken: TakenTimings) -> Counted
-    ensures { counted_answer result ≡ timings_answer taken }
+pub fn count_taken(taken: TakenTimings) -> Result<usize, Refusal>
+    ensures { answer_of result ≡ timings_answer taken }
 {
     match taken {
         TakenTimings::InRange {
@@ -73,12 +73,12 @@ pub fn count_taken(taken: TakenTimings) -> Counted
             separator: _,
         } => {
             if separation::MOST_CELLS < cells {
-                Counted::Refused(Refusal::TooManyCells(cells))
+                Err(Refusal::TooManyCells(cells))
             } else {
-                Counted::Count(cells)
+                Ok(cells)
             }
         }
-        TakenTimings::OutOfRange(index) => Counted::Refused(Refusal::TimingOutOfRange(index)),
+        TakenTimings::OutOfRange(index) => Err(Refusal::TimingOutOfRange(index)),
     }
 }
 

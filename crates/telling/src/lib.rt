@@ -4,14 +4,14 @@
 
 ghost use Rattle.std.specs.Prelude.{◌≡◌, cond};
 ghost use Rattle.reader_as_number.specs.Numbers.{number_kept};
-ghost use Rattle.refusals.specs.RefusedCalls.{counted_answer};
+ghost use Rattle.refusals.specs.RefusedCalls.{answer_of};
 ghost use Rattle.sectors.specs.Calls.{read_out_answer};
 ghost use Rattle.separator.specs.Rule.{taken_answer};
 ghost use Rattle.track_file.specs.Portions.{read_answer};
 ghost use Rattle.two_reads.specs.GoodRead.{good_part_answer};
 ghost use Rattle.telling.specs.Numbers.{number_in, value_in, offset_stored, sector_numbers, value_read, check_read, value_given, place_given, part_length, which_read};
 
-use refusals::Counted;
+use refusals::Refusal;
 use revolution_portions::{RevolutionReader, TakenPortion};
 use sector_records::Sector;
 use sectors::ReadOut;
@@ -20,15 +20,15 @@ use track_file::Read;
 use two_reads::GoodPart;
 
 // Tells a count: every routine that counts something does it by this function.
-pub fn told(counted: Counted, value: &mut usize) -> u32
-    ensures { (result ≡ number_in (counted_answer counted)) × (value.new ≡ value_in (counted_answer counted)) }
+pub fn told(counted: Result<usize, Refusal>, value: &mut usize) -> u32
+    ensures { (result ≡ number_in (answer_of counted)) × (value.new ≡ value_in (answer_of counted)) }
 {
     match counted {
-        Counted::Count(count) => {
+        Ok(count) => {
             *value = count;
             0
         }
-        Counted::Refused(refusal) => {
+        Err(refusal) => {
             *value = refusal.value();
             refusal.number()
         }
@@ -79,7 +79,7 @@ pub fn told_file(read: Read, place: &mut [u32], value: &mut usize) -> u32
     match read {
         Read::Cells { track, side, count } => {
             let made = [track as u32, side as u32];
-            basis::copy_numbers(&made, place);
+            basis::copy(&made, place);
             *value = count;
             0
         }
@@ -110,20 +110,20 @@ pub fn told_part(part: GoodPart, which: &mut usize, value: &mut usize) -> u32
 
 // Tells the timings of a portion, and keeps the number of the next reader, or, beside a refusal, the one that is there.
 pub fn told_portion(taken: TakenPortion, state: &mut u32, value: &mut usize) -> u32
-    ensures { (result ≡ number_in (counted_answer taken.answer)) × (value.new ≡ value_in (counted_answer taken.answer)) × (state.new ≡ number_kept (counted_answer taken.answer) state.old taken.next) }
+    ensures { (result ≡ number_in (answer_of taken.answer)) × (value.new ≡ value_in (answer_of taken.answer)) × (state.new ≡ number_kept (answer_of taken.answer) state.old taken.next) }
 {
     let counted = taken.answer;
     *state = number_kept(counted, *state, taken.next);
     told(counted, value)
 }
 
-fn number_kept(counted: Counted, number: u32, next: RevolutionReader) -> u32
-    ensures { result ≡ number_kept (counted_answer counted) number next }
+fn number_kept(counted: Result<usize, Refusal>, number: u32, next: RevolutionReader) -> u32
+    ensures { result ≡ number_kept (answer_of counted) number next }
 {
     let advanced = reader_as_number::number_of_reader(next);
     match counted {
-        Counted::Count(_) => advanced,
-        Counted::Refused(_) => number,
+        Ok(_) => advanced,
+        Err(_) => number,
     }
 }
 

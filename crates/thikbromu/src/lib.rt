@@ -191,7 +191,7 @@ pub extern "C" fn thikbromu_histogram(timings: &[u32], counts: &mut [u32], value
 {
     let histogram = histogram::histogram_of(timings);
     let made = histogram.counts;
-    basis::copy_numbers(&made, counts);
+    basis::copy(&made, counts);
     let answer = histogram.answer;
     told(answer, value)
 }
@@ -313,7 +313,7 @@ fn sector_told(
     let found = sectors::sector_in(density, bytes, n, track, side, index);
     let sector = found.sector;
     let made = sector_numbers(sector);
-    basis::copy_numbers(&made, numbers);
+    basis::copy(&made, numbers);
     let answer = found.answer;
     told(answer, value)
 }

@@ -23,7 +23,7 @@ pub extern "C" fn thikbromu_compare_reads(
 {
     let compared = two_reads::compare_reads(first, second, low_byte(data_mark));
     let made = compared.numbers;
-    basis::copy_numbers(&made, numbers);
+    basis::copy(&made, numbers);
     let answer = compared.answer;
     told(answer, value)
 }

@@ -4,12 +4,12 @@
 ghost use Rattle.std.specs.Prelude.{◌≡◌, ◌<◌, ◌≤◌, ◌+◌, ◌*◌, ◌/◌, ◌%◌, length, take, drop, ◌++◌};
 ghost use Rattle.basis.specs.Lists.{written_over};
 ghost use Rattle.mfm.specs.Table.{cell_table};
-ghost use Rattle.refusals.specs.RefusedCalls.{counted_answer};
+ghost use Rattle.refusals.specs.RefusedCalls.{answer_of};
 ghost use Rattle.track_writer.specs.WriteTrack.{written, pieces_of};
 ghost use Rattle.track_writer.specs.PrivateContracts.{packed_for, next, two_bytes, pieces_for, UpToMost};
 ghost use Rattle.track_writer.specs.Calls.{write_answer, written_after};
 
-use refusals::{Counted, Refusal};
+use refusals::Refusal;
 
 // The most that a track may have, 131,072 cells, in pieces of sixteen.
 pub const MOST_PIECES: usize = 8192;
@@ -24,20 +24,20 @@ struct Writer {
 }
 
 // Writes what `list` asks for to the front of `cells`, and counts the cells.
-pub fn write_track(list: &[u8], cells: &mut [u8]) -> Counted
-    ensures answer { counted_answer result ≡ write_answer list.now cells.old }
+pub fn write_track(list: &[u8], cells: &mut [u8]) -> Result<usize, Refusal>
+    ensures answer { answer_of result ≡ write_answer list.now cells.old }
     ensures buffer { cells.new ≡ written_after list.now cells.old }
 {
     let pieces = count_pieces(list);
     if MOST_PIECES < pieces {
-        return Counted::Refused(Refusal::TooLongATrack);
+        return Err(Refusal::TooLongATrack);
     }
     let needed = 2 * pieces;
     if cells.len() < needed {
-        return Counted::Refused(Refusal::NoRoom(needed));
+        return Err(Refusal::NoRoom(needed));
     }
     write_list(list, cells);
-    Counted::Count(16 * pieces)
+    Ok(16 * pieces)
 }
 
 // The pieces that a list gives. It stops as soon as there are too many, so that no list is too long to count.

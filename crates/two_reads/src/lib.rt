@@ -5,17 +5,17 @@
 ghost use Rattle.std.specs.Prelude.{◌≡◌, [], ◌∷◌, ◌≤◌, ◌<◌, ◌*◌, ◌+◌, length};
 ghost use Rattle.std.specs.Int.Bits.{bit_xor};
 ghost use Rattle.std.specs.Int.Count.{ones};
-ghost use Rattle.refusals.specs.RefusedCalls.{counted_answer};
+ghost use Rattle.refusals.specs.RefusedCalls.{answer_of};
 ghost use Rattle.two_reads.specs.Comparison.{is_read_length, first_difference, differing_bits, comparison, fuzzy_numbers, numbers_given};
 ghost use Rattle.two_reads.specs.GoodRead.{check_is_good, part_answer, part_given, good_part_answer, IsPart};
 
-use refusals::{Counted, Refusal};
+use refusals::Refusal;
 
 // What comparing two reads gives: the four numbers of the finding, zeros where there is none, and how many findings, or a refusal.
 #[derive(Clone, Copy)]
 pub struct Compared {
     pub numbers: [u32; 4],
-    pub answer: Counted,
+    pub answer: Result<usize, Refusal>,
 }
 
 // The part of a read whose check is good: whether it is of the second read, and how many of its first bytes. Or a refusal.
@@ -31,18 +31,18 @@ pub const FUZZY: u32 = 22;
 // FZD, where two reads differ: its place is the least index at which they do, its detail how many bits differ. The data mark is part of no
 // read, so it changes nothing here.
 pub fn compare_reads(first: &[u8], second: &[u8], data_mark: u8) -> Compared
-    ensures answer { counted_answer result.answer ≡ comparison first.now second.now }
+    ensures answer { answer_of result.answer ≡ comparison first.now second.now }
     ensures numbers { result.numbers ≡ numbers_given (comparison first.now second.now) (fuzzy_numbers first.now second.now) }
 {
     if first.len() != second.len() {
-        return none(Counted::Refused(Refusal::LengthsDiffer));
+        return none(Err(Refusal::LengthsDiffer));
     }
     if !is_read_length(first.len()) {
-        return none(Counted::Refused(Refusal::NotASectorLength));
+        return none(Err(Refusal::NotASectorLength));
     }
     let place = first_difference(first, second);
     if place == first.len() {
-        return none(Counted::Count(0));
+        return none(Ok(0));
     }
     Compared {
         numbers: [
@@ -51,7 +51,7 @@ pub fn compare_reads(first: &[u8], second: &[u8], data_mark: u8) -> Compared
             place as u32,
             differing_bits(first, second),
         ],
-        answer: Counted::Count(1),
+        answer: Ok(1),
     }
 }
 
@@ -107,7 +107,7 @@ pub fn good_part(first: &[u8], second: &[u8], data_mark: u8) -> GoodPart
 const CHECK_BYTES: usize = 2;
 
 // An answer without a finding.
-fn none(answer: Counted) -> Compared
+fn none(answer: Result<usize, Refusal>) -> Compared
     ensures { (result.answer ≡ answer) × (result.numbers ≡ 0 ∷ 0 ∷ 0 ∷ 0 ∷ []) }
 {
     Compared {

@@ -36,7 +36,7 @@ fn hand_over(read: Read, own: &[u8], cells: &mut [u8]) -> Read
             if cells.len() < needed {
                 return Read::Refused(Refusal::NoRoom(needed));
             }
-            basis::copy_bytes(&own[..needed], cells);
+            basis::copy(&own[..needed], cells);
             Read::Cells { track, side, count }
         }
         Read::Refused(refusal) => Read::Refused(refusal),

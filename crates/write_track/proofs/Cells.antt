@@ -9,10 +9,9 @@ use lib.Dec.{eqb, ltb}
 use lib.ListN.{length, take, drop}
 use lib.Seq.{take_at}
 use Rattle.cells.specs.CellsAndBytes.{bytes_for}
-use Rattle.refusals.specs.RefusedCalls.{Answer, number_of, value_of, counted_answer, buffer_after}
+use Rattle.refusals.specs.RefusedCalls.{Answer, number_of, value_of, answer_of, buffer_after}
 use Rattle.refusals.specs.RefusedCalls.Answer.{gives, refused}
-use Rattle.refusals.specs.declared.Counted.{Counted}
-use Rattle.refusals.specs.declared.Counted.TheVariants.{Count, Refused}
+use Rattle.std.specs.Prelude.{Result, Ok, Err}
 use Rattle.refusals.specs.declared.Refusal.{Refusal}
 use Rattle.track_writer.specs.Calls.{judged, write_answer, written_after}
 use Rattle.track_writer.specs.WriteTrack.Piece.{coded, sync_a1, sync_c2}
@@ -60,12 +59,12 @@ pub record Given (list cells : List ℕ) (count : ℕ) : Type 0 where
   pub front_is : take (count / 8) cells ≡ written list
 
 -- the call in a room of 16,384 bytes
-module _ (list before : List ℕ) (long : length before ≡ 16384) (answer : Counted) {cells : List ℕ}
-    (call : (counted_answer answer ≡ write_answer list before) × (cells ≡ written_after list before)) where
+module _ (list before : List ℕ) (long : length before ≡ 16384) (answer : Result ℕ Refusal) {cells : List ℕ}
+    (call : (answer_of answer ≡ write_answer list before) × (cells ≡ written_after list before)) where
   pub given : {count : ℕ} → answer ≡ Count count → Given list cells count
   unfolding cell_count buffer_after
   given {count} e =
-      let told : gives count ≡ write_answer list before = ap counted_answer (sym e) ∙ call.0 in
+      let told : gives count ≡ write_answer list before = ap answer_of (sym e) ∙ call.0 in
       let is = judged-count (cell_count list) (length before) count told in
       let made : cells ≡ written list ++ drop (length (written list)) before =
       call.1 ∙ ap (λ (a : Answer ℕ). buffer_after a (written list) before) (sym told) in
@@ -79,7 +78,7 @@ module _ (list before : List ℕ) (long : length before ≡ 16384) (answer : Cou
   -- or it is refused with 20
   pub too_long : {refusal : Refusal} → answer ≡ Refused refusal → (number_of refusal ≡ 20) × (131072 < cell_count list)
   too_long {refusal} e =
-      judged-refused (cell_count list) (number_of refusal) (value_of refusal) (ap counted_answer (sym e) ∙ call.0 ∙ ap (judged (cell_count list)) long)
+      judged-refused (cell_count list) (number_of refusal) (value_of refusal) (ap answer_of (sym e) ∙ call.0 ∙ ap (judged (cell_count list)) long)
 
 -- a list has at least as many pieces as bytes
 module _ (b : ℕ) (bs : List ℕ) (more : (w : ℕ) (run : Bool) → length bs ≤ length (pieces_from w run bs)) (v₁ v₂ v₃ v₄ c₁ c₂ : ℕ) where

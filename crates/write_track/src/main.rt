@@ -12,7 +12,7 @@ ghost use Rattle.write_track.specs.Arguments.{place_of, PlaceRead};
 ghost use Rattle.write_track.specs.FileOfList.{front_of, file_with, refusal, unreadable, outputs_of, outputs_of_input, AtFront, Made, MadeOfInput};
 
 use block_choice::Choice;
-use refusals::Counted;
+use refusals::Refusal;
 use std::env::{Env, FillError};
 use std::io::Read;
 
@@ -111,11 +111,11 @@ fn write_list(track: u8, side: u8, list: &[u8], cells: &mut [u8], out: &mut [u8]
         return write_refusal(15, out);
     }
     match track_writer::write_track(list, cells) {
-        Counted::Count(count) => Written {
+        Ok(count) => Written {
             output: write_file(track, side, count, &cells[..count / 8], out),
             message: 0,
         },
-        Counted::Refused(refusal) => write_refusal(refusal.number(), out),
+        Err(refusal) => write_refusal(refusal.number(), out),
     }
 }
 
@@ -154,7 +154,7 @@ fn put(out: &mut [u8], at: usize, bytes: &[u8]) -> usize
     ensures place { result ≡ at + length bytes.now }
     ensures front { take result out.new ≡ take at out.old ++ bytes.now }
 {
-    basis::copy_bytes(bytes, &mut out[at..]);
+    basis::copy(bytes, &mut out[at..]);
     at + bytes.len()
 }
 

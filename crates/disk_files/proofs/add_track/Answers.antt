@@ -7,17 +7,17 @@ use lib.ListN.{length, replicate, length-replicate}
 use lib.Seq.{length-take-le}
 use Rattle.findings.specs.Calls.{findings_answer}
 use Rattle.layouts.specs.Layouts.{double_density}
-use Rattle.refusals.specs.RefusedCalls.{counted_answer}
+use Rattle.refusals.specs.RefusedCalls.{answer_of}
 use Rattle.refusals.specs.RefusedCalls.Answer.{gives}
-use Rattle.refusals.specs.declared.Counted.{Counted}
-use Rattle.refusals.specs.declared.Counted.TheVariants.{Count}
+use Rattle.refusals.specs.declared.Refusal.{Refusal}
+use Rattle.std.specs.Prelude.{Result, Ok}
 use Rattle.disk_files.proofs.Added.{count-few, adds-nothing, adds-track}
 use Rattle.disk_files.proofs.add_track.Goals as goal
 
 -- the number of findings is what the call gives, and the array has all their numbers
-module _ (cells : List ℕ) (N T H : ℕ) {told : Counted} {count : ℕ} (e : counted_answer told ≡ findings_answer double_density cells N T H 901) (is : told ≡ Count count) where
+module _ (cells : List ℕ) (N T H : ℕ) {told : Result ℕ Refusal} {count : ℕ} (e : answer_of told ≡ findings_answer double_density cells N T H 901) (is : told ≡ Count count) where
   accepted : findings_answer double_density cells N T H 901 ≡ gives count
-  accepted = sym e ∙ ap counted_answer is
+  accepted = sym e ∙ ap answer_of is
 
   few : count ≤ 901
   few = count-few cells N T H accepted
@@ -48,7 +48,7 @@ slice_bounds-put-end-in-Count c =
 pub returns-in-Refused : goal.returns-in-Refused
 returns-in-Refused c =
     let a = c.args in
-    let both = adds-nothing a.tracks.now _ a.at a.findings.now _ a.from a.cells.now a.n a.track a.side c.in-Refused.refusal (sym c.findings_as_numbers-found.ensures.answer ∙ ap counted_answer c.in-Refused.is) refl refl in
+    let both = adds-nothing a.tracks.now _ a.at a.findings.now _ a.from a.cells.now a.n a.track a.side c.in-Refused.refusal (sym c.findings_as_numbers-found.ensures.answer ∙ ap answer_of c.in-Refused.is) refl refl in
     record { answer = both.0; tracks = both.1.0; findings = both.1.1 }
 
 pub returns-in-Count : goal.returns-in-Count

@@ -27,8 +27,8 @@ slice_bounds-numbers-end c =
     let p = plan.ensures in
     numbers-enough (layout_of a.density) a.bytes.now a.n a.track a.side (length a.list.now / 4) plan.result.count plan.new.numbers p.counts.0 p.numbers
 
-pub slice_bounds-copy_numbers-end : goal.slice_bounds-copy_numbers-end
-slice_bounds-copy_numbers-end c =
+pub slice_bounds-copy-end : goal.slice_bounds-copy-end
+slice_bounds-copy-end c =
     let plan = c.plan-planned in
     let a = c.args in
     let p = plan.ensures in
@@ -41,7 +41,7 @@ returns c =
     let p = plan.ensures in
     let room = length a.list.now / 4 in
     let copied =
-    c.copy_numbers.ensures
+    c.copy.ensures
     ∙ front-copied plan.new.numbers a.list.now (4 * plan.result.count)
     (numbers-enough (layout_of a.density) a.bytes.now a.n a.track a.side room plan.result.count plan.new.numbers p.counts.0 p.numbers)
     (omega (arith, p.bounds.1))

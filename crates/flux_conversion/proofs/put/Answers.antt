@@ -5,4 +5,4 @@ use Rattle.flux_conversion.proofs.put.Goals as goal
 
 pub returns : goal.returns
 returns c =
-    record { place = refl; out = put-behind c.args.out.now c.args.at c.args.bytes.now c.requires c.copy_bytes.ensures }
+    record { place = refl; out = put-behind c.args.out.now c.args.at c.args.bytes.now c.requires c.copy.ensures }

@@ -16,4 +16,4 @@ pub header_numbers-made-requires : goal.header_numbers-made-requires
 header_numbers-made-requires c = (is-image _ _ c.not_an_image.ensures c.if-not_an_image.false).first_there
 
 pub returns : goal.returns
-returns c = let both = header-given _ _ c.args.numbers.now c.not_an_image.ensures c.if-not_an_image.false c.fault-place.ensures c.if-place-lt12.false c.header_numbers-made.ensures c.copy_numbers.ensures in record { answer = both.0; list = both.1 }
+returns c = let both = header-given _ _ c.args.numbers.now c.not_an_image.ensures c.if-not_an_image.false c.fault-place.ensures c.if-place-lt12.false c.header_numbers-made.ensures c.copy.ensures in record { answer = both.0; list = both.1 }

@@ -3,7 +3,7 @@ use mathlib.Core.Path.{◌≡◌, refl, sym, ap, ◌∙◌}
 use Prim.Native.Nat.{ℕ, ◌≤◌}
 use mathlib.Core.List.{List}
 use lib.ListN.{length}
-use Rattle.refusals.specs.RefusedCalls.{counted_answer, buffer_after}
+use Rattle.refusals.specs.RefusedCalls.{answer_of, buffer_after}
 use Rattle.layouts.specs.Layouts.{double_density}
 use Rattle.mfm.proofs.Calls.{answer-and-buffer}
 use Rattle.sector_records.specs.Sectors.{sectors_of, kept}
@@ -33,17 +33,17 @@ module _ (bytes : List ℕ) (n track side count : ℕ) (counted : gives count �
 pub put_image-requires : goal.put_image-requires
 put_image-requires c =
     let a = c.args in
-    of-track a.bytes.now a.n _ (are a.bytes.now a.n a.track a.side _ (sym (ap counted_answer c.in-Count.is) ∙ c.sectors_of-found.ensures.answer) _ c.sectors_of-found.ensures.sectors) (few a.bytes.now a.n a.track a.side _ (sym (ap counted_answer c.in-Count.is) ∙ c.sectors_of-found.ensures.answer) _ c.sectors_of-found.ensures.sectors)
+    of-track a.bytes.now a.n _ (are a.bytes.now a.n a.track a.side _ (sym (ap answer_of c.in-Count.is) ∙ c.sectors_of-found.ensures.answer) _ c.sectors_of-found.ensures.sectors) (few a.bytes.now a.n a.track a.side _ (sym (ap answer_of c.in-Count.is) ∙ c.sectors_of-found.ensures.answer) _ c.sectors_of-found.ensures.sectors)
 
 pub returns-in-Refused : goal.returns-in-Refused
 unfolding buffer_after
 returns-in-Refused c =
     let a = c.args in
-    let g = sym (ap counted_answer c.in-Refused.is) ∙ c.sectors_of-found.ensures.answer in
+    let g = sym (ap answer_of c.in-Refused.is) ∙ c.sectors_of-found.ensures.answer in
     both (answer-and-buffer _ _ (sym ((image-follows a.bytes.now a.n a.track a.side (length a.image.now)).refusals _ _ (sym g))) refl)
 
 pub returns-in-Count : goal.returns-in-Count
 returns-in-Count c =
     let a = c.args in
     let p = c.put_image in
-    both (image-given a.bytes.now a.n a.track a.side _ (sym (ap counted_answer c.in-Count.is) ∙ c.sectors_of-found.ensures.answer) c.sectors_of-found.result.sectors (sectors-kept (sectors_of double_density a.bytes.now a.n) _ (are a.bytes.now a.n a.track a.side _ (sym (ap counted_answer c.in-Count.is) ∙ c.sectors_of-found.ensures.answer) _ c.sectors_of-found.ensures.sectors) (few a.bytes.now a.n a.track a.side _ (sym (ap counted_answer c.in-Count.is) ∙ c.sectors_of-found.ensures.answer) _ c.sectors_of-found.ensures.sectors)) a.image.now _ _ p.ensures.answer p.ensures.image)
+    both (image-given a.bytes.now a.n a.track a.side _ (sym (ap answer_of c.in-Count.is) ∙ c.sectors_of-found.ensures.answer) c.sectors_of-found.result.sectors (sectors-kept (sectors_of double_density a.bytes.now a.n) _ (are a.bytes.now a.n a.track a.side _ (sym (ap answer_of c.in-Count.is) ∙ c.sectors_of-found.ensures.answer) _ c.sectors_of-found.ensures.sectors) (few a.bytes.now a.n a.track a.side _ (sym (ap answer_of c.in-Count.is) ∙ c.sectors_of-found.ensures.answer) _ c.sectors_of-found.ensures.sectors)) a.image.now _ _ p.ensures.answer p.ensures.image)

@@ -48,8 +48,8 @@ returns-then-cells-needed c =
     ∙ timings-accepted _ _ c.if-given-eq0.false c.if-given-gt-MOST_TIMINGS.false (all_in c.args.timings.now c.first_out-first.ensures c.if-first-given.false) in
     let both = answered-refused c.args.half_window c.args.timings.now c.args.cells.now _ (no-room-for-cells _ _ c.if-count-gt-MOST_CELLS.false c.if-cells-needed.true ∙ judged) in record { answer = both.0; buffer = both.1.0; border_pulses = both.1.1 }
 
-pub slice_bounds-copy_bytes-end : goal.slice_bounds-copy_bytes-end
-slice_bounds-copy_bytes-end c =
+pub slice_bounds-copy-end : goal.slice_bounds-copy-end
+slice_bounds-copy-end c =
     sym (length-take-le _ c.fill-counts.new.room (omega (arith, c.fill-counts.auto.room, length-replicate {A = ℕ} 16384 0, c.if-count-gt-MOST_CELLS.false)))
 
 pub returns : goal.returns
@@ -59,5 +59,5 @@ returns c =
     ∙ timings-accepted _ _ c.if-given-eq0.false c.if-given-gt-MOST_TIMINGS.false (all_in c.args.timings.now c.first_out-first.ensures c.if-first-given.false) in
     let e = c.fill-counts.ensures.cells in let both = answered-cells c.args.half_window c.args.timings.now c.args.cells.now _
     (cells-accepted _ _ c.if-count-gt-MOST_CELLS.false c.if-cells-needed.false ∙ judged)
-    (front-copied (cells_of_by c.args.half_window c.args.timings.now) _ _ c.args.cells.now _ (c.fill-counts.ensures.room (omega (arith, e, c.if-count-gt-MOST_CELLS.false))) (ap bytes_for e) (omega (arith, c.if-count-gt-MOST_CELLS.false)) c.if-cells-needed.false c.copy_bytes.ensures)
+    (front-copied (cells_of_by c.args.half_window c.args.timings.now) _ _ c.args.cells.now _ (c.fill-counts.ensures.room (omega (arith, e, c.if-count-gt-MOST_CELLS.false))) (ap bytes_for e) (omega (arith, c.if-count-gt-MOST_CELLS.false)) c.if-cells-needed.false c.copy.ensures)
     c.fill-counts.ensures.border_pulses in record { answer = both.0; buffer = both.1.0; border_pulses = both.1.1 }

@@ -6,4 +6,4 @@ use Rattle.st_track.proofs.write_number.Goals as goal
 
 pub returns : goal.returns
 unfolding number_line bytes_of
-returns c = rw (← c.last_digit.ensures) (record { answer = refl; out = c.copy_bytes.ensures })
+returns c = rw (← c.last_digit.ensures) (record { answer = refl; out = c.copy.ensures })

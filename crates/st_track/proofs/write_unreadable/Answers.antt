@@ -6,4 +6,4 @@ use Rattle.st_track.proofs.write_unreadable.Goals as goal
 
 pub returns : goal.returns
 unfolding unreadable_line bytes_of
-returns c = record { answer = refl; out = c.copy_bytes.ensures }
+returns c = record { answer = refl; out = c.copy.ensures }

@@ -12,4 +12,4 @@ returns c =
     let a = c.args in
     let s = c.sector_in-found.ensures in
     let m = c.sector_numbers-made.ensures in
-    let t = c.told.ensures in record { number = t.0 ∙ ap number_in s.answer; value = t.1 ∙ ap value_in s.answer; numbers = c.copy_numbers.ensures ∙ ap (λ (l : List ℕ). written_over (take (length a.numbers.now) l) a.numbers.now) (m ∙ ap sector_numbers s.sector) }
+    let t = c.told.ensures in record { number = t.0 ∙ ap number_in s.answer; value = t.1 ∙ ap value_in s.answer; numbers = c.copy.ensures ∙ ap (λ (l : List ℕ). written_over (take (length a.numbers.now) l) a.numbers.now) (m ∙ ap sector_numbers s.sector) }

@@ -12,14 +12,14 @@ overflow_add-needed c = omega (arith, c.requires.1 _ (ap read_answer c.in-Cells.
 pub returns-then-cells-needed : goal.returns-then-cells-needed
 returns-then-cells-needed c = let both = no_room _ _ _ c.in-Cells.is _ refl c.if-cells-needed.true in record { answer = both.0; cells = both.1 }
 
-pub slice_bounds-copy_bytes-end : goal.slice_bounds-copy_bytes-end
-slice_bounds-copy_bytes-end c =
+pub slice_bounds-copy-end : goal.slice_bounds-copy-end
+slice_bounds-copy-end c =
     let start = c in
     sym (length-take-le _ _ (omega (arith, c.requires.0, c.requires.1 _ (ap read_answer c.in-Cells.is))))
 
 pub returns-else-cells-needed : goal.returns-else-cells-needed
 returns-else-cells-needed c =
-    let start = c in let both = handed _ c.args.own.now c.args.cells.now c.in-Cells.is _ refl c.if-cells-needed.false c.copy_bytes.ensures in record { answer = both.0; cells = both.1 }
+    let start = c in let both = handed _ c.args.own.now c.args.cells.now c.in-Cells.is _ refl c.if-cells-needed.false c.copy.ensures in record { answer = both.0; cells = both.1 }
 
 pub returns-in-Refused : goal.returns-in-Refused
 returns-in-Refused c = let both = still-refused _ _ _ c.in-Refused.is in record { answer = both.0; cells = both.1 }

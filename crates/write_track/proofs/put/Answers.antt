@@ -5,4 +5,4 @@ use Rattle.write_track.proofs.put.Goals as goal
 
 pub returns : goal.returns
 returns c =
-    let start = c in record { place = refl; front = put-behind c.args.out.now c.args.at c.args.bytes.now c.requires c.copy_bytes.ensures }
+    let start = c in record { place = refl; front = put-behind c.args.out.now c.args.at c.args.bytes.now c.requires c.copy.ensures }

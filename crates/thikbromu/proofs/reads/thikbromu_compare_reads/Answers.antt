@@ -11,4 +11,4 @@ pub returns : goal.returns
 returns c =
     let copied = c in
     let compared = c in
-    let a = c.args in record { number = c.told.ensures.0 ∙ ap number_in c.compare_reads-compared.ensures.answer; value = c.told.ensures.1 ∙ ap value_in c.compare_reads-compared.ensures.answer; numbers = c.copy_numbers.ensures ∙ ap (λ (l : List ℕ). written_over (take (length a.numbers.now) l) a.numbers.now) c.compare_reads-compared.ensures.numbers }
+    let a = c.args in record { number = c.told.ensures.0 ∙ ap number_in c.compare_reads-compared.ensures.answer; value = c.told.ensures.1 ∙ ap value_in c.compare_reads-compared.ensures.answer; numbers = c.copy.ensures ∙ ap (λ (l : List ℕ). written_over (take (length a.numbers.now) l) a.numbers.now) c.compare_reads-compared.ensures.numbers }
