@@ -2,7 +2,11 @@
 #![tactic(auto)]
 
 ghost use Rattle.std.specs.Prelude.{◌≡◌, true, length};
-ghost use Rattle.flux_timings.specs.Timings.{in_range, first_out};
+ghost use Rattle.refusals.specs.RefusedCalls.{answer_of};
+ghost use Rattle.refusals.specs.RefusedCalls.Answer.{gives};
+ghost use Rattle.flux_timings.specs.Timings.{in_range, first_out, timings_judged};
+
+use refusals::Refusal;
 
 // The shortest and the longest timing, in nanoseconds, and the most timings of one call.
 pub const SHORTEST_TIMING: u32 = 1;
@@ -10,6 +14,24 @@ pub const SHORTEST_TIMING: u32 = 1;
 pub const LONGEST_TIMING: u32 = 10_000_000;
 
 pub const MOST_TIMINGS: usize = 65_536;
+
+// Judges a list of timings: it is refused where there are none, where there are too many, and where one is outside its range.
+pub fn judge(timings: &[u32]) -> Result<(), Refusal>
+    ensures { answer_of result ≡ timings_judged timings.now (gives tt) }
+{
+    let given = timings.len();
+    if given == 0 {
+        return Err(Refusal::NoTimings);
+    }
+    if MOST_TIMINGS < given {
+        return Err(Refusal::TooManyTimings(given));
+    }
+    let first = first_out(timings);
+    if first < given {
+        return Err(Refusal::TimingOutOfRange(first));
+    }
+    Ok(())
+}
 
 // The index of the first timing outside its range; their number where there is none.
 pub fn first_out(timings: &[u32]) -> usize
