@@ -1,10 +1,10 @@
--- `cells::find_in_range` meets its contract: at p the last k cells carried along are the word there, and no place before p has the word looked for.
+-- `Cells::find_in_range` meets its contract: at p the last k cells carried along are the word there, and no place before p has the word looked for.
 -- Assumes nothing.
 use Prim.Native.Nat.{ℕ, ◌+◌, ◌-◌, ◌%◌, ◌^◌, ◌≤◌, ◌<◌}
 use mathlib.Core.Path.{◌≡◌}
 use mathlib.Core.List.{List}
 use Rattle.cells.specs.CellsAndBytes.{cell, word, least_place}
-use Rattle.cells.proofs.find_in_range.Given as goal
+use Rattle.cells.proofs.Cells.find_in_range.Given as goal
 
 pub record Searched (bytes : List ℕ) (n x k from to cells at p : ℕ) : Type 0 where
   pub after : from ≤ p

@@ -1,4 +1,4 @@
--- `cells::find_in_range` meets its contract: at p the last k cells carried along are the word there, and no place before p has the word looked for.
+-- `Cells::find_in_range` meets its contract: at p the last k cells carried along are the word there, and no place before p has the word looked for.
 -- Assumes nothing.
 use Prim.Native.Nat.{◌+◌, ◌-◌}
 use mathlib.Core.Path.{◌≡◌, refl, sym, ap, ◌∙◌}
@@ -11,7 +11,7 @@ use Rattle.cells.proofs.Words.{carried-start, carried_on, mask_is}
 use Rattle.cells.proofs.Eight.{eight-carried, eight-place, eight-passed}
 use Rattle.cells.proofs.Standing.{word-is, stands_here, stands-not}
 use borrow.Author.Rules.{rules}
-use Rattle.cells.proofs.find_in_range.Goals as goal
+use Rattle.cells.proofs.Cells.find_in_range.Goals as goal
 
 pub loop-p-init : goal.loop-p-init
 loop-p-init c =

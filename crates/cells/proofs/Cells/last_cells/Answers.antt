@@ -1,4 +1,4 @@
--- `cells::cells_from` meets its contract: after i turns it has the last 64 of i cells. Assumes nothing.
+-- `Cells::last_cells` meets its contract: after i turns it has the last 64 of i cells. Assumes nothing.
 use Prim.Native.Nat.{◌+◌, ◌-◌}
 use mathlib.Core.Path.{◌≡◌, refl, sym, ap, ◌∙◌}
 use native.Mathlib.Nat.{mod-lt, add-zero}
@@ -7,7 +7,7 @@ use Rattle.cells.specs.CellsAndBytes.{cell_at, cell, word}
 use Rattle.cells.proofs.Places.{cell_at-lt, cell-lt, cell-is, next-is}
 use Rattle.cells.proofs.Words.{more-cells}
 use borrow.Author.Rules.{rules}
-use Rattle.cells.proofs.cells_from.Goals as goal
+use Rattle.cells.proofs.Cells.last_cells.Goals as goal
 
 pub loop-i-init : goal.loop-i-init
 unfolding word

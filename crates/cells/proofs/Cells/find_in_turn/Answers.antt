@@ -1,4 +1,4 @@
--- `cells::find_in_turn` meets its contract: a turn without the word shows that it stands nowhere. Assumes nothing.
+-- `Cells::find_in_turn` meets its contract: a turn without the word shows that it stands nowhere. Assumes nothing.
 use Prim.Native.Nat.{ℕ, ◌+◌, ◌-◌}
 use mathlib.Core.Path.{◌≡◌, sym, ap, ◌∙◌}
 use native.Mathlib.Omega.{arith}
@@ -6,7 +6,7 @@ use Rattle.basis.specs.Search.{least}
 use Rattle.basis.proofs.Search.{least-longer, least-turn}
 use Rattle.cells.specs.CellsAndBytes.{stands}
 use Rattle.cells.proofs.Standing.{stands-again}
-use Rattle.cells.proofs.find_in_turn.Goals as goal
+use Rattle.cells.proofs.Cells.find_in_turn.Goals as goal
 
 turn_is : (from n : ℕ) → from + n - from ≡ n
 turn_is from n = omega arith

@@ -1,10 +1,10 @@
--- `cells::find_word` meets its contract. Assumes nothing.
+-- `Cells::find_word` meets its contract. Assumes nothing.
 use Prim.Native.Nat.{ℕ}
 use mathlib.Core.Path.{sym, ap, ◌∙◌}
 use Rattle.basis.proofs.Search.{least-end}
 use Rattle.cells.specs.CellsAndBytes.{least_place}
 use Rattle.cells.proofs.Standing.{word-without-cells, word-of-no-cells, least-capped, least-among-zeros}
-use Rattle.cells.proofs.find_word.Goals as goal
+use Rattle.cells.proofs.Cells.find_word.Goals as goal
 
 pub returns-then-to-from : goal.returns-then-to-from
 returns-then-to-from c = sym (least-end _ _ _ c.if-to-from.true)

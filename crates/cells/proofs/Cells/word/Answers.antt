@@ -1,4 +1,4 @@
--- `cells::word_at` meets its contract. Assumes nothing.
+-- `Cells::word` meets its contract. Assumes nothing.
 use Prim.Native.Nat.{ℕ, ◌%◌, ◌^◌, min}
 use mathlib.Core.Path.{sym, ap, ◌∙◌}
 use native.Mathlib.Nat.{min-le_right}
@@ -6,7 +6,7 @@ use Rattle.cells.specs.CellsAndBytes.{cell, word, word_at}
 use Rattle.cells.proofs.Places.{cell-lt}
 use Rattle.cells.proofs.Words.{small}
 use Rattle.cells.proofs.Standing.{word-without-cells}
-use Rattle.cells.proofs.word_at.Goals as goal
+use Rattle.cells.proofs.Cells.word.Goals as goal
 
 pub returns-then-n-eq0 : goal.returns-then-n-eq0
 returns-then-n-eq0 c =

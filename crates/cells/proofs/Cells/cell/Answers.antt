@@ -1,9 +1,9 @@
--- `cells::cell_on` meets its contract. Assumes nothing.
+-- `Cells::cell` meets its contract. Assumes nothing.
 use Prim.Native.Nat.{◌<◌}
 use mathlib.Core.Path.{sym, ◌∙◌}
 use native.Mathlib.Omega.{arith}
 use Rattle.cells.proofs.Places.{cell-none, cell-low, cell-is}
-use Rattle.cells.proofs.cell_on.Goals as goal
+use Rattle.cells.proofs.Cells.cell.Goals as goal
 
 pub returns-then-n-eq0 : goal.returns-then-n-eq0
 returns-then-n-eq0 c = rw c.if-n-eq0.true (sym (cell-none _ _))

@@ -1,10 +1,10 @@
--- `cells::skips_eight` meets its contract. Assumes nothing.
+-- `Cells::skips_eight` meets its contract. Assumes nothing.
 use Prim.Native.Nat.{ℕ, ◌+◌, ◌-◌, ◌*◌, ◌/◌, ◌%◌, ◌^◌}
 use mathlib.Core.Path.{◌≡◌, ap, ◌∙◌}
 use mathlib.Core.Bool.{true, false}
 use native.Mathlib.Omega.{arith}
 use borrow.Author.Tests.{not-true}
-use Rattle.cells.proofs.skips_eight.Goals as goal
+use Rattle.cells.proofs.Cells.skips_eight.Goals as goal
 
 fails-not : false ≡ true → ⊥
 fails-not e = let z : ◌≡◌ {A = ℕ} 0 1 = cc in omega arith
