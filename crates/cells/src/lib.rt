@@ -142,6 +142,7 @@ impl<'a> Cells<'a> {
 }
 
 // Sets the first k bytes, or all where there are fewer, to 0.
+#[tactic(auto, unfolding(crate::specs::CellsAndBytes::cleared))]
 pub fn clear(bytes: &mut [u8], k: usize)
     ensures { bytes.new ≡ cleared k bytes.old }
 {
@@ -165,7 +166,7 @@ fn stands_in(cells: u64, k: usize, x: u64) -> bool
     ensures { result ≡ false → (j : ℕ) → j < 8 → cells / 2 ^ (8 - j) % 2 ^ k ≡ x → ⊥ }
 {
     let mask = 0xFFFF_FFFF_FFFF_FFFF >> (64 - k);
-    for j in 0..8 {
+    for j in 0..8usize {
         if (cells >> (8 - j)) & mask == x {
             return true;
         }

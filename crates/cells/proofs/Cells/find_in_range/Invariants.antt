@@ -15,7 +15,7 @@ pub record Searched (bytes : List ℕ) (n x k from to cells at p : ℕ) : Type 0
   pub same : least_place bytes n k x p to ≡ least_place bytes n k x from to
 
 abbrev pub invariant-loop-p : goal.invariant-loop-p
-invariant-loop-p l = Searched l.bytes l.n l.x l.k l.from l.to l.cells l.at l.p
+invariant-loop-p l = Searched l.self.bytes.now l.self.count l.x l.k l.from l.to l.cells l.at l.p
 
 abbrev pub decreases-loop-p : goal.decreases-loop-p
 decreases-loop-p l = l.to - l.p

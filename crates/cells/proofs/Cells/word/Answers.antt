@@ -8,14 +8,14 @@ use Rattle.cells.proofs.Words.{small}
 use Rattle.cells.proofs.Standing.{word-without-cells}
 use Rattle.cells.proofs.Cells.word.Goals as goal
 
-pub returns-then-n-eq0 : goal.returns-then-n-eq0
-returns-then-n-eq0 c =
+pub returns-then-self-eq0 : goal.returns-then-self-eq0
+returns-then-self-eq0 c =
     let a = c.args in
-    sym (word-without-cells a.bytes.now a.n a.k 0 a.p c.if-n-eq0.true)
+    sym (word-without-cells a.self.bytes.now a.self.count a.k 0 a.p c.if-self-eq0.true)
 
 pub returns : goal.returns
 unfolding word_at
 returns c =
     let a = c.args in
-    c.cells_from.ensures ∙ ap (λ (k : ℕ). word (cell a.bytes.now a.n) k a.p % 2 ^ 64) c.smaller.ensures.0
-    ∙ small (cell a.bytes.now a.n) (cell-lt a.bytes.now a.n) (min a.k 64) (min-le_right a.k 64) a.p
+    c.last_cells.ensures ∙ ap (λ (k : ℕ). word (cell a.self.bytes.now a.self.count) k a.p % 2 ^ 64) c.min.ensures
+    ∙ small (cell a.self.bytes.now a.self.count) (cell-lt a.self.bytes.now a.self.count) (min a.k 64) (min-le_right a.k 64) a.p
