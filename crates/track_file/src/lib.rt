@@ -109,7 +109,10 @@ fn feed_packed<'a>(reader: Reader, portion: &'a [u8], cells: &mut [u8]) -> Fed<'
     ensures buffer { cells_after result.reader result.rest.now cells.new ≡ cells_after reader portion.now cells.old }
 {
     let Reader::PackedCells(place, count, first) = reader else {
-        return Fed { reader, rest: portion };
+        return Fed {
+            reader,
+            rest: portion,
+        };
     };
     let last = ((count as usize) + 7) / 8;
     let left = last.saturating_sub(first as usize + 1);
