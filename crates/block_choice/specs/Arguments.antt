@@ -1,9 +1,20 @@
 -- Section 13 of the specification, rules 13.9 and 13.10: the arguments of scp_track: four numbers from 0 to 255, in decimal digits. The
 -- main property: `choice_of`, the choice that the words make, or none. Assumes nothing.
-use Rattle.std.specs.Prelude.{ℕ, ◌+◌, ◌-◌, ◌*◌, Bool, true, false, cond, ◌&&◌, List, [], ◌∷◌, eqb, leb, ltb}
-use Rattle.block_choice.specs.declared.Argument.{Argument}
-use Rattle.block_choice.specs.declared.Argument.TheVariants.{Byte, Other}
-use Rattle.block_choice.specs.declared.Choice.{Choice}
+use Rattle.std.specs.Prelude.{ℕ, ◌+◌, ◌-◌, ◌*◌, Bool, true, false, cond, ◌&&◌, List, [], ◌∷◌, Option, Some, None, eqb, leb, ltb}
+use Rattle.block_choice.specs.declared.Choice.{Choice as Chosen}
+
+-- 13.9: one argument: a number from 0 to 255, or anything else
+pub data Argument : Type 0 where
+  Byte : ℕ → Argument
+  Other : Argument
+
+-- 13.9, 13.10: what is to be listed of a block, where the arguments are right
+pub record Choice : Type 0 where
+  pub right : Bool
+  pub revolutions : ℕ
+  pub revolution : ℕ
+  pub track : ℕ
+  pub side : ℕ
 
 -- 13.9: the digits 0 to 9 are the bytes 48 to 57
 abbrev pub is_digit : ℕ → Bool
@@ -40,3 +51,13 @@ chosen Other revolution track side = no_choice
 unfoldable pub choice_of : ℕ → (first second third fourth : List ℕ) → Choice
 choice_of words first second third fourth =
     cond (eqb words 5) (chosen (argument_of first) (argument_of second) (argument_of third) (argument_of fourth)) no_choice
+
+-- an argument and a choice of the code, as the rules have them
+abbrev pub argument_seen : Option ℕ → Argument
+argument_seen (Some byte) = Byte byte
+argument_seen None = Other
+
+abbrev pub choice_seen : Option Chosen → Choice
+choice_seen (Some choice) =
+    record { right = true; revolutions = choice.revolutions; revolution = choice.revolution; track = choice.track; side = choice.side }
+choice_seen None = no_choice

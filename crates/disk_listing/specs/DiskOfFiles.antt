@@ -11,11 +11,33 @@ use Rattle.track_input.specs.Reading.{OneRead, portions_of, AllReads}
 use Rattle.track_input.specs.declared.Input.{Input}
 use Rattle.track_input.specs.declared.Input.TheVariants.{Open, Ended, Failed}
 use Rattle.disk_page.specs.Page.{page_answer}
-use Rattle.disk_listing.specs.declared.Printed.{Printed}
-use Rattle.disk_listing.specs.declared.Printed.TheVariants.{Whole, NotTaken}
-use Rattle.disk_listing.specs.declared.Printed.TheVariants.{Refused as PageRefused}
-use Rattle.disk_listing.specs.declared.File.{File}
-use Rattle.disk_listing.specs.declared.File.TheVariants.{Track, Refused, Unreadable}
+use Rattle.refusals.specs.RefusedCalls.{number_of}
+use Rattle.disk_listing.specs.declared.Printed.{Printed as PrintedHere}
+use Rattle.disk_listing.specs.declared.Printed.TheVariants.{Whole as WholeHere, Refused as PageRefusedHere, NotTaken as NotTakenHere}
+use Rattle.disk_listing.specs.declared.File.{File as FileHere}
+use Rattle.disk_listing.specs.declared.File.TheVariants.{Track as TrackHere, Refused as RefusedHere, Unreadable as UnreadableHere}
+
+-- what is told of a file, and of the page, with a refusal as its number
+pub data File : Type 0 where
+  Track : ℕ → File
+  Refused : ℕ → File
+  Unreadable : File
+
+pub data Printed : Type 0 where
+  Whole : ℕ → Printed
+  PageRefused : ℕ → Printed
+  NotTaken : Printed
+
+-- a file and a page of the code, as the rules have them
+abbrev pub file_seen : FileHere → File
+file_seen (TrackHere count) = Track count
+file_seen (RefusedHere refusal) = Refused (number_of refusal)
+file_seen UnreadableHere = Unreadable
+
+abbrev pub printed_seen : PrintedHere → Printed
+printed_seen (WholeHere total) = Whole total
+printed_seen (PageRefusedHere refusal) = PageRefused (number_of refusal)
+printed_seen NotTakenHere = NotTaken
 
 -- what a file brings: a track or its refusal, or nothing where it cannot be read
 pub data Outcome : Type 0 where

@@ -1,9 +1,8 @@
 -- What the contracts of the functions need that gather the tracks. Assumes nothing.
 use Rattle.std.specs.Prelude.{ℕ, ◌+◌, ◌*◌, ◌≤◌, List, take}
 use Rattle.disk_listing.specs.declared.Disk.{Disk}
-use Rattle.disk_listing.specs.declared.File.{File}
-use Rattle.disk_listing.specs.declared.File.TheVariants.{Track, Refused, Unreadable}
-use Rattle.disk_listing.specs.DiskOfFiles.{Files}
+use Rattle.disk_listing.specs.DiskOfFiles.{File, Files}
+use Rattle.disk_listing.specs.DiskOfFiles.File.{Track, Refused, Unreadable}
 
 -- the counts after a file
 unfoldable pub with_file : Disk → File → Disk

@@ -8,11 +8,11 @@
 #![tactic(auto)]
 
 ghost use Rattle.std.specs.Prelude.{◌≡◌, ◌+◌, ◌<◌, ◌≤◌, length, take};
-ghost use Rattle.disk_listing.specs.DiskOfFiles.{TakenFile, AllFiles, FilesTaken, PagePrinted};
+ghost use Rattle.disk_listing.specs.DiskOfFiles.{file_seen, printed_seen, TakenFile, AllFiles, FilesTaken, PagePrinted};
 ghost use Rattle.disk_listing.specs.PrivateContracts.{with_file, Small, Gathered};
 
 use refusals::Refusal;
-use std::env::{Env, FillError};
+use std::env::Env;
 use std::fs::Files;
 use std::io::Read;
 use std::{fs, io, str};
@@ -30,7 +30,7 @@ const PART_ROOM: usize = 72_080;
 #[derive(Clone, Copy)]
 enum File {
     Track(usize),
-    Refused(u32),
+    Refused(Refusal),
     Unreadable,
 }
 
@@ -47,7 +47,7 @@ struct Disk {
 #[derive(Clone, Copy)]
 enum Printed {
     Whole(usize),
-    Refused(u32),
+    Refused(Refusal),
     NotTaken,
 }
 
@@ -71,7 +71,7 @@ fn take_file<F: Files>(
     from: usize,
 ) -> File
     requires { length cells.old ≡ 16384 }
-    ensures { TakenFile result tracks.old tracks.new at findings.old findings.new from }
+    ensures { TakenFile (file_seen result) tracks.old tracks.new at findings.old findings.new from }
 {
     match open(files, name) {
         Ok(mut input) => take_input(&mut input, portion, cells, tracks, at, findings, from),
@@ -90,27 +90,25 @@ fn take_input<R: Read>(
     from: usize,
 ) -> File
     requires { length cells.old ≡ 16384 }
-    ensures { TakenFile result tracks.old tracks.new at findings.old findings.new from }
+    ensures { TakenFile (file_seen result) tracks.old tracks.new at findings.old findings.new from }
 {
     let start = track_file::start(cells);
     let input = track_input::read_all(input, start, portion, cells);
     match input {
         Input::Ended(reader) => {
-            let answer = disk_files::add_file(reader, cells, tracks, at, findings, from);
-            match answer {
+            match disk_files::add_file(reader, cells, tracks, at, findings, from) {
                 Ok(count) => File::Track(count),
-                Err(refusal) => File::Refused(refusal.number()),
+                Err(refusal) => File::Refused(refusal),
             }
         }
-        Input::Open(_) => File::Unreadable,
-        Input::Failed => File::Unreadable,
+        Input::Open(_) | Input::Failed => File::Unreadable,
     }
 }
 
 // The counts after a file.
 fn with_file(disk: Disk, file: File) -> Disk
-    requires { Small disk file }
-    ensures { result ≡ with_file disk file }
+    requires { Small disk (file_seen file) }
+    ensures { result ≡ with_file disk (file_seen file) }
 {
     match file {
         File::Track(count) => Disk {
@@ -138,10 +136,10 @@ fn with_file(disk: Disk, file: File) -> Disk
 fn tell_file<P: Print>(to: &P, name: &[u8], file: File) {
     match file {
         File::Track(_) => {}
-        File::Refused(number) => {
+        File::Refused(refusal) => {
             let _ = to.write_all(name);
             let _ = to.write_all(b": ");
-            tell_refusal(to, number);
+            tell_refusal(to, refusal);
         }
         File::Unreadable => {
             let _ = to.write_all(name);
@@ -150,20 +148,10 @@ fn tell_file<P: Print>(to: &P, name: &[u8], file: File) {
     }
 }
 
-fn tell_refusal<P: Print>(to: &P, number: u32) {
+fn tell_refusal<P: Print>(to: &P, refusal: Refusal) {
     let _ = to.write_all(b"refused ");
-    let _ = to.print(number);
+    let _ = to.print(refusal.number());
     let _ = to.write_all(b"\n");
-}
-
-// The length of the command line in words, of which the first is the program's name. A word for which there is no room is too long, or empty.
-fn word_count<E: Env>(env: &E) -> usize {
-    for i in 0..usize::MAX {
-        if let Err(FillError::NotPresent) = env.arg(i, &mut []) {
-            return i;
-        }
-    }
-    usize::MAX
 }
 
 // The next file, which is the program's argument i.
@@ -213,7 +201,7 @@ fn gather<S: Env + Files, P: Print>(
     gather_words(
         system,
         messages,
-        word_count(system),
+        system_calls::word_count(system),
         name,
         portion,
         cells,
@@ -259,14 +247,14 @@ fn gather_words<S: Env + Files, P: Print>(
 // Prints the page part by part, since there is no room for all of it. The first part is refused where the page is.
 fn print_page<P: Print>(to: &P, tracks: &[u32], findings: &[u32], out: &mut [u8]) -> Printed
     requires { length out.old ≡ 72080 }
-    ensures { PagePrinted tracks.now findings.now result }
+    ensures { PagePrinted tracks.now findings.now (printed_seen result) }
 {
     let mut total: usize = 0;
     let mut part: usize = 0;
     while part < 169 {
         let answer = disk_page::page_part(tracks, findings, part, out);
         match answer {
-            Err(refusal) => return Printed::Refused(refusal.number()),
+            Err(refusal) => return Printed::Refused(refusal),
             Ok(length) => {
                 if out.len() < length {
                     return Printed::NotTaken;
@@ -285,7 +273,7 @@ fn print_page<P: Print>(to: &P, tracks: &[u32], findings: &[u32], out: &mut [u8]
 // The last line on standard error, where there is something to tell.
 fn tell_disk<P: Print>(to: &P, disk: Disk, printed: Printed) {
     match printed {
-        Printed::Refused(number) => tell_refusal(to, number),
+        Printed::Refused(refusal) => tell_refusal(to, refusal),
         Printed::NotTaken => {
             let _ = to.write_all(b"disk_listing: standard output did not take the page\n");
         }
@@ -345,7 +333,7 @@ fn list_disk(rt: HostRuntime, findings: &mut [u32; FINDING_NUMBERS], out: &mut [
 }
 
 fn main(rt: HostRuntime) {
-    if word_count(&rt) < 2 {
+    if system_calls::word_count(&rt) < 2 {
         let _ = rt.stderr().write_all(b"usage: disk_listing FILE..\n");
         return;
     }

@@ -20,15 +20,11 @@ fn convert_input<R: Read>(from: &mut R, cells: &mut [u8], buffer: &mut [u8]) -> 
     let start = flux_file::start(cells);
     let input = flux_input::read_all(from, start, buffer, cells);
     match input {
-        Input::Ended(reader) => {
-            let answer = flux_conversion::convert(reader, cells, buffer);
-            match answer {
-                Ok(count) => count,
-                Err(refusal) => lines::refused_line(buffer, refusal.number()),
-            }
-        }
-        Input::Open(_) => 0,
-        Input::Failed => 0,
+        Input::Ended(reader) => match flux_conversion::convert(reader, cells, buffer) {
+            Ok(count) => count,
+            Err(refusal) => lines::refused_line(buffer, refusal.number()),
+        },
+        Input::Open(_) | Input::Failed => 0,
     }
 }
 

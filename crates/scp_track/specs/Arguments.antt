@@ -2,8 +2,7 @@
 -- words a process was started with: that those here are its own, the first in the first room and so on, is seen in the code of
 -- `read_choice` and `main`. Assumes nothing.
 use Rattle.std.specs.Prelude.{ℕ, ◌≡◌, List, take}
-use Rattle.block_choice.specs.Arguments.{choice_of}
-use Rattle.block_choice.specs.declared.Choice.{Choice}
+use Rattle.block_choice.specs.Arguments.{Choice, choice_of}
 
 -- 13.9, 13.10: there are a number of words and the lengths of four, which stand at the front of these rooms, and the choice is theirs
 pub record ChoiceRead (choice : Choice) (first second third fourth : List ℕ) : Type 0 where

@@ -9,12 +9,13 @@
 #![tactic(auto)]
 
 ghost use Rattle.std.specs.Prelude.{◌≡◌, [], ◌≤◌, length};
+ghost use Rattle.block_choice.specs.Arguments.{choice_seen};
 ghost use Rattle.lines.specs.Lines.{out_after};
 ghost use Rattle.scp_track.specs.Arguments.{ChoiceRead};
 ghost use Rattle.scp_track.specs.InputListing.{input_listing, ListedBlock};
 
 use block_choice::Choice;
-use std::env::{Env, FillError};
+use std::env::Env;
 use std::io::Read;
 
 // Room for a usual block: up to five revolutions, each with some 50,000 values. The longest, as 31 revolutions with 65,536 values each, gets a
@@ -25,16 +26,6 @@ const USUAL_ROOM: usize = 524_288;
 
 const LONGEST_ROOM: usize = 4_194_304;
 
-// The length of the command line in words, of which the first is the program's name. A word for which there is no room is too long, or empty.
-fn word_count<E: Env>(env: &E) -> usize {
-    for i in 0..usize::MAX {
-        if let Err(FillError::NotPresent) = env.arg(i, &mut []) {
-            return i;
-        }
-    }
-    usize::MAX
-}
-
 // The program's arguments, each by way of a room of its own.
 fn read_choice<E: Env>(
     env: &E,
@@ -42,15 +33,15 @@ fn read_choice<E: Env>(
     second: &mut [u8],
     third: &mut [u8],
     fourth: &mut [u8],
-) -> Choice
-    ensures { ChoiceRead result first.new second.new third.new fourth.new }
+) -> Option<Choice>
+    ensures { ChoiceRead (choice_seen result) first.new second.new third.new fourth.new }
 {
     let a = system_calls::word(env, 1, first);
     let b = system_calls::word(env, 2, second);
     let c = system_calls::word(env, 3, third);
     let d = system_calls::word(env, 4, fourth);
     block_choice::choice_of(
-        word_count(env),
+        system_calls::word_count(env),
         &first[..a],
         &second[..b],
         &third[..c],
@@ -176,13 +167,12 @@ fn main(rt: HostRuntime) {
     let mut second = system_calls::buffer();
     let mut third = system_calls::buffer();
     let mut fourth = system_calls::buffer();
-    let choice = read_choice(&rt, &mut first, &mut second, &mut third, &mut fourth);
-    if !choice.right {
+    let Some(choice) = read_choice(&rt, &mut first, &mut second, &mut third, &mut fourth) else {
         let _ = rt.stderr().write_all(
             b"usage: scp_track REVOLUTIONS REVOLUTION TRACK SIDE < BLOCK\n",
         );
         return;
-    }
+    };
     let mut out = system_calls::large_buffer();
     let count = list_input(&mut rt.stdin(), choice, &mut out);
     if count == 0 {

@@ -9,11 +9,22 @@ use Rattle.track_input.specs.Reading.{OneRead, portions_of, AllReads}
 use Rattle.track_input.specs.declared.Input.{Input}
 use Rattle.track_input.specs.declared.Input.TheVariants.{Open, Ended, Failed}
 use Rattle.file_image.specs.ImageOfFile.{file_image_answer, file_image}
+use Rattle.st_track.specs.declared.Written.{Written}
+use Rattle.st_track.specs.declared.Written.TheVariants.{Output, Message}
 
 -- the bytes for standard output, and those for standard error
 pub record Outputs : Type 0 where
   pub output : List ℕ
   pub message : List ℕ
+
+-- how many bytes at the front of a buffer are for standard output, and how many for standard error
+abbrev pub output_count : Written → ℕ
+output_count (Output count) = count
+output_count (Message count) = 0
+
+abbrev pub message_count : Written → ℕ
+message_count (Output count) = 0
+message_count (Message count) = count
 
 -- 13.33: the line of refusal 24, as `refused 24 number 5`. The number is one of 0 to 9, so it has one digit
 unfoldable pub number_line : ℕ → List ℕ

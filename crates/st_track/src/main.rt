@@ -6,50 +6,34 @@
 ghost use Rattle.std.specs.Prelude.{◌≡◌, ◌≤◌, length};
 ghost use Rattle.lines.specs.Lines.{digit, out_after};
 ghost use Rattle.refusals.specs.RefusedCalls.{number_of, value_of};
-ghost use Rattle.st_track.specs.ImageOfInput.{number_line, refusal_line, unreadable_line, ImagedInput};
+ghost use Rattle.st_track.specs.ImageOfInput.{output_count, message_count, number_line, refusal_line, unreadable_line, ImagedInput};
 
 use refusals::Refusal;
 use std::io::Read;
 use track_input::Input;
 
-// How many bytes at the front of a buffer are for standard output, and how many for standard error. One of the two numbers is 0.
-#[derive(Clone, Copy)]
-struct Written {
-    output: usize,
-    message: usize,
+// Where the bytes at the front of a buffer go, and how many they are: an image to standard output, or a line to standard error.
+#[derive(Clone, Copy, Debug)]
+enum Written {
+    Output(usize),
+    Message(usize),
 }
 
 // Reads the input, by way of `buffer`, and then puts its image, or the line that says why there is none, at the front of `buffer`.
 fn image_input<R: Read>(from: &mut R, cells: &mut [u8], buffer: &mut [u8]) -> Written
     requires { (length cells.old ≡ 16384) × (length buffer.old ≡ 65536) }
-    ensures few_output { result.output ≤ 65536 }
-    ensures few_message { result.message ≤ 65536 }
-    ensures image { ImagedInput result.output result.message buffer.new }
+    ensures few_output { output_count result ≤ 65536 }
+    ensures few_message { message_count result ≤ 65536 }
+    ensures image { ImagedInput (output_count result) (message_count result) buffer.new }
 {
     let start = track_file::start(cells);
     let input = track_input::read_all(from, start, buffer, cells);
     match input {
-        Input::Ended(reader) => {
-            let answer = file_image::image_file(reader, cells, buffer);
-            match answer {
-                Ok(count) => Written {
-                    output: count,
-                    message: 0,
-                },
-                Err(refusal) => Written {
-                    output: 0,
-                    message: write_refusal(refusal, buffer),
-                },
-            }
-        }
-        Input::Open(_) => Written {
-            output: 0,
-            message: write_unreadable(buffer),
+        Input::Ended(reader) => match file_image::image_file(reader, cells, buffer) {
+            Ok(count) => Written::Output(count),
+            Err(refusal) => Written::Message(write_refusal(refusal, buffer)),
         },
-        Input::Failed => Written {
-            output: 0,
-            message: write_unreadable(buffer),
-        },
+        Input::Open(_) | Input::Failed => Written::Message(write_unreadable(buffer)),
     }
 }
 
@@ -59,11 +43,10 @@ fn write_refusal(refusal: Refusal, out: &mut [u8]) -> usize
     ensures few { result ≤ 20 }
     ensures out { out.new ≡ out_after (refusal_line (number_of refusal) (value_of refusal)) out.old }
 {
-    let number = refusal.number();
-    if number == 24 {
-        return write_number(refusal.value(), out);
+    match refusal {
+        Refusal::NoPlainImage(number) => write_number(number, out),
+        _ => lines::refused_line(out, refusal.number()),
     }
-    lines::refused_line(out, number)
 }
 
 // Writes the line of refusal 24, with the number that stands in the way.
@@ -97,6 +80,8 @@ fn main(rt: HostRuntime) {
     let mut cells = [0u8; track_file::ROOM];
     let mut buffer = system_calls::large_buffer();
     let written = image_input(&mut rt.stdin(), &mut cells, &mut buffer);
-    let _ = rt.stdout().write_all(&buffer[..written.output]);
-    let _ = rt.stderr().write_all(&buffer[..written.message]);
+    let _ = match written {
+        Written::Output(count) => rt.stdout().write_all(&buffer[..count]),
+        Written::Message(count) => rt.stderr().write_all(&buffer[..count]),
+    };
 }

@@ -18,7 +18,7 @@ pub struct Input {
 pub fn read_on<R: Read>(input: &mut R, room: &mut [u8], from: usize) -> Input
     ensures { ReadOn (take from room.old) room.new result.count result.ended }
 {
-    let mut count = basis::smaller(from, room.len());
+    let mut count = from.min(room.len());
     while count < room.len() {
         let more = read_once(input, &mut room[count..]);
         if more.count == 0 {

@@ -7,7 +7,7 @@
 ghost use Rattle.std.specs.Prelude.{◌≡◌, ◌≤◌, length, replicate};
 ghost use Rattle.system_calls.specs.Counts.{ReadAnswers, count_in};
 
-use std::env::Env;
+use std::env::{Env, FillError};
 use std::io::Read;
 
 // 4,096 zeros: room for a file's name or a word of the command line.
@@ -42,7 +42,7 @@ pub fn count(got: isize, room: &[u8]) -> usize
     ensures value { result ≡ count_in got (length room.now) }
 {
     if got > 0 {
-        basis::smaller(got as usize, room.len())
+        (got as usize).min(room.len())
     } else {
         0
     }
@@ -54,7 +54,18 @@ pub fn word<E: Env>(env: &E, i: usize, room: &mut [u8]) -> usize
     ensures { result ≤ length room.new }
 {
     match env.arg(i, room) {
-        Ok(count) => basis::smaller(count, room.len()),
+        Ok(count) => count.min(room.len()),
         Err(_) => 0,
     }
+}
+
+// The length of the command line in words, of which the first is the program's name. A word for which there is no room is too long, or empty.
+// Nothing is promised of the number: what words there are is not known to a contract.
+pub fn word_count<E: Env>(env: &E) -> usize {
+    for i in 0..usize::MAX {
+        if let Err(FillError::NotPresent) = env.arg(i, &mut []) {
+            return i;
+        }
+    }
+    usize::MAX
 }

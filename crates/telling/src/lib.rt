@@ -4,24 +4,24 @@
 
 ghost use Rattle.std.specs.Prelude.{◌≡◌, cond};
 ghost use Rattle.reader_as_number.specs.Numbers.{number_kept};
-ghost use Rattle.refusals.specs.RefusedCalls.{answer_of};
+ghost use Rattle.refusals.specs.RefusedCalls.{answer_of, answer_by};
 ghost use Rattle.sectors.specs.Calls.{read_out_answer};
-ghost use Rattle.separator.specs.Rule.{taken_answer};
 ghost use Rattle.track_file.specs.Portions.{read_answer};
 ghost use Rattle.two_reads.specs.GoodRead.{good_part_answer};
-ghost use Rattle.telling.specs.Numbers.{number_in, value_in, offset_stored, sector_numbers, value_read, check_read, value_given, place_given, part_length, which_read};
+ghost use Rattle.telling.specs.Numbers.{number_in, value_in, cells_in, offset_beside, offset_stored, sector_numbers, value_read, check_read, value_given, place_given, part_length, which_read};
 
 use refusals::Refusal;
-use revolution_portions::{RevolutionReader, TakenPortion};
+use revolution_portions::RevolutionReader;
 use sector_records::Sector;
 use sectors::ReadOut;
-use separator::{Given, Taken};
-use track_file::Read;
+use separator::Step;
+use track_file::FileCells;
 use two_reads::GoodPart;
 
 // Tells a count: every routine that counts something does it by this function.
 pub fn told(counted: Result<usize, Refusal>, value: &mut usize) -> u32
-    ensures { (result ≡ number_in (answer_of counted)) × (value.new ≡ value_in (answer_of counted)) }
+    ensures number { result ≡ number_in (answer_of counted) }
+    ensures value { value.new ≡ value_in (answer_of counted) }
 {
     match counted {
         Ok(count) => {
@@ -36,95 +36,86 @@ pub fn told(counted: Result<usize, Refusal>, value: &mut usize) -> u32
 }
 
 // Tells the cells of a step, and stores its offset; beside a refusal that is kept.
-pub fn told_step(given: Given, offset: &mut i32, value: &mut usize) -> u32
-    ensures { (result ≡ number_in (taken_answer given.taken)) × (value.new ≡ value_in (taken_answer given.taken)) × (offset.new ≡ offset_stored (taken_answer given.taken) given.offset offset.old) }
+pub fn told_step(step: Result<Step, Refusal>, offset: &mut i32, value: &mut usize) -> u32
+    ensures number { result ≡ number_in (answer_by cells_in step) }
+    ensures value { value.new ≡ value_in (answer_by cells_in step) }
+    ensures offset { offset.new ≡ offset_stored (answer_by cells_in step) (offset_beside step) offset.old }
 {
-    let taken = given.taken;
-    let e = given.offset;
-    match taken {
-        Taken::Cells(count) => {
-            *value = count as usize;
-            *offset = e;
-            0
+    match step {
+        Ok(step) => {
+            *offset = step.offset;
+            told(Ok(step.cells as usize), value)
         }
-        Taken::Refused(refusal) => {
-            *value = refusal.value();
-            refusal.number()
-        }
+        Err(refusal) => told(Err(refusal), value),
     }
 }
 
 // Tells the bytes of a sector that is read out, and stores whether their check is good; beside a refusal that is kept.
-pub fn told_read(read: ReadOut, good: &mut u32, value: &mut usize) -> u32
-    ensures { (result ≡ number_in (read_out_answer read)) × (value.new ≡ value_read (read_out_answer read)) × (good.new ≡ check_read (read_out_answer read) good.old) }
+pub fn told_read(read: Result<ReadOut, Refusal>, good: &mut u32, value: &mut usize) -> u32
+    ensures number { result ≡ number_in (read_out_answer read) }
+    ensures value { value.new ≡ value_read (read_out_answer read) }
+    ensures good { good.new ≡ check_read (read_out_answer read) good.old }
 {
     match read {
-        ReadOut::Data(size, check_good) => {
-            *value = size;
-            *good = one_if(check_good);
-            0
+        Ok(read) => {
+            *good = u32::from(read.check_good);
+            told(Ok(read.size), value)
         }
-        ReadOut::Refused(refusal) => {
-            *value = refusal.value();
-            refusal.number()
-        }
+        Err(refusal) => told(Err(refusal), value),
     }
 }
 
 // Tells the cells of a track file, and stores its track and its side, as many of the two as there is room for; beside a refusal the place is
 // kept.
-pub fn told_file(read: Read, place: &mut [u32], value: &mut usize) -> u32
-    ensures { (result ≡ number_in (read_answer read)) × (value.new ≡ value_given (read_answer read)) × (place.new ≡ place_given (read_answer read) place.old) }
+pub fn told_file(read: Result<FileCells, Refusal>, place: &mut [u32], value: &mut usize) -> u32
+    ensures number { result ≡ number_in (read_answer read) }
+    ensures value { value.new ≡ value_given (read_answer read) }
+    ensures place { place.new ≡ place_given (read_answer read) place.old }
 {
     match read {
-        Read::Cells { track, side, count } => {
-            let made = [track as u32, side as u32];
-            basis::copy(&made, place);
-            *value = count;
-            0
+        Ok(file) => {
+            basis::copy(&[u32::from(file.track), u32::from(file.side)], place);
+            told(Ok(file.count), value)
         }
-        Read::Refused(refusal) => {
-            *value = refusal.value();
-            refusal.number()
-        }
+        Err(refusal) => told(Err(refusal), value),
     }
 }
 
 // Tells how long the part of a good read is, and stores which read it is of: 1 for the second, 0 for the first and beside a refusal.
-pub fn told_part(part: GoodPart, which: &mut usize, value: &mut usize) -> u32
-    ensures { (result ≡ number_in (good_part_answer part)) × (value.new ≡ part_length (good_part_answer part)) × (which.new ≡ which_read (good_part_answer part)) }
+pub fn told_part(part: Result<GoodPart, Refusal>, which: &mut usize, value: &mut usize) -> u32
+    ensures number { result ≡ number_in (good_part_answer part) }
+    ensures value { value.new ≡ part_length (good_part_answer part) }
+    ensures which { which.new ≡ which_read (good_part_answer part) }
 {
     match part {
-        GoodPart::Of { second, count } => {
-            *value = count;
-            *which = one_if(second) as usize;
-            0
+        Ok(part) => {
+            *which = usize::from(part.second);
+            told(Ok(part.count), value)
         }
-        GoodPart::Refused(refusal) => {
-            *value = refusal.value();
+        Err(refusal) => {
             *which = 0;
-            refusal.number()
+            told(Err(refusal), value)
         }
     }
 }
 
 // Tells the timings of a portion, and keeps the number of the next reader, or, beside a refusal, the one that is there.
-pub fn told_portion(taken: TakenPortion, state: &mut u32, value: &mut usize) -> u32
-    ensures { (result ≡ number_in (answer_of taken.answer)) × (value.new ≡ value_in (answer_of taken.answer)) × (state.new ≡ number_kept (answer_of taken.answer) state.old taken.next) }
-{
-    let counted = taken.answer;
-    *state = number_kept(counted, *state, taken.next);
-    told(counted, value)
-}
-
-fn number_kept(counted: Result<usize, Refusal>, number: u32, next: RevolutionReader) -> u32
-    ensures { result ≡ number_kept (answer_of counted) number next }
+pub fn told_portion(
+    answer: Result<usize, Refusal>,
+    next: RevolutionReader,
+    state: &mut u32,
+    value: &mut usize,
+) -> u32
+    ensures number { result ≡ number_in (answer_of answer) }
+    ensures value { value.new ≡ value_in (answer_of answer) }
+    ensures state { state.new ≡ number_kept (answer_of answer) state.old next }
 {
     let advanced = reader_as_number::number_of_reader(next);
-    match counted {
+    *state = match answer {
         Ok(_) => advanced,
-        Err(_) => number,
-    }
+        Err(_) => *state,
+    };
+    told(answer, value)
 }
 
 // A sector's record as numbers.
@@ -133,30 +124,17 @@ pub fn sector_numbers(sector: Sector) -> [u32; 13]
 {
     [
         sector.place,
-        sector.mark as u32,
-        sector.track as u32,
-        sector.side as u32,
-        sector.number as u32,
-        sector.size_code as u32,
-        sector.id_check_good as u32,
+        u32::from(sector.mark),
+        u32::from(sector.track),
+        u32::from(sector.side),
+        u32::from(sector.number),
+        u32::from(sector.size_code),
+        u32::from(sector.id_check_good),
         sector.data_place,
-        sector.data_mark as u32,
+        u32::from(sector.data_mark),
         sector.data_length,
-        sector.data_check_good as u32,
+        u32::from(sector.data_check_good),
         sector.data_end,
-        wide(sector.density),
+        u32::from(sector.density),
     ]
-}
-
-fn wide(byte: u8) -> u32
-    ensures { result ≡ byte }
-{
-    byte as u32
-}
-
-// 1 for yes and 0 for no.
-fn one_if(yes: bool) -> u32
-    ensures { result ≡ cond yes 1 0 }
-{
-    if yes { 1 } else { 0 }
 }

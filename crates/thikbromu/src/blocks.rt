@@ -51,8 +51,9 @@ pub extern "C" fn thikbromu_revolution_portion(
     ensures list { timings.new ≡ portion_list (reader_of_number state.old) portion.now timings.old }
     ensures all { AllByNumber state.old portion.now (portion_answer (reader_of_number state.old) portion.now (length timings.old)) timings.new }
 {
-    let reader = reader_as_number::reader_of_number(*state);
-    told_portion(reader.take(portion, timings), state, value)
+    let mut reader = reader_as_number::reader_of_number(*state);
+    let answer = reader.take(portion, timings);
+    told_portion(answer, reader, state, value)
 }
 
 // The cells of one revolution of a block, packed at the front of `cells`: its timings, handed to the separator; `value` is the number of

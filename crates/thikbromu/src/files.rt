@@ -8,6 +8,7 @@ ghost use Rattle.lines.specs.Lines.{out_after};
 ghost use Rattle.listing.specs.Listing.{listing_of};
 ghost use Rattle.file_listing.specs.ListingOfFile.{file_listing};
 
+use crate::track_of;
 use telling::told_file;
 
 // The cells of a track file, packed at the front of `cells`; `value` is their number, and the track and the side stand at the front of
@@ -51,5 +52,5 @@ pub extern "C" fn thikbromu_listing(
     ensures few { result ≤ 65536 }
     ensures out { out.new ≡ out_after (listing_of bytes.now n track side) out.old }
 {
-    listing::list_track(bytes, n, track, side, out)
+    listing::list_track(track_of(bytes, n, track, side), out)
 }

@@ -3,6 +3,7 @@ ghost use Rattle.std.specs.Prelude.{◌≡◌, length};
 ghost use Rattle.sector_image.specs.Image.{image_answer, image_after};
 ghost use Rattle.telling.specs.Numbers.{number_in, value_in};
 
+use crate::track_of;
 use telling::told;
 
 // The data of sectors 1 to 9 of a track, 512 bytes each, in the order of their numbers at the front of `image`; `value` is how many bytes that
@@ -20,8 +21,6 @@ pub extern "C" fn thikbromu_sector_image(
     ensures value { value.new ≡ value_in (image_answer bytes.now n track side (length image.old)) }
     ensures image { image.new ≡ image_after bytes.now n track side image.old }
 {
-    told(
-        sector_image::sector_image(bytes, n, track, side, image),
-        value,
-    )
+    let track = track_of(bytes, n, track, side);
+    told(sector_image::sector_image(track, image), value)
 }

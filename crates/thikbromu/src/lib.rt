@@ -22,7 +22,7 @@ ghost use Rattle.std.specs.Prelude.{◌≡◌, cond, ◌/◌, length};
 ghost use Rattle.cells.specs.CellsAndBytes.{cell, word_at, least_place, cleared, with_one};
 ghost use Rattle.crc.specs.CheckWord.{check_word_from, check_word};
 ghost use Rattle.mfm.specs.Calls.{coding_answer, decoding_answer, encoded_after, decoded_after};
-ghost use Rattle.separator.specs.Rule.{step_answer, step_offset, step_residual};
+ghost use Rattle.separator.specs.Rule.{step_answer, step_offset, step_residual, step_answer_by, step_offset_by, step_residual_by};
 ghost use Rattle.separation.specs.Separation.{border_pulses_of, separation, separated_cells, border_pulses_after};
 ghost use Rattle.separation.specs.Demand3.{Demand3};
 ghost use Rattle.histogram.specs.Histogram.{counting};
@@ -35,6 +35,7 @@ ghost use Rattle.thikbromu.specs.Lent.{counts_lent, record_lent};
 pub use blocks::{
     thikbromu_revolution_cells, thikbromu_revolution_portion, thikbromu_revolution_timings,
 };
+use cells::Cells;
 pub use conversion::thikbromu_convert_file;
 pub use disks::thikbromu_disk_page;
 pub use files::{thikbromu_file_cells, thikbromu_file_listing, thikbromu_listing};
@@ -45,6 +46,8 @@ pub use reads::{thikbromu_compare_reads, thikbromu_good_read};
 pub use scp_images::{
     thikbromu_image_check, thikbromu_image_entries, thikbromu_image_header, thikbromu_image_sum,
 };
+use sectors::Track;
+use separator::{BitWindow, DoubleDensity, Separator};
 pub use single_density::{
     thikbromu_fm_finding_records, thikbromu_fm_findings, thikbromu_fm_read_out,
     thikbromu_fm_sector, thikbromu_fm_separate, thikbromu_fm_step,
@@ -57,7 +60,7 @@ pub use writing::thikbromu_write_track;
 pub extern "C" fn thikbromu_cell(bytes: &[u8], n: usize, p: usize) -> u64
     ensures { result ≡ cell bytes.now n p }
 {
-    cells::cell_on(bytes, n, p)
+    Cells { bytes, count: n }.cell(p)
 }
 
 // The word of k cells from p; a k above 64 counts as 64.
@@ -65,7 +68,7 @@ pub extern "C" fn thikbromu_cell(bytes: &[u8], n: usize, p: usize) -> u64
 pub extern "C" fn thikbromu_word(bytes: &[u8], n: usize, p: usize, k: usize) -> u64
     ensures { result ≡ word_at bytes.now n p k }
 {
-    cells::word_at(bytes, n, p, k)
+    Cells { bytes, count: n }.word(p, k)
 }
 
 // The least place from `from` and before `to`, counted on past n, at which the word x of k cells stands. Where there is
@@ -81,7 +84,7 @@ pub extern "C" fn thikbromu_find_word(
 ) -> usize
     ensures { result ≡ least_place bytes.now n k x from to }
 {
-    cells::find_word(bytes, n, x, k, from, to)
+    Cells { bytes, count: n }.find_word(x, k, from, to)
 }
 
 // Sets the first k bytes, or all where there are fewer, to 0.
@@ -155,12 +158,7 @@ pub extern "C" fn thikbromu_step(
     ensures offset { offset.new ≡ offset_stored (step_answer residual.old timing) (step_offset residual.old timing) offset.old }
     ensures residual { residual.new ≡ step_residual residual.old timing }
 {
-    let stepped = separator::step_lent(*residual, timing);
-    let next = stepped.next;
-    let advanced = next.residual;
-    *residual = advanced;
-    let given = stepped.given;
-    told_step(given, offset, value)
+    step_told::<DoubleDensity>(residual, timing, offset, value)
 }
 
 // The separator on a list of timings; `value` is the number of cells, packed at the front of `cells`, and `border_pulses` the number of
@@ -189,11 +187,16 @@ pub extern "C" fn thikbromu_histogram(timings: &[u32], counts: &mut [u32], value
     ensures value { value.new ≡ value_in (counting timings.now) }
     ensures counts { counts.new ≡ counts_lent timings.now counts.old }
 {
-    let histogram = histogram::histogram_of(timings);
-    let made = histogram.counts;
-    basis::copy(&made, counts);
-    let answer = histogram.answer;
-    told(answer, value)
+    match histogram::histogram_of(timings) {
+        Ok(histogram) => {
+            basis::copy(&histogram.counts, counts);
+            told(Ok(histogram.timings), value)
+        }
+        Err(refusal) => {
+            basis::copy(&[0; 256], counts);
+            told(Err(refusal), value)
+        }
+    }
 }
 
 // Sector `index` of a track, from 0: its record as thirteen numbers at the front of `numbers` (rule 6.16: place, mark, the ID's track, side,
@@ -213,16 +216,8 @@ pub extern "C" fn thikbromu_sector(
     ensures value { value.new ≡ value_in (index_answer double_density bytes.now n track side index) }
     ensures numbers { numbers.new ≡ record_lent double_density bytes.now n track side index numbers.old }
 {
-    sector_told(
-        Density::Double,
-        bytes,
-        n,
-        track,
-        side,
-        index,
-        numbers,
-        value,
-    )
+    let track = track_of(bytes, n, track, side);
+    sector_told(Density::Double, track, index, numbers, value)
 }
 
 // Reads out sector `index` of a track to the front of `buffer`; `value` is the number of bytes, and `good` is 1 where their
@@ -243,17 +238,8 @@ pub extern "C" fn thikbromu_read_out(
     ensures good { good.new ≡ check_read (data_answer double_density bytes.now n track side index (length buffer.old)) good.old }
     ensures buffer { buffer.new ≡ data_after double_density bytes.now n track side index buffer.old }
 {
-    read_out_told(
-        Density::Double,
-        bytes,
-        n,
-        track,
-        side,
-        index,
-        buffer,
-        good,
-        value,
-    )
+    let track = track_of(bytes, n, track, side);
+    told_read(track.read_out(Density::Double, index, buffer), good, value)
 }
 
 // The findings of a track, at the front of the list: four numbers for each, its kind, level, place and detail; `value` is the number of
@@ -271,7 +257,8 @@ pub extern "C" fn thikbromu_findings(
     ensures value { value.new ≡ value_in (findings_answer double_density bytes.now n track side (length list.old / 4)) }
     ensures list { list.new ≡ numbers_after double_density bytes.now n track side list.old }
 {
-    findings_told(Density::Double, bytes, n, track, side, list, value)
+    let track = track_of(bytes, n, track, side);
+    findings_told(Density::Double, track, list, value)
 }
 
 // As thikbromu_findings, on a list of records as C lays them out: kind and level take a byte each, place and detail four. A list
@@ -289,74 +276,73 @@ pub extern "C" fn thikbromu_finding_records(
     ensures value { value.new ≡ value_in (findings_answer double_density bytes.now n track side (length list.old)) }
     ensures list { list.new ≡ list_after double_density bytes.now n track side list.old }
 {
-    told(
-        findings::findings(Density::Double, bytes, n, track, side, list),
-        value,
-    )
+    let track = track_of(bytes, n, track, side);
+    told(findings::findings(Density::Double, track, list), value)
+}
+
+// A track as C hands it over: n cells, packed in `bytes`, of this track and side of the drive.
+fn track_of(bytes: &[u8], n: usize, track: u32, side: u32) -> Track
+    ensures bytes { result.cells.bytes.now ≡ bytes.now }
+    ensures count { result.cells.count ≡ n }
+    ensures track { result.track ≡ track }
+    ensures side { result.side ≡ side }
+{
+    let cells = Cells { bytes, count: n };
+    Track { cells, track, side }
+}
+
+// One step of the separator in either window, told to C.
+fn step_told<W: BitWindow>(
+    residual: &mut i32,
+    timing: u32,
+    offset: &mut i32,
+    value: &mut usize,
+) -> u32
+    ensures number { result ≡ number_in (step_answer_by W.HALF residual.old timing) }
+    ensures value { value.new ≡ value_in (step_answer_by W.HALF residual.old timing) }
+    ensures offset { offset.new ≡ offset_stored (step_answer_by W.HALF residual.old timing) (step_offset_by W.HALF residual.old timing) offset.old }
+    ensures residual { residual.new ≡ step_residual_by W.HALF residual.old timing }
+{
+    let mut separator = Separator {
+        residual: *residual,
+    };
+    let step = separator.step::<W>(timing);
+    *residual = separator.residual;
+    told_step(step, offset, value)
 }
 
 // Sector `index` of a track of either density, told to C.
 fn sector_told(
     density: Density,
-    bytes: &[u8],
-    n: usize,
-    track: u32,
-    side: u32,
+    track: Track,
     index: usize,
     numbers: &mut [u32],
     value: &mut usize,
 ) -> u32
-    ensures number { result ≡ number_in (index_answer (layout_of density) bytes.now n track side index) }
-    ensures value { value.new ≡ value_in (index_answer (layout_of density) bytes.now n track side index) }
-    ensures numbers { numbers.new ≡ record_lent (layout_of density) bytes.now n track side index numbers.old }
+    ensures number { result ≡ number_in (index_answer (layout_of density) track.entry.cells.bytes.now track.entry.cells.count track.entry.track track.entry.side index) }
+    ensures value { value.new ≡ value_in (index_answer (layout_of density) track.entry.cells.bytes.now track.entry.cells.count track.entry.track track.entry.side index) }
+    ensures numbers { numbers.new ≡ record_lent (layout_of density) track.entry.cells.bytes.now track.entry.cells.count track.entry.track track.entry.side index numbers.old }
 {
-    let found = sectors::sector_in(density, bytes, n, track, side, index);
-    let sector = found.sector;
-    let made = sector_numbers(sector);
-    basis::copy(&made, numbers);
-    let answer = found.answer;
-    told(answer, value)
-}
-
-// Reading out, of a track of either density, told to C.
-fn read_out_told(
-    density: Density,
-    bytes: &[u8],
-    n: usize,
-    track: u32,
-    side: u32,
-    index: usize,
-    buffer: &mut [u8],
-    good: &mut u32,
-    value: &mut usize,
-) -> u32
-    ensures number { result ≡ number_in (data_answer (layout_of density) bytes.now n track side index (length buffer.old)) }
-    ensures value { value.new ≡ value_read (data_answer (layout_of density) bytes.now n track side index (length buffer.old)) }
-    ensures good { good.new ≡ check_read (data_answer (layout_of density) bytes.now n track side index (length buffer.old)) good.old }
-    ensures buffer { buffer.new ≡ data_after (layout_of density) bytes.now n track side index buffer.old }
-{
-    told_read(
-        sectors::read_out_in(density, bytes, n, track, side, index, buffer),
-        good,
-        value,
-    )
+    match track.sector(density, index) {
+        Ok(found) => {
+            basis::copy(&sector_numbers(found.sector), numbers);
+            told(Ok(found.count), value)
+        }
+        Err(refusal) => {
+            basis::copy(&sector_numbers(sector_records::no_sector()), numbers);
+            told(Err(refusal), value)
+        }
+    }
 }
 
 // The findings of a track of either density as numbers, told to C.
-fn findings_told(
-    density: Density,
-    bytes: &[u8],
-    n: usize,
-    track: u32,
-    side: u32,
-    list: &mut [u32],
-    value: &mut usize,
-) -> u32
-    ensures number { result ≡ number_in (findings_answer (layout_of density) bytes.now n track side (length list.old / 4)) }
-    ensures value { value.new ≡ value_in (findings_answer (layout_of density) bytes.now n track side (length list.old / 4)) }
-    ensures list { list.new ≡ numbers_after (layout_of density) bytes.now n track side list.old }
+fn findings_told(density: Density, track: Track, list: &mut [u32], value: &mut usize) -> u32
+    ensures number { result ≡ number_in (findings_answer (layout_of density) track.entry.cells.bytes.now track.entry.cells.count track.entry.track track.entry.side (length list.old / 4)) }
+    ensures value { value.new ≡ value_in (findings_answer (layout_of density) track.entry.cells.bytes.now track.entry.cells.count track.entry.track track.entry.side (length list.old / 4)) }
+    ensures list { list.new ≡ numbers_after (layout_of density) track.entry.cells.bytes.now track.entry.cells.count track.entry.track track.entry.side list.old }
 {
-    let found = findings::findings_as_numbers_in(density, bytes, n, track, side, list);
-    let answer = found.answer;
-    told(answer, value)
+    match findings::findings_as_numbers(density, track, list) {
+        Ok(found) => told(Ok(found.findings), value),
+        Err(refusal) => told(Err(refusal), value),
+    }
 }

@@ -21,11 +21,20 @@ pub extern "C" fn thikbromu_compare_reads(
     ensures value { value.new ≡ value_in (comparison first.now second.now) }
     ensures numbers { numbers.new ≡ finding_lent first.now second.now numbers.old }
 {
-    let compared = two_reads::compare_reads(first, second, low_byte(data_mark));
-    let made = compared.numbers;
-    basis::copy(&made, numbers);
-    let answer = compared.answer;
-    told(answer, value)
+    match two_reads::compare_reads(first, second, low_byte(data_mark)) {
+        Ok(Some(finding)) => {
+            basis::copy(&finding, numbers);
+            told(Ok(1), value)
+        }
+        Ok(None) => {
+            basis::copy(&[0; 4], numbers);
+            told(Ok(0), value)
+        }
+        Err(refusal) => {
+            basis::copy(&[0; 4], numbers);
+            told(Err(refusal), value)
+        }
+    }
 }
 
 // Says which of two reads has a good check: `which` is 0 for the first and 1 for the second, and `value` is how many bytes its data has,

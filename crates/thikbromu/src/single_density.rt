@@ -8,10 +8,11 @@ ghost use Rattle.findings.specs.Calls.{findings_answer, list_after, numbers_afte
 ghost use Rattle.telling.specs.Numbers.{number_in, value_in, offset_stored, value_read, check_read};
 ghost use Rattle.thikbromu.specs.Lent.{record_lent};
 
-use crate::{findings_told, read_out_told, sector_told};
+use crate::{findings_told, sector_told, step_told, track_of};
 use findings::Finding;
 use layouts::Density;
-use telling::{told, told_step};
+use separator::SingleDensity;
+use telling::{told, told_read};
 
 // One step of the separator, on a state that the caller lends: its residual is advanced in its place, and kept beside a refusal. `value` is
 // the number of cells, and `offset` the offset e, which is kept beside a refusal too.
@@ -27,12 +28,7 @@ pub extern "C" fn thikbromu_fm_step(
     ensures offset { offset.new ≡ offset_stored (step_answer_by single_half_window residual.old timing) (step_offset_by single_half_window residual.old timing) offset.old }
     ensures residual { residual.new ≡ step_residual_by single_half_window residual.old timing }
 {
-    let stepped = separator::step_lent_single(*residual, timing);
-    let next = stepped.next;
-    let advanced = next.residual;
-    *residual = advanced;
-    let given = stepped.given;
-    told_step(given, offset, value)
+    step_told::<SingleDensity>(residual, timing, offset, value)
 }
 
 // The separator on a list of timings; `value` is the number of cells, packed at the front of `cells`, and `border_pulses` the number of
@@ -50,7 +46,7 @@ pub extern "C" fn thikbromu_fm_separate(
     ensures border_pulses { border_pulses.new ≡ border_pulses_after (separation_by single_half_window timings.now (length cells.old)) (border_pulses_of_by single_half_window timings.now) border_pulses.old }
 {
     told(
-        separation::separate_single(timings, cells, border_pulses),
+        separation::separate_in::<SingleDensity>(timings, cells, border_pulses),
         value,
     )
 }
@@ -70,16 +66,8 @@ pub extern "C" fn thikbromu_fm_sector(
     ensures value { value.new ≡ value_in (index_answer single_density bytes.now n track side index) }
     ensures numbers { numbers.new ≡ record_lent single_density bytes.now n track side index numbers.old }
 {
-    sector_told(
-        Density::Single,
-        bytes,
-        n,
-        track,
-        side,
-        index,
-        numbers,
-        value,
-    )
+    let track = track_of(bytes, n, track, side);
+    sector_told(Density::Single, track, index, numbers, value)
 }
 
 // As thikbromu_read_out, on a track of single density.
@@ -99,17 +87,8 @@ pub extern "C" fn thikbromu_fm_read_out(
     ensures good { good.new ≡ check_read (data_answer single_density bytes.now n track side index (length buffer.old)) good.old }
     ensures buffer { buffer.new ≡ data_after single_density bytes.now n track side index buffer.old }
 {
-    read_out_told(
-        Density::Single,
-        bytes,
-        n,
-        track,
-        side,
-        index,
-        buffer,
-        good,
-        value,
-    )
+    let track = track_of(bytes, n, track, side);
+    told_read(track.read_out(Density::Single, index, buffer), good, value)
 }
 
 // As thikbromu_findings, on a track of single density.
@@ -126,7 +105,8 @@ pub extern "C" fn thikbromu_fm_findings(
     ensures value { value.new ≡ value_in (findings_answer single_density bytes.now n track side (length list.old / 4)) }
     ensures list { list.new ≡ numbers_after single_density bytes.now n track side list.old }
 {
-    findings_told(Density::Single, bytes, n, track, side, list, value)
+    let track = track_of(bytes, n, track, side);
+    findings_told(Density::Single, track, list, value)
 }
 
 // As thikbromu_finding_records, on a track of single density.
@@ -143,8 +123,6 @@ pub extern "C" fn thikbromu_fm_finding_records(
     ensures value { value.new ≡ value_in (findings_answer single_density bytes.now n track side (length list.old)) }
     ensures list { list.new ≡ list_after single_density bytes.now n track side list.old }
 {
-    told(
-        findings::findings(Density::Single, bytes, n, track, side, list),
-        value,
-    )
+    let track = track_of(bytes, n, track, side);
+    told(findings::findings(Density::Single, track, list), value)
 }

@@ -21,8 +21,7 @@ fn list_input<R: Read>(from: &mut R, cells: &mut [u8], buffer: &mut [u8]) -> usi
     let input = track_input::read_all(from, start, buffer, cells);
     match input {
         Input::Ended(reader) => file_listing::list_file(reader, cells, buffer),
-        Input::Open(_) => 0,
-        Input::Failed => 0,
+        Input::Open(_) | Input::Failed => 0,
     }
 }
 

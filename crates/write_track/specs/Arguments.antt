@@ -2,9 +2,8 @@
 -- contracts of the system's calls do not say which words a process was started with: that those here are its own is seen in the code of
 -- `read_place` and `main`. Assumes nothing.
 use Rattle.std.specs.Prelude.{ℕ, ◌≡◌, cond, List, eqb, take}
-use Rattle.block_choice.specs.Arguments.{argument_of, no_choice, chosen}
-use Rattle.block_choice.specs.declared.Argument.TheVariants.{Byte}
-use Rattle.block_choice.specs.declared.Choice.{Choice}
+use Rattle.block_choice.specs.Arguments.{Choice, argument_of, no_choice, chosen}
+use Rattle.block_choice.specs.Arguments.Argument.{Byte}
 
 -- 13.9, 13.52, 13.53: the place that two words name, where the program was started with so many, its own name among them: TRACK and SIDE, in this
 -- order. Of a choice only these two count here, and whether the words are such numbers

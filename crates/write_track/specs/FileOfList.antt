@@ -4,11 +4,22 @@ use Rattle.std.specs.Prelude.{ℕ, ◌/◌, ◌%◌, ◌≤◌, ◌≡◌, Bool,
 use Rattle.lines.specs.Lines.{bytes_of, refused_line}
 use Rattle.standard_input.specs.Reading.{ReadOn}
 use Rattle.track_writer.specs.WriteTrack.{written, cell_count}
+use Rattle.write_track.specs.declared.Written.{Written}
+use Rattle.write_track.specs.declared.Written.TheVariants.{Output, Message}
 
 -- the bytes for standard output, and those for standard error
 pub record Outputs : Type 0 where
   pub output : List ℕ
   pub message : List ℕ
+
+-- how many bytes at the front of a buffer are for standard output, and how many for standard error
+abbrev pub output_count : Written → ℕ
+output_count (Output count) = count
+output_count (Message count) = 0
+
+abbrev pub message_count : Written → ℕ
+message_count (Output count) = 0
+message_count (Message count) = count
 
 -- 10.2: a number in four bytes, the lowest first
 abbrev pub in_four_bytes : ℕ → List ℕ

@@ -8,12 +8,14 @@
 #![tactic(auto)]
 
 ghost use Rattle.std.specs.Prelude.{◌≡◌, ◌++◌, ◌+◌, ◌≤◌, length, take};
+ghost use Rattle.block_choice.specs.Arguments.{choice_seen};
+ghost use Rattle.refusals.specs.RefusedCalls.{number_of};
 ghost use Rattle.write_track.specs.Arguments.{place_of, PlaceRead};
-ghost use Rattle.write_track.specs.FileOfList.{front_of, file_with, refusal, unreadable, outputs_of, outputs_of_input, AtFront, Made, MadeOfInput};
+ghost use Rattle.write_track.specs.FileOfList.{front_of, file_with, refusal, unreadable, output_count, message_count, outputs_of, outputs_of_input, AtFront, Made, MadeOfInput};
 
 use block_choice::Choice;
 use refusals::Refusal;
-use std::env::{Env, FillError};
+use std::env::Env;
 use std::io::Read;
 
 // A list of more bytes than a track can hold is refused, so that one byte more is all that need be read.
@@ -21,39 +23,29 @@ const LIST_ROOM: usize = track_writer::MOST_PIECES + 1;
 
 const CELL_ROOM: usize = 2 * track_writer::MOST_PIECES;
 
-// How many bytes at the front of a buffer are for standard output, and how many for standard error. One of the two numbers is 0.
-#[derive(Clone, Copy)]
-struct Written {
-    output: usize,
-    message: usize,
-}
-
-// The length of the command line in words, of which the first is the program's name. A word for which there is no room is too long, or empty.
-fn word_count<E: Env>(env: &E) -> usize {
-    for i in 0..usize::MAX {
-        if let Err(FillError::NotPresent) = env.arg(i, &mut []) {
-            return i;
-        }
-    }
-    usize::MAX
+// Where the bytes at the front of a buffer go, and how many they are: a track file to standard output, or a line to standard error.
+#[derive(Clone, Copy, Debug)]
+enum Written {
+    Output(usize),
+    Message(usize),
 }
 
 // The program's arguments, each by way of a room of its own.
-fn read_place<E: Env>(env: &E, first: &mut [u8], second: &mut [u8]) -> Choice
-    ensures { PlaceRead result first.new second.new }
+fn read_place<E: Env>(env: &E, first: &mut [u8], second: &mut [u8]) -> Option<Choice>
+    ensures { PlaceRead (choice_seen result) first.new second.new }
 {
     let a = system_calls::word(env, 1, first);
     let b = system_calls::word(env, 2, second);
-    place_of(word_count(env), &first[..a], &second[..b])
+    place_of(system_calls::word_count(env), &first[..a], &second[..b])
 }
 
 // The place that two words name, where the program was started with so many, its own name among them. They are taken as the last two of the
 // four words that choose of a track block.
-fn place_of(words: usize, first: &[u8], second: &[u8]) -> Choice
-    ensures { result ≡ place_of words first.now second.now }
+fn place_of(words: usize, first: &[u8], second: &[u8]) -> Option<Choice>
+    ensures { choice_seen result ≡ place_of words first.now second.now }
 {
     if words != 3 {
-        return block_choice::choice_of(0, b"0", b"0", first, second);
+        return None;
     }
     block_choice::choice_of(5, b"0", b"0", first, second)
 }
@@ -68,7 +60,7 @@ fn write_input<R: Read>(
     out: &mut [u8],
 ) -> Written
     requires { (length list.old ≡ 8193) × (length cells.old ≡ 16384) × (length out.old ≡ 65536) }
-    ensures { MadeOfInput track side result.output result.message out.new }
+    ensures { MadeOfInput track side (output_count result) (message_count result) out.new }
 {
     let input = standard_input::read_on(from, list, 0);
     let count = input.count;
@@ -85,7 +77,7 @@ fn write_read(
     out: &mut [u8],
 ) -> Written
     requires { (length cells.old ≡ 16384) × (length out.old ≡ 65536) }
-    ensures { Made (outputs_of_input track side ended list.now) result.output result.message out.new }
+    ensures { Made (outputs_of_input track side ended list.now) (output_count result) (message_count result) out.new }
 {
     if track_writer::MOST_PIECES < list.len() {
         return write_list(track, side, list, cells, out);
@@ -99,23 +91,20 @@ fn write_read(
 // What is to be written of a list.
 fn write_list(track: u8, side: u8, list: &[u8], cells: &mut [u8], out: &mut [u8]) -> Written
     requires { (length cells.old ≡ 16384) × (length out.old ≡ 65536) }
-    ensures { Made (outputs_of track side list.now) result.output result.message out.new }
+    ensures { Made (outputs_of track side list.now) (output_count result) (message_count result) out.new }
 {
     if 83 < track {
-        return write_refusal(1, out);
+        return write_refusal(Refusal::TrackOrSide, out);
     }
     if 1 < side {
-        return write_refusal(1, out);
+        return write_refusal(Refusal::TrackOrSide, out);
     }
     if list.len() == 0 {
-        return write_refusal(15, out);
+        return write_refusal(Refusal::NotATrackFile, out);
     }
     match track_writer::write_track(list, cells) {
-        Ok(count) => Written {
-            output: write_file(track, side, count, &cells[..count / 8], out),
-            message: 0,
-        },
-        Err(refusal) => write_refusal(refusal.number(), out),
+        Ok(count) => Written::Output(write_file(track, side, count, &cells[..count / 8], out)),
+        Err(refusal) => write_refusal(refusal, out),
     }
 }
 
@@ -159,37 +148,30 @@ fn put(out: &mut [u8], at: usize, bytes: &[u8]) -> usize
 }
 
 // Puts the line of a refusal at the front of `out`.
-fn write_refusal(number: u32, out: &mut [u8]) -> Written
+fn write_refusal(refusal: Refusal, out: &mut [u8]) -> Written
     requires { length out.old ≡ 65536 }
-    ensures { Made (refusal number) result.output result.message out.new }
+    ensures { Made (refusal (number_of refusal)) (output_count result) (message_count result) out.new }
 {
-    Written {
-        output: 0,
-        message: lines::refused_line(out, number),
-    }
+    Written::Message(lines::refused_line(out, refusal.number()))
 }
 
 // Puts the line of an input that cannot be read to its end at the front of `out`.
 fn write_unreadable(out: &mut [u8]) -> Written
     requires { length out.old ≡ 65536 }
-    ensures { Made unreadable result.output result.message out.new }
+    ensures { Made unreadable (output_count result) (message_count result) out.new }
 {
-    Written {
-        output: 0,
-        message: put(out, 0, b"write_track: the list cannot be read to its end\n"),
-    }
+    Written::Message(put(out, 0, b"write_track: the list cannot be read to its end\n"))
 }
 
 fn main(rt: HostRuntime) {
     let mut first = system_calls::buffer();
     let mut second = system_calls::buffer();
-    let place = read_place(&rt, &mut first, &mut second);
-    if !place.right {
+    let Some(place) = read_place(&rt, &mut first, &mut second) else {
         let _ = rt
             .stderr()
             .write_all(b"usage: write_track TRACK SIDE < LIST > FILE\n");
         return;
-    }
+    };
     let mut list = [0u8; LIST_ROOM];
     let mut cells = [0u8; CELL_ROOM];
     let mut out = system_calls::large_buffer();
@@ -201,6 +183,8 @@ fn main(rt: HostRuntime) {
         &mut cells,
         &mut out,
     );
-    let _ = rt.stdout().write_all(&out[..written.output]);
-    let _ = rt.stderr().write_all(&out[..written.message]);
+    let _ = match written {
+        Written::Output(count) => rt.stdout().write_all(&out[..count]),
+        Written::Message(count) => rt.stderr().write_all(&out[..count]),
+    };
 }
