@@ -1,9 +1,8 @@
 // From a track block to cells, by way of a revolution's timings, and to the number of their border pulses.
 #![tactic(auto)]
 
-ghost use Rattle.std.specs.Prelude.{◌≡◌, ℕ, length};
+ghost use Rattle.std.specs.Prelude.{◌≡◌, length};
 ghost use Rattle.refusals.specs.RefusedCalls.{answer_of};
-ghost use Rattle.refusals.specs.RefusedCalls.Answer.{gives};
 ghost use Rattle.supercard_pro.specs.TrackBlock.{block_answer, block_timings};
 ghost use Rattle.block_cells.specs.BlockToCells.{block_separation, block_cells, block_border_pulses, timings_border_pulses, BlockDemand3};
 
@@ -25,11 +24,8 @@ pub fn separate_revolution(
     ensures demand3 { BlockDemand3 block.now revolutions revolution (answer_of result) cells.old cells.new }
 {
     let mut timings = room_for_timings();
-    let counted = revolution_timings(block, revolutions, revolution, &mut timings);
-    match counted {
-        Ok(count) => { separation::separate(&timings[..count], cells, border_pulses) }
-        Err(refusal) => Err(refusal),
-    }
+    let count = revolution_timings(block, revolutions, revolution, &mut timings)?;
+    separation::separate(&timings[..count], cells, border_pulses)
 }
 
 // The timings of one revolution of a block, counted from 0, at the front of a list (rule 9.14), and the number of their border pulses.
@@ -44,24 +40,9 @@ pub fn timings_with_border_pulses(
     ensures list { timings.new ≡ block_timings block.now revolutions revolution timings.old }
     ensures border_pulses { border_pulses.new ≡ timings_border_pulses block.now revolutions revolution (length timings.old) border_pulses.old }
 {
-    let counted = revolution_timings(block, revolutions, revolution, timings);
-    match counted {
-        Ok(count) => {
-            *border_pulses = number_counted(separation::count_border_pulses(&timings[..count]));
-            Ok(count)
-        }
-        Err(refusal) => Err(refusal),
-    }
-}
-
-// The number of a count; 0 where it is refused.
-fn number_counted(counted: Result<usize, Refusal>) -> usize
-    ensures { (n : ℕ) → answer_of counted ≡ gives n → result ≡ n }
-{
-    match counted {
-        Ok(number) => number,
-        Err(_) => 0,
-    }
+    let count = revolution_timings(block, revolutions, revolution, timings)?;
+    *border_pulses = separation::count_border_pulses(&timings[..count])?;
+    Ok(count)
 }
 
 // Room for the most timings that a revolution may have.

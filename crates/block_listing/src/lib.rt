@@ -5,7 +5,7 @@ ghost use Rattle.std.specs.Prelude.{◌≡◌, ◌≤◌, length};
 ghost use Rattle.lines.specs.Lines.{out_after};
 ghost use Rattle.block_listing.specs.BlockListing.{room_for_cells, block_listing};
 
-use refusals::Refusal;
+use sectors::{Cells, Track};
 
 // The listing of a revolution of a block, at the front of `out` (rule 9.17); the answer is the number of its bytes.
 pub fn list_block(
@@ -30,7 +30,13 @@ pub fn list_block(
         &mut pulses,
     );
     match separated {
-        Ok(count) => listing::list_track(&cells, count, track, side, out),
+        Ok(count) => {
+            let cells = Cells {
+                bytes: &cells,
+                count,
+            };
+            listing::list_track(Track { cells, track, side }, out)
+        }
         Err(refusal) => lines::refused_line(out, refusal.number()),
     }
 }

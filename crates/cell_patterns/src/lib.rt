@@ -8,7 +8,7 @@ ghost use Rattle.std.specs.Prelude.{◌≡◌, Bool, ℕ, ◌+◌, ◌-◌, ◌/
 ghost use Rattle.basis.specs.Search.{count};
 ghost use Rattle.cell_words.specs.Words.{Holds, MapOf};
 ghost use Rattle.cell_words.specs.Tests.{one_at};
-ghost use Rattle.layouts.specs.Layouts.{double_density, layout_of};
+ghost use Rattle.layouts.specs.Layouts.{layout_of};
 ghost use Rattle.sector_records.specs.Marks.{word_mark_at};
 ghost use Rattle.cell_patterns.specs.Cells.{violation, GapsFound, syncs_between, syncs_inside};
 
@@ -19,7 +19,7 @@ use sector_records::{BYTE_LENGTH, Sector};
 // What MTV and NFA look at: the first one whose next one is too near or too far, n where there is none, and how many there
 // are; the start of the longest run of zeros, of equal ones the least, and its length, where it has 1,000 zeros or more. Of shorter runs `longest` is
 // only some number below 1,000.
-#[derive(Clone, Copy)]
+#[derive(Clone, Copy, Debug)]
 pub struct Gaps {
     pub first: usize,
     pub violations: usize,
@@ -48,17 +48,11 @@ pub fn find_gaps(density: Density, words: &[u64; WORDS], n: usize) -> Gaps
 fn violation_map(density: Density, words: &[u64; WORDS], map: &mut [u64; WORDS], m: usize)
     ensures { (f : ℕ → ℕ) (n : ℕ) → 4 ≤ n → Holds (one_at f) words.now (m + 1) → m < 2116 → length map.old ≡ 2116 → MapOf (violation (layout_of density) f n) map.new m }
 {
-    match density {
-        Density::Single => cell_words::alone_map(words, map, m),
-        Density::Double => gaps_of_double(words, map, m),
-    }
-}
-
-fn gaps_of_double(words: &[u64; WORDS], map: &mut [u64; WORDS], m: usize)
-    ensures { (f : ℕ → ℕ) (n : ℕ) → 4 ≤ n → Holds (one_at f) words.now (m + 1) → m < 2116 → length map.old ≡ 2116 → MapOf (violation double_density f n) map.new m }
-{
     cell_words::alone_map(words, map, m);
-    cell_words::gap_map(words, map, m);
+    match density {
+        Density::Single => {}
+        Density::Double => cell_words::gap_map(words, map, m),
+    }
 }
 
 // SID: how many sync words stand within a sector's ID and its data, out of the map of a track's syncs. The sector goes round the track once at most.
@@ -73,7 +67,7 @@ pub fn syncs_inside(density: Density, n: usize, syncs: &[u64; WORDS], s: Sector)
         return inside;
     }
     let data = s.data_place as usize + mark;
-    inside + syncs_between(n, syncs, data, wide(s.data_end))
+    inside + syncs_between(n, syncs, data, s.data_end as usize)
 }
 
 // How often a sync stands wholly between two places, in any phase.
@@ -99,10 +93,4 @@ fn count_round(n: usize, map: &[u64; WORDS], from: usize, end: usize) -> usize
         return cell_words::count_in(map, from, n) + cell_words::count_in(map, 0, end - n);
     }
     cell_words::count_in(map, from - n, end - n)
-}
-
-fn wide(place: u32) -> usize
-    ensures { (result ≡ place) × (result < 0x1_0000_0000) }
-{
-    place as usize
 }

@@ -1,5 +1,5 @@
 // The longest run of zeros of a track, where it has 1,000 or more (rules 7.21, 7.41, 7.42).
-ghost use Rattle.std.specs.Prelude.{◌≡◌, false, cond, ℕ, ◌+◌, ◌/◌, ◌<◌, ◌≤◌, leb, length, get_or};
+ghost use Rattle.std.specs.Prelude.{◌≡◌, false, ℕ, ◌+◌, ◌/◌, ◌<◌, ◌≤◌, leb, length, get_or};
 ghost use Rattle.basis.specs.Search.{least};
 ghost use Rattle.cell_words.specs.Words.{Holds};
 ghost use Rattle.cell_words.specs.Tests.{one_at};
@@ -9,7 +9,7 @@ use cell_words::WORDS;
 use sector_records::MOST_CELLS;
 
 // A run of zeros.
-#[derive(Clone, Copy)]
+#[derive(Clone, Copy, Debug)]
 pub struct Run {
     pub start: usize,
     pub longest: usize,
@@ -20,35 +20,23 @@ pub struct Run {
 pub fn longest_run(words: &[u64; WORDS], map: &mut [u64; WORDS], n: usize) -> Run
     ensures { (f : ℕ → ℕ) → ((q : ℕ) → f (q + n) ≡ f q) → 128 ≤ n → n ≤ 131072 → Holds (one_at f) words.now (n / 64 + 68) → length map.old ≡ 2116 → LongRun f n result.start result.longest }
 {
-    if MOST_CELLS < n {
-        return no_run();
-    }
-    if !some_zero(words, n / 64 + 2) {
-        return no_run();
+    if MOST_CELLS < n || !some_zero(words, n / 64 + 2) {
+        return Run {
+            start: 0,
+            longest: 0,
+        };
     }
     long_map(words, map, n);
     longest_of_long(words, map, n)
-}
-
-fn no_run() -> Run
-    ensures { (result.start ≡ 0) × (result.longest ≡ 0) }
-{
-    Run {
-        start: 0,
-        longest: 0,
-    }
 }
 
 // Is one of the first m words 0? The loop goes on whatever it finds, so that the compiler can test several words at once.
 fn some_zero(words: &[u64; WORDS], m: usize) -> bool
     ensures { result ≡ false → m ≤ 2116 → (w : ℕ) → w < m → get_or words.now w 0 ≡ 0 → ⊥ }
 {
-    let end = basis::smaller(m, WORDS);
     let mut some = false;
-    let mut w: usize = 0;
-    while w < end {
-        some = some | (words[w] == 0);
-        w += 1;
+    for word in &words[..m.min(WORDS)] {
+        some |= *word == 0;
     }
     some
 }
@@ -70,7 +58,7 @@ fn long_map(words: &[u64; WORDS], map: &mut [u64; WORDS], n: usize)
 // The most zeros of a run that is not in the map of the long ones.
 const SHORT: usize = 63;
 
-// The longest of the long runs, of which `long` is the map: from one to the next. Where there are none, it is said to be of 63 zeros.
+// The longest of the long runs, of which `long` is the map: from one to the next, each found by a search. Where there are none, it is said to be of 63 zeros.
 fn longest_of_long(words: &[u64; WORDS], long: &[u64; WORDS], n: usize) -> Run
     requires { n ≤ 131072 }
     ensures { (f : ℕ → ℕ) → ((q : ℕ) → f (q + n) ≡ f q) → 128 ≤ n → Holds (one_at f) words.now (n / 64 + 1) → Holds (λ q. leb 64 (zeros_from f n q)) long.now (n / 64 + 1) → LongRun f n result.start result.longest }
@@ -81,9 +69,10 @@ fn longest_of_long(words: &[u64; WORDS], long: &[u64; WORDS], n: usize) -> Run
     let mut p = cell_words::least_in(long, 0, n);
     while p < n {
         let zeros = zeros_from(words, first, n, p);
-        let longer = longest < zeros;
-        start = chosen(longer, p, start);
-        longest = chosen(longer, zeros, longest);
+        if longest < zeros {
+            start = p;
+            longest = zeros;
+        }
         p = cell_words::least_in(long, p + zeros + 1, n);
     }
     Run { start, longest }
@@ -98,12 +87,5 @@ fn zeros_from(words: &[u64; WORDS], first: usize, n: usize, p: usize) -> usize
     if end < n {
         return end - p;
     }
-    n - p + basis::smaller(first, p)
-}
-
-// One of two numbers, without a branch in the loop that asks.
-fn chosen(first: bool, a: usize, b: usize) -> usize
-    ensures { result ≡ cond first a b }
-{
-    if first { a } else { b }
+    n - p + first.min(p)
 }

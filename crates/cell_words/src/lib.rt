@@ -10,6 +10,7 @@ ghost use Rattle.cell_words.specs.Tests.{one_at, like_at, both_at, kept_from, al
 ghost use Rattle.cell_words.specs.PrivateContracts.{seven_from, sync_from};
 
 use basis::smaller;
+use cells::Cells;
 
 // The words of a map: enough for a track of 131,072 cells, and for 4,352 places past its end.
 pub const WORDS: usize = 2116;
@@ -19,50 +20,47 @@ const PLACES: usize = 135424;
 
 // The 64 cells from p of a track of n cells, counted on past n. Where they lie on the track and nine bytes hold them they are loaded at once; all
 // else is a function of its own, so that the compiler puts these few lines into the loops that ask.
-pub fn word_from(bytes: &[u8], n: usize, p: usize) -> u64
-    ensures { result ≡ word (cell bytes.now n) 64 p }
+pub fn word_from(cells: Cells, p: usize) -> u64
+    ensures { result ≡ word (cell cells.entry.bytes.now cells.entry.count) 64 p }
 {
-    if p < n {
-        if 64 <= n - p {
+    if p < cells.count {
+        if 64 <= cells.count - p {
             let k = p / 8;
-            if k + 8 < bytes.len() {
-                return nine_bytes(bytes, k, p % 8);
+            if k + 8 < cells.bytes.len() {
+                return nine_bytes(cells.bytes, k, p % 8);
             }
         }
     }
-    word_round(bytes, n, p)
+    word_round(cells, p)
 }
 
 // The same for any place, which is first moved before the track's end.
-fn word_round(bytes: &[u8], n: usize, p: usize) -> u64
-    ensures { result ≡ word (cell bytes.now n) 64 p }
+fn word_round(cells: Cells, p: usize) -> u64
+    ensures { result ≡ word (cell cells.entry.bytes.now cells.entry.count) 64 p }
 {
-    let at = place_on(n, p);
-    if at < n {
-        if 64 <= n - at {
+    let at = place_on(cells.count, p);
+    if at < cells.count {
+        if 64 <= cells.count - at {
             let k = at / 8;
-            if k + 8 < bytes.len() {
-                return nine_bytes(bytes, k, at % 8);
+            if k + 8 < cells.bytes.len() {
+                return nine_bytes(cells.bytes, k, at % 8);
             }
         }
     }
-    cells::word_at(bytes, n, at, 64)
+    cells.word(at, 64)
 }
 
 // The first m words of the map of a track's ones, which goes on round it.
-pub fn load(bytes: &[u8], n: usize, words: &mut [u64; WORDS], m: usize)
-    ensures { length words.old ≡ 2116 → m ≤ 2116 → MapOf (one_at (cell bytes.now n)) words.new m }
+pub fn load(cells: Cells, words: &mut [u64; WORDS], m: usize)
+    ensures { length words.old ≡ 2116 → m ≤ 2116 → MapOf (one_at (cell cells.entry.bytes.now cells.entry.count)) words.new m }
 {
-    let end = smaller(m, WORDS);
-    let whole = smaller(smaller(n / 64, bytes.len() / 8), end);
-    let mut w: usize = 0;
-    while w < whole {
-        words[w] = eight_bytes(bytes, 8 * w);
-        w += 1;
+    let end = m.min(WORDS);
+    let whole = (cells.count / 64).min(cells.bytes.len() / 8).min(end);
+    for w in 0..whole {
+        words[w] = eight_bytes(cells.bytes, 8 * w);
     }
-    while w < end {
-        words[w] = word_from(bytes, n, 64 * w);
-        w += 1;
+    for w in whole..end {
+        words[w] = word_from(cells, 64 * w);
     }
 }
 

@@ -5,7 +5,12 @@ ghost use Rattle.std.specs.Prelude.{◌≡◌, ℕ, ◌<◌, ◌≤◌, ◌*◌,
 ghost use Rattle.cells.specs.PrivateContracts.{Skipped};
 ghost use Rattle.cells.specs.CellsAndBytes.{cell_at, cell, word, word_at, least_place, cleared, with_one};
 
-use basis::smaller;
+// Cells packed in bytes, and how many of them a track has. Any bytes go with any count: a cell for which there is no byte is 0.
+#[derive(Clone, Copy, Debug)]
+pub struct Cells<'a> {
+    pub bytes: &'a [u8],
+    pub count: usize,
+}
 
 // Cell i of packed bytes, 0 or 1; past their end 0.
 pub fn cell_at(bytes: &[u8], i: usize) -> u64
@@ -19,57 +24,130 @@ pub fn cell_at(bytes: &[u8], i: usize) -> u64
     }
 }
 
-// Cell p of a track of n cells, counted on past n.
-pub fn cell_on(bytes: &[u8], n: usize, p: usize) -> u64
-    ensures { result ≡ cell bytes.now n p }
-{
-    if n == 0 {
-        return 0;
+impl<'a> Cells<'a> {
+    // Cell p of the track, counted on past its end.
+    pub fn cell(self, p: usize) -> u64
+        ensures { result ≡ cell self.entry.bytes.now self.entry.count p }
+    {
+        if self.count == 0 {
+            return 0;
+        }
+        if p < self.count {
+            return cell_at(self.bytes, p);
+        }
+        cell_at(self.bytes, p % self.count)
     }
-    if p < n {
-        return cell_at(bytes, p);
-    }
-    cell_at(bytes, p % n)
-}
 
-// The word of k cells from p, the first its highest bit; a k above 64 counts as 64.
-pub fn word_at(bytes: &[u8], n: usize, p: usize, k: usize) -> u64
-    ensures { result ≡ word_at bytes.now n p k }
-{
-    if n == 0 {
-        return 0;
+    // The word of k cells from p, the first its highest bit; a k above 64 counts as 64.
+    pub fn word(self, p: usize, k: usize) -> u64
+        ensures { result ≡ word_at self.entry.bytes.now self.entry.count p k }
+    {
+        if self.count == 0 {
+            return 0;
+        }
+        self.last_cells(p, k.min(64))
     }
-    cells_from(bytes, n, p, smaller(k, 64))
-}
 
-// The least place from `from` and before `to`, counted on past n, at which the word x of k cells stands. Where there is
-// none, the greater of the two.
-pub fn find_word(bytes: &[u8], n: usize, x: u64, k: usize, from: usize, to: usize) -> usize
-    ensures { result ≡ least_place bytes.now n k x from to }
-{
-    if to <= from {
-        return from;
+    // The least place from `from` and before `to`, counted on past the track's end, at which the word x of k cells stands. Where there is
+    // none, the greater of the two.
+    pub fn find_word(self, x: u64, k: usize, from: usize, to: usize) -> usize
+        ensures { result ≡ least_place self.entry.bytes.now self.entry.count k x from to }
+    {
+        if to <= from {
+            return from;
+        }
+        if self.count == 0 {
+            return find_among_zeros(x, from, to);
+        }
+        let length = k.min(64);
+        if length == 0 {
+            return find_among_zeros(x, from, to);
+        }
+        self.find_in_turn(x, length, from, to)
     }
-    if n == 0 {
-        return find_among_zeros(x, from, to);
+
+    // As find_in_range, in at most one turn of the track: after a turn the words come again.
+    fn find_in_turn(self, x: u64, k: usize, from: usize, to: usize) -> usize
+        requires { (0 < self.count) × (1 ≤ k) × (k ≤ 64) × (from ≤ to) }
+        ensures { result ≡ least_place self.entry.bytes.now self.entry.count k x from to }
+    {
+        if to - from <= self.count {
+            return self.find_in_range(x, k, from, to);
+        }
+        let turn = from + self.count;
+        let p = self.find_in_range(x, k, from, turn);
+        if p < turn { p } else { to }
     }
-    let length = smaller(k, 64);
-    if length == 0 {
-        return find_among_zeros(x, from, to);
+
+    // The search of find_word, of a word of 1 to 64 cells. The last cells are carried along: each place costs one cell more, and eight
+    // places one byte where it lies whole on the track and the word stands at none of them. A `for` cannot take steps of 1 or 8.
+    fn find_in_range(self, x: u64, k: usize, from: usize, to: usize) -> usize
+        requires { (0 < self.count) × (1 ≤ k) × (k ≤ 64) × (from ≤ to) }
+        ensures { result ≡ least_place self.entry.bytes.now self.entry.count k x from to }
+    {
+        let mask = 0xFFFF_FFFF_FFFF_FFFF >> (64 - k);
+        let mut cells = self.last_cells(from, k);
+        let mut at = place_after(from, k, self.count);
+        let mut p = from;
+        while p < to {
+            if self.skips_eight(at, cells, k, x, to - p) {
+                cells = append_byte(cells, byte_at(self.bytes, at / 8));
+                at = next_byte(at, self.count);
+                p += 8;
+            } else {
+                if cells & mask == x {
+                    return p;
+                }
+                cells = append(cells, cell_at(self.bytes, at));
+                at = next_place(at, self.count);
+                p += 1;
+            }
+        }
+        to
     }
-    find_in_turn(bytes, n, x, length, from, to)
+
+    // Whether the next eight cells are a whole byte, eight places are left to look at, and the word x of k cells stands at none of them.
+    fn skips_eight(self, at: usize, cells: u64, k: usize, x: u64, left: usize) -> bool
+        requires { (at < self.count) × (1 ≤ k) × (k ≤ 64) }
+        ensures { result ≡ true → Skipped self.entry.bytes.now self.entry.count at cells k x left }
+    {
+        if 56 < k {
+            return false;
+        }
+        if left < 8 {
+            return false;
+        }
+        if 0 < at % 8 {
+            return false;
+        }
+        if self.count - at < 8 {
+            return false;
+        }
+        !stands_in(append_byte(cells, byte_at(self.bytes, at / 8)), k, x)
+    }
+
+    // The last 64 of the k cells from p.
+    fn last_cells(self, p: usize, k: usize) -> u64
+        requires { 0 < self.count }
+        ensures { result ≡ word (cell self.entry.bytes.now self.entry.count) k p % 2 ^ 64 }
+    {
+        let mut cells: u64 = 0;
+        let mut at = p % self.count;
+        for _ in 0..k {
+            cells = append(cells, cell_at(self.bytes, at));
+            at = next_place(at, self.count);
+        }
+        cells
+    }
 }
 
 // Sets the first k bytes, or all where there are fewer, to 0.
+#[tactic(auto, unfolding(crate::specs::CellsAndBytes::cleared))]
 pub fn clear(bytes: &mut [u8], k: usize)
     ensures { bytes.new ≡ cleared k bytes.old }
 {
-    let end = smaller(k, bytes.len());
-    let mut i: usize = 0;
-    while i < end {
-        bytes[i] = 0;
-        i += 1;
-    }
+    let end = k.min(bytes.len());
+    bytes[..end].fill(0);
 }
 
 // Puts a one at cell p, where the bytes have such a cell.
@@ -82,78 +160,16 @@ pub fn put_one(bytes: &mut [u8], p: usize)
     }
 }
 
-// As find_in_range, in at most one turn of the track: after n places the words come again.
-fn find_in_turn(bytes: &[u8], n: usize, x: u64, k: usize, from: usize, to: usize) -> usize
-    requires { (0 < n) × (1 ≤ k) × (k ≤ 64) × (from ≤ to) }
-    ensures { result ≡ least_place bytes.now n k x from to }
-{
-    if to - from <= n {
-        return find_in_range(bytes, n, x, k, from, to);
-    }
-    let turn = from + n;
-    let p = find_in_range(bytes, n, x, k, from, turn);
-    if p < turn { p } else { to }
-}
-
-// The search of find_word, of a word of 1 to 64 cells. The last cells are carried along: each place costs one cell more, and eight
-// places one byte where it lies whole on the track and the word stands at none of them.
-fn find_in_range(bytes: &[u8], n: usize, x: u64, k: usize, from: usize, to: usize) -> usize
-    requires { (0 < n) × (1 ≤ k) × (k ≤ 64) × (from ≤ to) }
-    ensures { result ≡ least_place bytes.now n k x from to }
-{
-    let mask = 0xFFFF_FFFF_FFFF_FFFF >> (64 - k);
-    let mut cells = cells_from(bytes, n, from, k);
-    let mut at = place_after(from, k, n);
-    let mut p = from;
-    while p < to {
-        if skips_eight(bytes, n, at, cells, k, x, to - p) {
-            cells = append_byte(cells, byte_at(bytes, at / 8));
-            at = next_byte(at, n);
-            p += 8;
-        } else {
-            if cells & mask == x {
-                return p;
-            }
-            cells = append(cells, cell_at(bytes, at));
-            at = next_place(at, n);
-            p += 1;
-        }
-    }
-    to
-}
-
-// Whether the next eight cells are a whole byte, eight places are left to look at, and the word x of k cells stands at none of them.
-fn skips_eight(bytes: &[u8], n: usize, at: usize, cells: u64, k: usize, x: u64, left: usize) -> bool
-    requires { (at < n) × (1 ≤ k) × (k ≤ 64) }
-    ensures { result ≡ true → Skipped bytes.now n at cells k x left }
-{
-    if 56 < k {
-        return false;
-    }
-    if left < 8 {
-        return false;
-    }
-    if 0 < at % 8 {
-        return false;
-    }
-    if n - at < 8 {
-        return false;
-    }
-    !stands_in(append_byte(cells, byte_at(bytes, at / 8)), k, x)
-}
-
 // Whether the word x of k cells ends at one of the last nine cells but the very last.
 fn stands_in(cells: u64, k: usize, x: u64) -> bool
     requires { (1 ≤ k) × (k ≤ 64) }
     ensures { result ≡ false → (j : ℕ) → j < 8 → cells / 2 ^ (8 - j) % 2 ^ k ≡ x → ⊥ }
 {
     let mask = 0xFFFF_FFFF_FFFF_FFFF >> (64 - k);
-    let mut j: u64 = 0;
-    while j < 8 {
+    for j in 0..8usize {
         if (cells >> (8 - j)) & mask == x {
             return true;
         }
-        j += 1;
     }
     false
 }
@@ -162,13 +178,11 @@ fn stands_in(cells: u64, k: usize, x: u64) -> bool
 fn byte_at(bytes: &[u8], i: usize) -> u64
     ensures { (result ≡ get_or bytes.now i 0) × (result < 256) }
 {
-    if i < bytes.len() { wide(bytes[i]) } else { 0 }
-}
-
-fn wide(byte: u8) -> u64
-    ensures { (result ≡ byte) × (result < 256) }
-{
-    byte as u64
+    if i < bytes.len() {
+        u64::from(bytes[i])
+    } else {
+        0
+    }
 }
 
 // The cells so far, of which only the last 64 are kept, and those of a byte more.
@@ -192,22 +206,6 @@ fn find_among_zeros(x: u64, from: usize, to: usize) -> usize
     ensures { result ≡ cond (eqb x 0) from to }
 {
     if x == 0 { from } else { to }
-}
-
-// The last 64 of the k cells from p.
-fn cells_from(bytes: &[u8], n: usize, p: usize, k: usize) -> u64
-    requires { 0 < n }
-    ensures { result ≡ word (cell bytes.now n) k p % 2 ^ 64 }
-{
-    let mut cells: u64 = 0;
-    let mut at = p % n;
-    let mut i: usize = 0;
-    while i < k {
-        cells = append(cells, cell_at(bytes, at));
-        at = next_place(at, n);
-        i += 1;
-    }
-    cells
 }
 
 // The cells so far, of which only the last 64 are kept, and one more.

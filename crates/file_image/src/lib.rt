@@ -6,9 +6,11 @@ ghost use Rattle.refusals.specs.RefusedCalls.{answer_of, buffer_after};
 ghost use Rattle.track_file.specs.Portions.{read_answer, finish_answer};
 ghost use Rattle.file_image.specs.ImageOfFile.{image_given, image_bytes, WholeImage};
 
+use cells::Cells;
 use file_reader::Reader;
 use refusals::Refusal;
-use track_file::Read;
+use sectors::Track;
+use track_file::FileCells;
 
 // The end of a track file that came in portions: its image, at the front of `image`. `cells` is the buffer that the file was read with.
 pub fn image_file(reader: Reader, cells: &[u8], image: &mut [u8]) -> Result<usize, Refusal>
@@ -21,14 +23,22 @@ pub fn image_file(reader: Reader, cells: &[u8], image: &mut [u8]) -> Result<usiz
 }
 
 // The image of what a file gave.
-fn image_read(read: Read, cells: &[u8], image: &mut [u8]) -> Result<usize, Refusal>
+fn image_read(
+    read: Result<FileCells, Refusal>,
+    cells: &[u8],
+    image: &mut [u8],
+) -> Result<usize, Refusal>
     ensures answer { answer_of result ≡ image_given (read_answer read) cells.now (length image.old) }
     ensures image { image.new ≡ buffer_after (image_given (read_answer read) cells.now (length image.old)) (image_bytes (read_answer read) cells.now) image.old }
 {
-    match read {
-        Read::Cells { track, side, count } => {
-            sector_image::sector_image(cells, count, track as u32, side as u32, image)
-        }
-        Read::Refused(refusal) => Err(refusal),
-    }
+    let file = read?;
+    let track = Track {
+        cells: Cells {
+            bytes: cells,
+            count: file.count,
+        },
+        track: u32::from(file.track),
+        side: u32::from(file.side),
+    };
+    sector_image::sector_image(track, image)
 }

@@ -6,8 +6,11 @@ ghost use Rattle.lines.specs.Lines.{out_after};
 ghost use Rattle.track_file.specs.Portions.{read_answer, finish_answer};
 ghost use Rattle.file_listing.specs.ListingOfFile.{printed_file, file_listing, WholeListing};
 
+use cells::Cells;
 use file_reader::Reader;
-use track_file::Read;
+use refusals::Refusal;
+use sectors::Track;
+use track_file::FileCells;
 
 // The end of a track file that came in portions: its listing, at the front of `out`. `cells` is the buffer that the file was read with.
 pub fn list_file(reader: Reader, cells: &[u8], out: &mut [u8]) -> usize
@@ -33,15 +36,23 @@ pub fn list_whole_file(file: &[u8], out: &mut [u8]) -> usize
 }
 
 // The listing of what a file gave.
-fn list_read(read: Read, cells: &[u8], out: &mut [u8]) -> usize
+fn list_read(read: Result<FileCells, Refusal>, cells: &[u8], out: &mut [u8]) -> usize
     ensures answer { result ≡ length (printed_file (read_answer read) cells.now) }
     ensures few { result ≤ 65536 }
     ensures out { out.new ≡ out_after (printed_file (read_answer read) cells.now) out.old }
 {
     match read {
-        Read::Cells { track, side, count } => {
-            listing::list_track(cells, count, track as u32, side as u32, out)
+        Ok(file) => {
+            let track = Track {
+                cells: Cells {
+                    bytes: cells,
+                    count: file.count,
+                },
+                track: u32::from(file.track),
+                side: u32::from(file.side),
+            };
+            listing::list_track(track, out)
         }
-        Read::Refused(refusal) => lines::refused_line(out, refusal.number()),
+        Err(refusal) => lines::refused_line(out, refusal.number()),
     }
 }

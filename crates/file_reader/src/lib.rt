@@ -2,7 +2,7 @@
 #![tactic(auto)]
 
 ghost use Rattle.std.specs.Prelude.{◌≡◌, set};
-ghost use Rattle.file_reader.specs.Bytes.{number_after, after_place_count, after_cell_count, after_packed_byte, after_flux_count, in_place_count, in_cell_count, in_flux_count, reader_after_byte, cells_after_byte};
+ghost use Rattle.file_reader.specs.Bytes.{number_after, after_place_count, after_cell_count, after_packed_byte, after_flux_count, reader_after_byte, cells_after_byte};
 
 use refusals::Refusal;
 
@@ -50,63 +50,38 @@ pub enum Reader {
 const MOST_CELLS: u32 = 131_072;
 
 // A byte more of the file.
+#[tactic(auto, unfolding(crate::specs::Bytes::reader_after_byte, crate::specs::Bytes::cells_after_byte, crate::specs::Bytes::in_place_count, crate::specs::Bytes::in_cell_count, crate::specs::Bytes::in_flux_count))]
 pub fn feed_byte(reader: Reader, byte: u8, cells: &mut [u8]) -> Reader
     ensures reader { result ≡ reader_after_byte reader byte }
     ensures buffer { cells.new ≡ cells_after_byte reader byte cells.old }
 {
     match reader {
-        Reader::PlaceCount(number) => in_place_count(extend(number, byte)),
+        Reader::PlaceCount(number) => match extend(number, byte) {
+            Extended::Part(part) => Reader::PlaceCount(part),
+            Extended::Whole(count) => after_place_count(count),
+        },
         Reader::Track => Reader::Side(byte),
-        Reader::Side(track) => Reader::CellCount(
-            Place {
-                track: track,
-                side: byte,
-            },
-            Number::Empty,
-        ),
-        Reader::CellCount(place, number) => in_cell_count(place, extend(number, byte)),
+        Reader::Side(track) => Reader::CellCount(Place { track, side: byte }, Number::Empty),
+        Reader::CellCount(place, number) => match extend(number, byte) {
+            Extended::Part(part) => Reader::CellCount(place, part),
+            Extended::Whole(count) => after_cell_count(place, count),
+        },
         Reader::PackedCells(place, count, at) => {
             put_byte(cells, at, byte);
             after_packed_byte(place, count, at)
         }
-        Reader::FluxCount(place, cell_count, number) => {
-            in_flux_count(place, cell_count, extend(number, byte))
-        }
+        Reader::FluxCount(place, cell_count, number) => match extend(number, byte) {
+            Extended::Part(part) => Reader::FluxCount(place, cell_count, part),
+            Extended::Whole(count) => after_flux_count(place, cell_count, count),
+        },
         Reader::AllCells(_, _) => Reader::NotATrackFile,
         Reader::NotATrackFile => Reader::NotATrackFile,
         Reader::Stopped(refusal) => Reader::Stopped(refusal),
     }
 }
 
-// The reader after a byte of each count.
-fn in_place_count(extended: Extended) -> Reader
-    ensures { result ≡ in_place_count extended }
-{
-    match extended {
-        Extended::Part(part) => Reader::PlaceCount(part),
-        Extended::Whole(count) => after_place_count(count),
-    }
-}
-
-fn in_cell_count(place: Place, extended: Extended) -> Reader
-    ensures { result ≡ in_cell_count place extended }
-{
-    match extended {
-        Extended::Part(part) => Reader::CellCount(place, part),
-        Extended::Whole(count) => after_cell_count(place, count),
-    }
-}
-
-fn in_flux_count(place: Place, cells: u32, extended: Extended) -> Reader
-    ensures { result ≡ in_flux_count place cells extended }
-{
-    match extended {
-        Extended::Part(part) => Reader::FluxCount(place, cells, part),
-        Extended::Whole(count) => after_flux_count(place, cells, count),
-    }
-}
-
 // After the place count, which has to be 2.
+#[tactic(auto, unfolding(crate::specs::Bytes::after_place_count))]
 fn after_place_count(count: u32) -> Reader
     ensures { result ≡ after_place_count count }
 {
@@ -118,6 +93,7 @@ fn after_place_count(count: u32) -> Reader
 }
 
 // After the cell count. No cells have no bytes.
+#[tactic(auto, unfolding(crate::specs::Bytes::after_cell_count))]
 fn after_cell_count(place: Place, count: u32) -> Reader
     ensures { result ≡ after_cell_count place count }
 {
@@ -131,6 +107,7 @@ fn after_cell_count(place: Place, count: u32) -> Reader
 }
 
 // After byte `at` of the packed cells.
+#[tactic(auto, unfolding(crate::specs::Bytes::after_packed_byte))]
 fn after_packed_byte(place: Place, count: u32, at: u32) -> Reader
     ensures { result ≡ after_packed_byte place count at }
 {
@@ -142,6 +119,7 @@ fn after_packed_byte(place: Place, count: u32, at: u32) -> Reader
 }
 
 // After the flux count, which has to be 0. A file without cells is none then.
+#[tactic(auto, unfolding(crate::specs::Bytes::after_flux_count))]
 fn after_flux_count(place: Place, cells: u32, timings: u32) -> Reader
     ensures { result ≡ after_flux_count place cells timings }
 {
@@ -165,6 +143,7 @@ pub fn put_byte(cells: &mut [u8], at: u32, byte: u8)
 }
 
 // A number and its next byte, low byte first (rule 10.2).
+#[tactic(auto, unfolding(crate::specs::Bytes::number_after))]
 pub fn extend(number: Number, byte: u8) -> Extended
     ensures { result ≡ number_after number byte }
 {
@@ -172,6 +151,6 @@ pub fn extend(number: Number, byte: u8) -> Extended
         Number::Empty => Extended::Part(Number::One(byte)),
         Number::One(a) => Extended::Part(Number::Two(a, byte)),
         Number::Two(a, b) => Extended::Part(Number::Three(a, b, byte)),
-        Number::Three(a, b, c) => Extended::Whole(basis::four_bytes(a, b, c, byte)),
+        Number::Three(a, b, c) => Extended::Whole(u32::from_le_bytes([a, b, c, byte])),
     }
 }

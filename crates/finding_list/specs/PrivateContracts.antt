@@ -1,19 +1,18 @@
 -- What the contracts of private functions need: what they ask of sectors and rows, and findings added to a list of numbers. Assumes
 -- nothing.
-use Rattle.std.specs.Prelude.{ℕ, ◌+◌, ◌*◌, ◌/◌, ◌≤◌, ◌<◌, ◌≡◌, true, List, ◌++◌, length, take, drop, replicate}
+use Rattle.std.specs.Prelude.{ℕ, ◌+◌, ◌*◌, ◌/◌, ◌≤◌, ◌<◌, ◌≡◌, true, false, List, ◌++◌, length, take, drop, replicate}
 use Rattle.basis.specs.Lists.{joined}
 use Rattle.cells.specs.CellsAndBytes.{cell}
 use Rattle.cell_words.specs.Words.{Holds}
 use Rattle.layouts.specs.declared.Layout.{Layout}
 use Rattle.sector_records.specs.Marks.{word_mark_at}
 use Rattle.sector_records.specs.Sectors.{has_data}
-use Rattle.finding_rules.specs.Rules.{nth, dsn}
+use Rattle.finding_rules.specs.Rules.{nth, dsn, some_sector, starts_in_data}
 use Rattle.finding_rules.specs.declared.Row.{Row}
 use Rattle.finding_list.specs.Calls.{numbers_of, most_findings}
 use Rattle.finding_list.specs.Findings.{found_by, of_kind}
 use Rattle.finding_list.specs.declared.Finding.{Finding}
 use Rattle.sector_records.specs.declared.Sector.{Sector}
-use Rattle.sector_records.specs.declared.Sectors.{Sectors}
 
 -- what DSN finds at sector i
 unfoldable pub duplicate_at : List Sector → ℕ → List Finding
@@ -41,22 +40,17 @@ pub record Clear (s : Sector) (free : ℕ) : Type 0 where
   pub before : s.place < free
   pub behind : has_data s ≡ true → (s.place ≤ s.data_place) × (s.data_end ≤ free)
 
--- the sectors that the struct keeps
-abbrev pub sectors_in : Sectors → List Sector
-sectors_in ss = take ss.count ss.all
-
--- at most 64 of them
-pub record AtMost64 (ss : Sectors) : Type 0 where
-  pub few : ss.count ≤ 64
-  pub long : length ss.all ≡ 64
-
 -- what the routines over a track's sectors ask: at most 64, each with its bounds, on a track of 20,000 to 131,072 cells
-pub record BoundedTrack (n : ℕ) (ss : Sectors) : Type 0 where
-  pub few : AtMost64 ss
-  pub near : (i : ℕ) → BoundedSector (nth (sectors_in ss) i)
-  pub within : (i : ℕ) → Within n (nth (sectors_in ss) i)
+pub record BoundedTrack (n : ℕ) (ss : List Sector) : Type 0 where
+  pub few : length ss ≤ 64
+  pub near : (i : ℕ) → BoundedSector (nth ss i)
+  pub within : (i : ℕ) → Within n (nth ss i)
   pub long : 20000 ≤ n
   pub short : n ≤ 131072
+
+-- no sector starts in the data of another
+abbrev pub AllApart : ℕ → List Sector → Type 0
+AllApart n ss = (i : ℕ) → i < length ss → some_sector (starts_in_data n (nth ss i)) ss ≡ false
 
 -- words that say of each place of a track, and of those past its end, whether a sync stands there
 abbrev pub SyncMap : Layout → List ℕ → ℕ → List ℕ → Type 0
@@ -80,5 +74,5 @@ pub record Added (before : List ℕ) (at : ℕ) (xs : List Finding) (after : Lis
   pub rest : drop (4 * next) after ≡ drop (4 * next) before
 
 -- a list of numbers, zeros at first, with the findings of the kinds before k: `at` findings in all
-abbrev pub Listed : Layout → List ℕ → (N T : ℕ) → Sectors → (k : ℕ) → List ℕ → (at : ℕ) → Type 0
-Listed layout bytes N T ss k numbers at = Added (replicate 3604 0) 0 (joined (of_kind layout (cell bytes N) N T (sectors_in ss)) k) numbers at
+abbrev pub Listed : Layout → List ℕ → (N T : ℕ) → List Sector → (k : ℕ) → List ℕ → (at : ℕ) → Type 0
+Listed layout bytes N T ss k numbers at = Added (replicate 3604 0) 0 (joined (of_kind layout (cell bytes N) N T ss) k) numbers at

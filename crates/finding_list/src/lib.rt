@@ -7,24 +7,24 @@ ghost use Rattle.basis.specs.Lists.{joined};
 ghost use Rattle.cells.specs.CellsAndBytes.{cell};
 ghost use Rattle.cell_patterns.specs.Cells.{GapsFound};
 ghost use Rattle.finding_rules.specs.Rules.{no_row, nth, starts_in_data, some_sector, sector_rows};
-ghost use Rattle.finding_list.specs.Findings.{kinds, found_by, of_kind, findings_of};
-ghost use Rattle.finding_list.specs.Calls.{survey_answer, sectors_given, array_after};
-ghost use Rattle.refusals.specs.RefusedCalls.{answer_of};
+ghost use Rattle.finding_list.specs.Findings.{found_by, findings_of};
+ghost use Rattle.finding_list.specs.Calls.{survey_answer, sectors_given, sectors_found, array_after};
+ghost use Rattle.refusals.specs.RefusedCalls.{answer_by};
 ghost use Rattle.layouts.specs.Layouts.{layout_of};
-ghost use Rattle.sector_records.specs.Maps.{TrackMaps};
 ghost use Rattle.sector_records.specs.Sectors.{sectors_of};
-ghost use Rattle.finding_list.specs.PrivateContracts.{duplicate_at, AtMost64, BoundedTrack, Within, Clear, SyncMap, Narrow, sectors_in, Added, Room, Listed};
+ghost use Rattle.finding_list.specs.PrivateContracts.{BoundedTrack, Within, Clear, SyncMap, AllApart, Narrow, Added, Room, Listed};
 
 use cell_patterns::Gaps;
 use cell_words::WORDS;
 use finding_rules::Row;
 use layouts::{Density, layout_of};
 use refusals::Refusal;
-use sector_records::{Sector, Sectors};
+use sector_records::Sector;
+use sectors::Track;
 
 // A finding (rule 7.31): its kind from 1 to 21, the kind's level, its place in cells, and its detail.
 #[repr(C)]
-#[derive(Clone, Copy)]
+#[derive(Clone, Copy, Debug)]
 pub struct Finding {
     pub kind: u8,
     pub level: u8,
@@ -32,307 +32,221 @@ pub struct Finding {
     pub detail: u32,
 }
 
-// The number of sectors, 0 beside a refusal, and the number of findings or a refusal.
-#[derive(Clone, Copy)]
+// How many sectors a track has, and how many findings.
+#[derive(Clone, Copy, Debug)]
 pub struct Found {
     pub sectors: usize,
-    pub answer: Result<usize, Refusal>,
+    pub findings: usize,
 }
 
 // The numbers of the most findings that there can be, four for each: with 64 sectors there are at most 901 (rule 7.35).
 pub const NUMBERS: usize = 3604;
 
-// Every finding of a track of n cells, packed in `bytes`, as numbers at the front of the array: kind, level, place and detail of each, and
-// zeros behind them (rules 9.18, 9.46). `track` and `side` are the drive's.
+// Every finding of a track as numbers at the front of the array: kind, level, place and detail of each, and zeros behind them (rules 9.18,
+// 9.46). Beside a refusal the array is kept.
 pub fn survey(
     density: Density,
     numbers: &mut [u32; NUMBERS],
-    bytes: &[u8],
-    n: usize,
-    track: u32,
-    side: u32,
-) -> Found
-    ensures answer { answer_of result.answer ≡ survey_answer (layout_of density) bytes.now n track side }
-    ensures sectors { result.sectors ≡ sectors_given (survey_answer (layout_of density) bytes.now n track side) (length (sectors_of (layout_of density) bytes.now n)) }
-    ensures numbers { numbers.new ≡ array_after (survey_answer (layout_of density) bytes.now n track side) (findings_of (layout_of density) bytes.now n track) numbers.old }
+    track: Track,
+) -> Result<Found, Refusal>
+    ensures answer { answer_by (λ found. found.findings) result ≡ survey_answer (layout_of density) track.entry.cells.bytes.now track.entry.cells.count track.entry.track track.entry.side }
+    ensures sectors { sectors_found result ≡ sectors_given (survey_answer (layout_of density) track.entry.cells.bytes.now track.entry.cells.count track.entry.track track.entry.side) (length (sectors_of (layout_of density) track.entry.cells.bytes.now track.entry.cells.count)) }
+    ensures numbers { numbers.new ≡ array_after (survey_answer (layout_of density) track.entry.cells.bytes.now track.entry.cells.count track.entry.track track.entry.side) (findings_of (layout_of density) track.entry.cells.bytes.now track.entry.cells.count track.entry.track) numbers.old }
 {
     let mut words = [0u64; WORDS];
     let mut syncs = [0u64; WORDS];
-    let listed = sectors::sectors_with_maps(density, bytes, n, track, side, &mut words, &mut syncs);
-    let ss = listed.sectors;
-    let answer = listed.answer;
-    match answer {
-        Err(refusal) => Found {
-            sectors: 0,
-            answer: Err(refusal),
-        },
-        Ok(sectors) => {
-            let count = all_kinds(density, numbers, bytes, n, &words, &syncs, track, ss);
-            Found {
-                sectors,
-                answer: Ok(count),
-            }
-        }
-    }
+    let listed = track.sectors_with_maps(density, &mut words, &mut syncs)?;
+    let sectors = &listed.all[..listed.count];
+    let survey = Survey {
+        density,
+        track,
+        sectors,
+        syncs: &syncs,
+        gaps: cell_patterns::find_gaps(density, &words, track.cells.count),
+        apart: are_apart(track.cells.count as u32, sectors),
+    };
+    clear(numbers);
+    Ok(Found {
+        sectors: listed.count,
+        findings: survey.all_kinds(numbers),
+    })
 }
 
-// How many kinds a track's findings have.
-const KINDS: usize = 21;
+// How many kinds look at the track's numbers, at each sector by itself, and at the gaps.
+const TRACK_RULES: usize = 5;
 
-// The index of the kind that looks for duplicated numbers, that of the first of the kinds after it, which look at each sector by itself,
-// and that of the first of those after these, which look at the whole track again.
+const SECTOR_RULES: usize = 13;
+
+const GAP_RULES: usize = 2;
+
+// The index of the kind that looks for duplicated numbers, and the first ones of those on each sector by itself and of those on the gaps.
 const DUPLICATES: usize = 5;
 
 const SECTOR_KINDS: usize = 6;
 
 const GAP_KINDS: usize = 19;
 
-// How many kinds look at each sector by itself.
-const SECTOR_RULES: usize = 13;
-
 // Among the kinds on each sector by itself: the first of those on checks and data, and the one after these, SWS.
 const DATA_RULES: usize = 6;
 
 const OVERWRITTEN: usize = 11;
 
-// All findings of a track of n cells with the sectors ss, and with the maps of its ones and syncs; how many there are.
-fn all_kinds(
+// What the rules look at: an accepted track, its sectors, the map of its syncs, and what was counted on its cells; and whether the sectors
+// are known to lie apart. The functions of the kinds add to the list what they find, after the `at` findings that are in it, and give how
+// many there are then.
+#[derive(Clone, Copy)]
+struct Survey<'a> {
     density: Density,
-    numbers: &mut [u32; NUMBERS],
-    bytes: &[u8],
-    n: usize,
-    words: &[u64; WORDS],
-    syncs: &[u64; WORDS],
-    track: u32,
-    ss: Sectors,
-) -> usize
-    requires bounded_track { BoundedTrack n ss }
-    requires track_maps { TrackMaps (layout_of density) bytes.now n words.now syncs.now }
-    ensures { Listed (layout_of density) bytes.now n track ss kinds numbers.new result }
-{
-    clear(numbers);
-    let gaps = cell_patterns::find_gaps(density, words, n);
-    let first = kinds_before(
-        density,
-        numbers,
-        bytes,
-        n,
-        track,
-        ss,
-        gaps,
-        0,
-        SECTOR_KINDS,
-        0,
-    );
-    let next = sector_kinds(density, numbers, bytes, n, syncs, track, ss, first);
-    kinds_before(
-        density, numbers, bytes, n, track, ss, gaps, GAP_KINDS, KINDS, next,
-    )
-}
-
-// The functions below are handed `bytes` for what they promise: they look at the maps and the sectors.
-
-// The kinds from `from` and before `to`, of those that do not look at each sector by itself.
-fn kinds_before(
-    density: Density,
-    numbers: &mut [u32; NUMBERS],
-    bytes: &[u8],
-    n: usize,
-    track: u32,
-    ss: Sectors,
+    track: Track<'a>,
+    sectors: &'a [Sector],
+    syncs: &'a [u64; WORDS],
     gaps: Gaps,
-    from: usize,
-    to: usize,
-    at: usize,
-) -> usize
-    requires bounded_track { BoundedTrack n ss × GapsFound (layout_of density) (cell bytes.now n) n gaps }
-    requires from_le_to { (from ≤ to) × (to ≤ kinds) × ((k : ℕ) → from ≤ k → k < to → 6 ≤ k → 19 ≤ k) × Listed (layout_of density) bytes.now n track ss from numbers.old at }
-    ensures { Listed (layout_of density) bytes.now n track ss to numbers.new result }
-{
-    let mut next = at;
-    let mut k = from;
-    while k < to {
-        next = one_kind(density, numbers, bytes, n, track, ss, gaps, k, next);
-        k += 1;
-    }
-    next
-}
-
-// The findings of one such kind.
-fn one_kind(
-    density: Density,
-    numbers: &mut [u32; NUMBERS],
-    bytes: &[u8],
-    n: usize,
-    track: u32,
-    ss: Sectors,
-    gaps: Gaps,
-    k: usize,
-    at: usize,
-) -> usize
-    requires bounded_track { BoundedTrack n ss × (6 ≤ k → 19 ≤ k) }
-    requires gaps_found { GapsFound (layout_of density) (cell bytes.now n) n gaps }
-    requires k_lt_kinds { (k < kinds) × Room numbers.old at (of_kind (layout_of density) (cell bytes.now n) n track (sectors_in ss) k) }
-    ensures { Added numbers.old at (of_kind (layout_of density) (cell bytes.now n) n track (sectors_in ss) k) numbers.new result }
-{
-    if k < DUPLICATES {
-        return put(
-            numbers,
-            at,
-            k,
-            finding_rules::track_rule(layout_of(density), k, n as u32, ss.count as u32, track),
-        );
-    }
-    if k == DUPLICATES {
-        return duplicates(numbers, ss, at);
-    }
-    put(numbers, at, k, finding_rules::gap_rule(k - GAP_KINDS, gaps))
-}
-
-// DSN: nested loops over the pairs of sectors, left by label at the first earlier sector with the same number.
-fn duplicates(numbers: &mut [u32; NUMBERS], ss: Sectors, at: usize) -> usize
-    requires { AtMost64 ss × Room numbers.old at (joined (duplicate_at (sectors_in ss)) (length (sectors_in ss))) }
-    ensures { Added numbers.old at (joined (duplicate_at (sectors_in ss)) (length (sectors_in ss))) numbers.new result }
-{
-    let count = ss.count;
-    let mut to = at;
-    let mut i: usize = 0;
-    'sectors: while i < count {
-        let s = ss.all[i];
-        let mut j: usize = 0;
-        while j < i {
-            let earlier = ss.all[j];
-            if earlier.number == s.number {
-                to = put(
-                    numbers,
-                    to,
-                    DUPLICATES,
-                    Row {
-                        holds: true,
-                        place: s.place as usize,
-                        detail: s.number as usize,
-                    },
-                );
-                i += 1;
-                continue 'sectors;
-            }
-            j += 1;
-        }
-        i += 1;
-    }
-    to
-}
-
-// The kinds on each sector by itself, 7 to 19: kind after kind, and in each sector after sector. Both run in one loop: a function for
-// each kind would get a copy of all 64 sectors, and the compiler puts `sector_rule` into the loop.
-fn sector_kinds(
-    density: Density,
-    numbers: &mut [u32; NUMBERS],
-    bytes: &[u8],
-    n: usize,
-    syncs: &[u64; WORDS],
-    track: u32,
-    ss: Sectors,
-    at: usize,
-) -> usize
-    requires bounded_track { BoundedTrack n ss × SyncMap (layout_of density) bytes.now n syncs.now }
-    requires listed { Listed (layout_of density) bytes.now n track ss 6 numbers.old at }
-    ensures { Listed (layout_of density) bytes.now n track ss 19 numbers.new result }
-{
-    let apart = are_apart(n as u32, ss);
-    let count = ss.count;
-    let mut to = at;
-    let mut k: usize = 0;
-    let mut i: usize = 0;
-    while k < SECTOR_RULES {
-        if count <= i {
-            k += 1;
-            i = 0;
-            continue;
-        }
-        let s = ss.all[i];
-        to = put(
-            numbers,
-            to,
-            SECTOR_KINDS + k,
-            sector_rule(density, bytes, n, syncs, track, ss, apart, k, s),
-        );
-        i += 1;
-    }
-    to
-}
-
-// The row of a kind on sectors at the sector s, k being its place among these kinds.
-fn sector_rule(
-    density: Density,
-    bytes: &[u8],
-    n: usize,
-    syncs: &[u64; WORDS],
-    track: u32,
-    ss: Sectors,
     apart: bool,
-    k: usize,
-    s: Sector,
-) -> Row
-    requires { BoundedTrack n ss × (k < 13) × SyncMap (layout_of density) bytes.now n syncs.now × Within n s × (apart ≡ true → some_sector (starts_in_data n s) (sectors_in ss) ≡ false) }
-    ensures { result ≡ get_or (sector_rows (layout_of density) (cell bytes.now n) n track (sectors_in ss) s) k no_row }
-{
-    if k < DATA_RULES {
-        return finding_rules::id_rule(layout_of(density), k, track, s);
-    }
-    if k < OVERWRITTEN {
-        return finding_rules::data_rule(k - DATA_RULES, n as u32, s);
-    }
-    if k == OVERWRITTEN {
-        return Row {
-            holds: overwritten(apart, n as u32, ss, s),
-            place: s.place as usize,
-            detail: s.number as usize,
-        };
-    }
-    let inside = cell_patterns::syncs_inside(density, n, syncs, s);
-    Row {
-        holds: 0 < inside,
-        place: s.place as usize,
-        detail: inside,
-    }
+    ghost bounded: { BoundedTrack track.cells.count sectors.now },
+    ghost sync_map: { SyncMap (layout_of density) track.cells.bytes.now track.cells.count syncs.now },
+    ghost gaps_found: { GapsFound (layout_of density) (cell track.cells.bytes.now track.cells.count) track.cells.count gaps },
+    ghost lie_apart: { apart ≡ true → AllApart track.cells.count sectors.now },
 }
 
-// SWS: does the sector s start in the data of another? Where the sectors are known to lie apart, none is looked at.
-fn overwritten(apart: bool, n: u32, ss: Sectors, s: Sector) -> bool
-    requires { AtMost64 ss × (apart ≡ true → some_sector (starts_in_data n s) (sectors_in ss) ≡ false) }
-    ensures { result ≡ some_sector (starts_in_data n s) (sectors_in ss) }
-{
-    if apart {
-        return false;
+impl<'a> Survey<'a> {
+    // All kinds; the list holds none yet.
+    fn all_kinds(&self, numbers: &mut [u32; NUMBERS]) -> usize
+        requires { numbers.old ≡ replicate 3604 0 }
+        ensures { Listed (layout_of self.now.density) self.now.track.cells.bytes.now self.now.track.cells.count self.now.track.track self.now.sectors.now 21 numbers.new result }
+    {
+        let track = self.track_kinds(numbers);
+        let duplicates = self.duplicates(numbers, track);
+        let sectors = self.sector_kinds(numbers, duplicates);
+        self.gap_kinds(numbers, sectors)
     }
-    let count = ss.count;
-    let mut j: usize = 0;
-    while j < count {
-        let other = ss.all[j];
-        if finding_rules::starts_in_data(n, s, other) {
-            return true;
+
+    // The kinds on the track's numbers.
+    fn track_kinds(&self, numbers: &mut [u32; NUMBERS]) -> usize
+        requires { numbers.old ≡ replicate 3604 0 }
+        ensures { Listed (layout_of self.now.density) self.now.track.cells.bytes.now self.now.track.cells.count self.now.track.track self.now.sectors.now 5 numbers.new result }
+    {
+        let cells = self.track.cells.count as u32;
+        let sectors = self.sectors.len() as u32;
+        let mut to = 0;
+        for k in 0..TRACK_RULES {
+            let row = finding_rules::track_rule(
+                layout_of(self.density),
+                k,
+                cells,
+                sectors,
+                self.track.track,
+            );
+            to = put(numbers, to, k, row);
         }
-        j += 1;
+        to
     }
-    false
+
+    // DSN: a sector with the number of an earlier one.
+    fn duplicates(&self, numbers: &mut [u32; NUMBERS], at: usize) -> usize
+        requires { Listed (layout_of self.now.density) self.now.track.cells.bytes.now self.now.track.cells.count self.now.track.track self.now.sectors.now 5 numbers.old at }
+        ensures { Listed (layout_of self.now.density) self.now.track.cells.bytes.now self.now.track.cells.count self.now.track.track self.now.sectors.now 6 numbers.new result }
+    {
+        let mut to = at;
+        for (i, s) in self.sectors.iter().enumerate() {
+            let row = Row {
+                holds: self.sectors[..i]
+                    .iter()
+                    .any(|earlier| earlier.number == s.number),
+                place: s.place as usize,
+                detail: s.number as usize,
+            };
+            to = put(numbers, to, DUPLICATES, row);
+        }
+        to
+    }
+
+    // The kinds on each sector by itself, 7 to 19: kind after kind, and in each sector after sector.
+    fn sector_kinds(&self, numbers: &mut [u32; NUMBERS], at: usize) -> usize
+        requires { Listed (layout_of self.now.density) self.now.track.cells.bytes.now self.now.track.cells.count self.now.track.track self.now.sectors.now 6 numbers.old at }
+        ensures { Listed (layout_of self.now.density) self.now.track.cells.bytes.now self.now.track.cells.count self.now.track.track self.now.sectors.now 19 numbers.new result }
+    {
+        let mut to = at;
+        for k in 0..SECTOR_RULES {
+            for s in self.sectors {
+                to = put(numbers, to, SECTOR_KINDS + k, self.sector_rule(k, *s));
+            }
+        }
+        to
+    }
+
+    // The row of a kind on sectors at one of the sectors, k being its place among these kinds.
+    fn sector_rule(&self, k: usize, s: Sector) -> Row
+        requires { (k < 13) × Within self.now.track.cells.count s × (self.now.apart ≡ true → some_sector (starts_in_data self.now.track.cells.count s) self.now.sectors.now ≡ false) }
+        ensures { result ≡ get_or (sector_rows (layout_of self.now.density) (cell self.now.track.cells.bytes.now self.now.track.cells.count) self.now.track.cells.count self.now.track.track self.now.sectors.now s) k no_row }
+    {
+        if k < DATA_RULES {
+            return finding_rules::id_rule(layout_of(self.density), k, self.track.track, s);
+        }
+        if k < OVERWRITTEN {
+            return finding_rules::data_rule(k - DATA_RULES, self.track.cells.count as u32, s);
+        }
+        if k == OVERWRITTEN {
+            return Row {
+                holds: self.is_overwritten(s),
+                place: s.place as usize,
+                detail: s.number as usize,
+            };
+        }
+        let inside = cell_patterns::syncs_inside(
+            self.density,
+            self.track.cells.count,
+            self.syncs,
+            s,
+        );
+        Row {
+            holds: 0 < inside,
+            place: s.place as usize,
+            detail: inside,
+        }
+    }
+
+    // SWS: does the sector s start in the data of another? Where the sectors are known to lie apart, none is looked at.
+    fn is_overwritten(&self, s: Sector) -> bool
+        requires { self.now.apart ≡ true → some_sector (starts_in_data self.now.track.cells.count s) self.now.sectors.now ≡ false }
+        ensures { result ≡ some_sector (starts_in_data self.now.track.cells.count s) self.now.sectors.now }
+    {
+        let n = self.track.cells.count as u32;
+        !self.apart
+            && self
+                .sectors
+                .iter()
+                .any(|other| finding_rules::starts_in_data(n, s, *other))
+    }
+
+    // The kinds on the gaps.
+    fn gap_kinds(&self, numbers: &mut [u32; NUMBERS], at: usize) -> usize
+        requires { Listed (layout_of self.now.density) self.now.track.cells.bytes.now self.now.track.cells.count self.now.track.track self.now.sectors.now 19 numbers.old at }
+        ensures { Listed (layout_of self.now.density) self.now.track.cells.bytes.now self.now.track.cells.count self.now.track.track self.now.sectors.now 21 numbers.new result }
+    {
+        let mut to = at;
+        for k in 0..GAP_RULES {
+            to = put(
+                numbers,
+                to,
+                GAP_KINDS + k,
+                finding_rules::gap_rule(k, self.gaps),
+            );
+        }
+        to
+    }
 }
 
 // Do the sectors lie one behind the other, each with its data, and all before the track's end? Then none starts in the data of another.
-fn are_apart(n: u32, ss: Sectors) -> bool
-    requires { BoundedTrack n ss }
-    ensures { result ≡ true → (i : ℕ) → i < ss.count → some_sector (starts_in_data n (nth (sectors_in ss) i)) (sectors_in ss) ≡ false }
+fn are_apart(n: u32, sectors: &[Sector]) -> bool
+    requires { BoundedTrack n sectors.now }
+    ensures { result ≡ true → AllApart n sectors.now }
 {
-    let count = ss.count;
     let mut free: u32 = 0;
-    let mut i: usize = 0;
-    while i < count {
-        let s = ss.all[i];
+    for s in sectors {
         if s.place < free {
             return false;
         }
-        free = free_after(s);
-        i += 1;
+        free = free_after(*s);
     }
     free <= n
 }

@@ -1,8 +1,7 @@
 -- What the contracts of private functions need. Assumes nothing.
-use Rattle.std.specs.Prelude.{ℕ, ◌+◌, ◌*◌, ◌%◌, List, get_or}
+use Rattle.std.specs.Prelude.{ℕ, ◌+◌, ◌*◌, ◌%◌, ◌≤◌, ◌≡◌, List, length, get_or, take}
+use Rattle.finding_list.specs.Calls.{numbers_of}
 use Rattle.finding_list.specs.declared.Finding.{Finding}
-use Rattle.refusals.specs.RefusedCalls.{Answer}
-use Rattle.refusals.specs.RefusedCalls.Answer.{gives, refused}
 
 -- finding i of those that stand in a list of numbers
 unfoldable pub finding_at : List ℕ → ℕ → Finding
@@ -14,7 +13,9 @@ finding_at numbers i =
       detail = get_or numbers (4 * i + 3) 0;
     }
 
--- how many findings an answer says are written: none beside a refusal
-abbrev pub count_written : Answer ℕ → ℕ
-count_written (gives count) = count
-count_written (refused number value) = 0
+-- the numbers of `count` findings, which are all, at the front of a list of numbers; there is room for them
+pub record Numbered (numbers : List ℕ) (count room : ℕ) (findings : List Finding) : Type 0 where
+  pub all : count ≡ length findings
+  pub front : take (4 * count) numbers ≡ numbers_of findings
+  pub few : count ≤ 901
+  pub fits : count ≤ room

@@ -1,24 +1,12 @@
 -- Section 18 of the specification, rules 18.12 and 18.14, and rule 9.64: the new track file of an old flux file, and the call that makes it. The
 -- main property: the file is judged before the room, and beside a refusal nothing is written. Assumes nothing.
-use Rattle.std.specs.Prelude.{ℕ, ◌+◌, ◌/◌, ◌%◌, cond, List, [], ◌∷◌, ◌++◌, ltb, length}
+use Rattle.std.specs.Prelude.{ℕ, ◌+◌, cond, List, ltb, length}
 use Rattle.cells.specs.CellsAndBytes.{bytes_for}
 use Rattle.refusals.specs.RefusedCalls.{Answer, buffer_after}
 use Rattle.refusals.specs.RefusedCalls.Answer.{gives, refused}
 use Rattle.separation.specs.Separation.{cells_of}
-use Rattle.track_file.specs.TrackFile.{Content, track_of, side_of}
+use Rattle.track_file.specs.TrackFile.{Content, track_of, side_of, file_with}
 use Rattle.flux_file.specs.FluxFile.{timings, flux_answer, flux_cells}
-
--- 10.2: a number in four bytes, the lowest first
-abbrev pub in_four_bytes : ℕ → List ℕ
-in_four_bytes n = n % 256 ∷ n / 256 % 256 ∷ n / 65536 % 256 ∷ n / 16777216 % 256 ∷ []
-
--- 10.1, 10.2, 10.3: a track file up to its packed cells: the place, after its count of 2, and the number of cells
-unfoldable pub front_of : (T H cells : ℕ) → List ℕ
-front_of T H cells = in_four_bytes 2 ++ (T ∷ H ∷ in_four_bytes cells)
-
--- 10.1, 18.12: the track file with these packed cells. It has no timings: its last count is 0
-unfoldable pub file_with : (T H cells : ℕ) → List ℕ → List ℕ
-file_with T H cells packed = front_of T H cells ++ (packed ++ in_four_bytes 0)
 
 -- 18.12: the new file of an old one that is accepted: the same place, and the cells that the separator makes of all timings
 unfoldable pub new_file : List ℕ → List ℕ

@@ -5,10 +5,10 @@ use Rattle.cells.specs.CellsAndBytes.{bytes_for}
 use Rattle.refusals.specs.RefusedCalls.{Answer, buffer_after}
 use Rattle.refusals.specs.RefusedCalls.Answer.{gives, refused}
 use Rattle.track_file.specs.Portions.{whole_of}
-use Rattle.track_file.specs.TrackFile.{Content}
+use Rattle.track_file.specs.TrackFile.{Content, file_with}
 use Rattle.flux_reader.specs.declared.FluxReader.{FluxReader}
 use Rattle.flux_file.specs.Portions.{reader_through, cells_through}
-use Rattle.flux_conversion.specs.Conversion.{file_with, new_file, in_room, conversion}
+use Rattle.flux_conversion.specs.Conversion.{new_file, in_room, conversion}
 use Rattle.flux_conversion.specs.Demand3.{ConversionDemand3}
 
 -- 18.8, 18.14: what is answered at the end of a file that gives this, whose cells stand in this buffer, with `room` bytes for the new file. A

@@ -1,19 +1,17 @@
 // An old flux file, written anew with the cells that the separator makes of its timings.
 #![tactic(auto)]
 
-ghost use Rattle.std.specs.Prelude.{◌≡◌, ◌+◌, ◌≤◌, length};
-ghost use Rattle.basis.specs.Lists.{written_over};
+ghost use Rattle.std.specs.Prelude.{◌≡◌, ◌≤◌, length, Ok};
 ghost use Rattle.refusals.specs.RefusedCalls.{answer_of, buffer_after};
 ghost use Rattle.track_file.specs.Portions.{read_answer};
 ghost use Rattle.flux_file.specs.Portions.{finish_answer};
-ghost use Rattle.flux_conversion.specs.Conversion.{front_of, file_with, conversion, converted};
+ghost use Rattle.flux_conversion.specs.Conversion.{conversion, converted};
 ghost use Rattle.flux_conversion.specs.Demand3.{ConversionDemand3};
 ghost use Rattle.flux_conversion.specs.Portions.{conversion_of, new_file_of, WholeConversion};
-ghost use Rattle.flux_conversion.specs.PrivateContracts.{put_at, FewCells};
 
 use flux_reader::FluxReader;
 use refusals::Refusal;
-use track_file::Read;
+use track_file::FileCells;
 
 // The most bytes that a new file has: 131,072 cells, and the three counts with the place.
 pub const MOST_BYTES: usize = 14 + track_file::ROOM;
@@ -36,67 +34,24 @@ pub fn convert(reader: FluxReader, cells: &[u8], out: &mut [u8]) -> Result<usize
     ensures out { out.new ≡ buffer_after (conversion_of (finish_answer reader) cells.now (length out.old)) (new_file_of (finish_answer reader) cells.now) out.old }
     ensures file { WholeConversion reader cells.now (answer_of result) out.old out.new }
 {
-    convert_read(flux_file::finish(reader), cells, out)
+    let read = flux_file::finish(reader)?;
+    convert_read(read, cells, out)
 }
 
 // The conversion of a file that gives this.
-fn convert_read(read: Read, cells: &[u8], out: &mut [u8]) -> Result<usize, Refusal>
-    requires { FewCells (read_answer read) }
-    ensures answer { answer_of result ≡ conversion_of (read_answer read) cells.now (length out.old) }
-    ensures out { out.new ≡ buffer_after (conversion_of (read_answer read) cells.now (length out.old)) (new_file_of (read_answer read) cells.now) out.old }
+fn convert_read(read: FileCells, cells: &[u8], out: &mut [u8]) -> Result<usize, Refusal>
+    requires { read.count ≤ 131072 }
+    ensures answer { answer_of result ≡ conversion_of (read_answer (Ok read)) cells.now (length out.old) }
+    ensures out { out.new ≡ buffer_after (conversion_of (read_answer (Ok read)) cells.now (length out.old)) (new_file_of (read_answer (Ok read)) cells.now) out.old }
 {
-    match read {
-        Read::Cells { track, side, count } => {
-            if cells.len() < track_file::ROOM {
-                return Err(Refusal::NoRoom(track_file::ROOM));
-            }
-            let bytes = (count + 7) / 8;
-            let needed = 14 + bytes;
-            if out.len() < needed {
-                return Err(Refusal::NoRoom(needed));
-            }
-            write_file(track, side, count, &cells[..bytes], out);
-            Ok(needed)
-        }
-        Read::Refused(refusal) => Err(refusal),
+    if cells.len() < track_file::ROOM {
+        return Err(Refusal::NoRoom(track_file::ROOM));
     }
-}
-
-// Puts a track file at the front of `out`: the place, the cells, and no timings.
-fn write_file(track: u8, side: u8, count: usize, cells: &[u8], out: &mut [u8])
-    requires { (length cells.now ≤ 16384) × (14 + length cells.now ≤ length out.old) }
-    ensures { out.new ≡ written_over (file_with track side count cells.now) out.old }
-{
-    let front = front_of(track, side, count);
-    let next = put(out, 0, &front);
-    let next = put(out, next, cells);
-    put(out, next, b"\0\0\0\0");
-}
-
-// The bytes of a track file before its packed cells: the place with its count, and the number of cells.
-fn front_of(track: u8, side: u8, count: usize) -> [u8; 10]
-    ensures { result ≡ front_of track side count }
-{
-    [
-        2,
-        0,
-        0,
-        0,
-        track,
-        side,
-        (count % 256) as u8,
-        (count / 256 % 256) as u8,
-        (count / 65_536 % 256) as u8,
-        (count / 16_777_216 % 256) as u8,
-    ]
-}
-
-// Writes bytes behind the first `at` of `out`; the answer is the place after them.
-fn put(out: &mut [u8], at: usize, bytes: &[u8]) -> usize
-    requires { at + length bytes.now ≤ length out.old }
-    ensures place { result ≡ at + length bytes.now }
-    ensures out { out.new ≡ put_at at bytes.now out.old }
-{
-    basis::copy(bytes, &mut out[at..]);
-    at + bytes.len()
+    let bytes = (read.count + 7) / 8;
+    let needed = 14 + bytes;
+    if out.len() < needed {
+        return Err(Refusal::NoRoom(needed));
+    }
+    track_file::write_file(read.track, read.side, read.count, &cells[..bytes], out);
+    Ok(needed)
 }

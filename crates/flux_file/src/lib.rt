@@ -11,7 +11,7 @@ ghost use Rattle.flux_file.specs.Portions.{start_of, reader_after, cells_after, 
 use file_reader::{Number, Place};
 use flux_reader::FluxReader;
 use refusals::Refusal;
-use track_file::Read;
+use track_file::FileCells;
 
 // The beginning, before any byte: the cell buffer is cleared, or refused where it has too little room (rule 18.8).
 pub fn start(cells: &mut [u8]) -> FluxReader
@@ -54,7 +54,7 @@ pub fn stopped(reader: FluxReader) -> bool
 }
 
 // The end of the file: what it gives (rule 18.10). It writes nothing: the cells stand in the buffer that the portions were fed with.
-pub fn finish(reader: FluxReader) -> Read
+pub fn finish(reader: FluxReader) -> Result<FileCells, Refusal>
     ensures answer { read_answer result ≡ finish_answer reader }
     ensures file { WholeFluxFile reader (read_answer result) }
 {
@@ -62,35 +62,31 @@ pub fn finish(reader: FluxReader) -> Read
 }
 
 // What the end of the file gives. A file that ends anywhere else is short.
-fn given(reader: FluxReader) -> Read
+fn given(reader: FluxReader) -> Result<FileCells, Refusal>
     ensures { read_answer result ≡ finish_answer reader }
 {
     match reader {
         FluxReader::AllTimings(place, taken) => {
             given_cells(place, taken_timings::count_taken(taken))
         }
-        FluxReader::Stopped(refusal) => Read::Refused(refusal),
-        _ => Read::Refused(Refusal::NotATrackFile),
+        FluxReader::Stopped(refusal) => Err(refusal),
+        _ => Err(Refusal::NotATrackFile),
     }
 }
 
 // What so many cells give. A track file without cells has no meaning, so none are refused.
-fn given_cells(place: Place, counted: Result<usize, Refusal>) -> Read
+fn given_cells(place: Place, counted: Result<usize, Refusal>) -> Result<FileCells, Refusal>
     ensures { read_answer result ≡ placed place.track place.side (some_cells (answer_of counted)) }
 {
-    match counted {
-        Ok(count) => {
-            if count == 0 {
-                return Read::Refused(Refusal::CellCount(0));
-            }
-            Read::Cells {
-                track: place.track,
-                side: place.side,
-                count,
-            }
-        }
-        Err(refusal) => Read::Refused(refusal),
+    let count = counted?;
+    if count == 0 {
+        return Err(Refusal::CellCount(0));
     }
+    Ok(FileCells {
+        track: place.track,
+        side: place.side,
+        count,
+    })
 }
 
 // How far a portion is fed, and the reader there.
@@ -122,7 +118,12 @@ fn feed_timings(reader: FluxReader, portion: &[u8], from: usize, cells: &mut [u8
         if left <= 1 {
             break;
         }
-        let timing = basis::four_bytes(portion[i], portion[i + 1], portion[i + 2], portion[i + 3]);
+        let timing = u32::from_le_bytes([
+            portion[i],
+            portion[i + 1],
+            portion[i + 2],
+            portion[i + 3],
+        ]);
         taken = taken_timings::take_timing(taken, timing, cells);
         left -= 1;
         i += 4;

@@ -32,15 +32,13 @@ pub fn read_all<R: Read>(
     ensures { ReadThrough reader cells.old result cells.new }
 {
     let mut at = reader;
-    let mut turns = u64::MAX;
-    while 0 < turns {
+    for _ in 0..u64::MAX {
         let input = read_portion(from, at, portion, cells);
         match input {
             Input::Open(next) => at = next,
             Input::Ended(last) => return Input::Ended(last),
             Input::Failed => return Input::Failed,
         }
-        turns -= 1;
     }
     Input::Open(at)
 }

@@ -1,9 +1,9 @@
 -- Section 18 of the specification: the old flux file as its bytes come: what one byte does to the reader and to the cell buffer. The main
 -- property: the reader keeps the section it is in and the counts, and no timings and no file (rule 18.9). Assumes nothing.
-use Rattle.std.specs.Prelude.{ℕ, ◌-◌, cond, List, eqb, ltb}
+use Rattle.std.specs.Prelude.{ℕ, ◌-◌, cond, List, eqb, ltb, Result}
 use Rattle.refusals.specs.declared.Refusal.TheVariants.{TooManyTimings, NotATrackFile as NoTrackFile}
 use Rattle.taken_timings.specs.Timings.{none_taken, taken_after, taken_cells}
-use Rattle.taken_timings.specs.declared.TakenTimings.{TakenTimings}
+use Rattle.taken_timings.specs.declared.Taken.{Taken}
 use Rattle.file_reader.specs.Bytes.{number_after}
 use Rattle.file_reader.specs.declared.Place.{Place}
 use Rattle.file_reader.specs.declared.Number.TheVariants.{Empty}
@@ -26,7 +26,7 @@ after_flux_count place count =
     cond (ltb 65536 count) (Stopped (TooManyTimings count)) (cond (eqb count 0) NotATrackFile (Timings place count Empty none_taken))
 
 -- 18.1: after a timing, the first of `left`, comes the next, or the file is whole
-unfoldable pub after_timing : Place → ℕ → TakenTimings → FluxReader
+unfoldable pub after_timing : Place → ℕ → Result Taken ℕ → FluxReader
 after_timing place left taken = cond (ltb 1 left) (Timings place (left - 1) Empty taken) (AllTimings place taken)
 
 -- 18.2: the reader after a byte of a count or of a timing. Nothing is judged before all four are there
@@ -42,7 +42,7 @@ unfoldable pub in_flux_count : Place → Extended → FluxReader
 in_flux_count place (Part number) = FluxCount place number
 in_flux_count place (Whole count) = after_flux_count place count
 
-unfoldable pub in_timing : Place → ℕ → TakenTimings → Extended → FluxReader
+unfoldable pub in_timing : Place → ℕ → Result Taken ℕ → Extended → FluxReader
 in_timing place left taken (Part number) = Timings place left number taken
 in_timing place left taken (Whole t) = after_timing place left (taken_after taken t)
 
@@ -60,7 +60,7 @@ reader_after_byte NotATrackFile byte = NotATrackFile
 reader_after_byte (Stopped refusal) byte = Stopped refusal
 
 -- 18.9: the buffer after a byte of a timing: its cells are put with its last byte
-unfoldable pub in_timing_cells : TakenTimings → Extended → List ℕ → List ℕ
+unfoldable pub in_timing_cells : Result Taken ℕ → Extended → List ℕ → List ℕ
 in_timing_cells taken (Part number) buffer = buffer
 in_timing_cells taken (Whole t) buffer = taken_cells taken t buffer
 

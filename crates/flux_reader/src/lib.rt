@@ -6,7 +6,7 @@ ghost use Rattle.flux_reader.specs.Bytes.{after_place_count, after_cell_count, a
 
 use file_reader::{Extended, Number, Place};
 use refusals::Refusal;
-use taken_timings::TakenTimings;
+use taken_timings::Taken;
 
 // Where the reading of an old flux file stands, with what the sections before have brought.
 #[derive(Clone, Copy)]
@@ -17,8 +17,8 @@ pub enum FluxReader {
     CellCount(Place, Number),
     FluxCount(Place, Number),
     // How many timings are still to come.
-    Timings(Place, u32, Number, TakenTimings),
-    AllTimings(Place, TakenTimings),
+    Timings(Place, u32, Number, Result<Taken, usize>),
+    AllTimings(Place, Result<Taken, usize>),
     // 15, where it is judged over the whole file: more bytes may come, and none changes it.
     NotATrackFile,
     // A refusal that is given at once, or too little room.
@@ -89,7 +89,7 @@ fn in_flux_count(place: Place, extended: Extended) -> FluxReader
 fn in_timing(
     place: Place,
     left: u32,
-    taken: TakenTimings,
+    taken: Result<Taken, usize>,
     extended: Extended,
     cells: &mut [u8],
 ) -> FluxReader
@@ -141,7 +141,7 @@ fn after_flux_count(place: Place, timings: u32) -> FluxReader
 }
 
 // After a timing, with the timings taken, where `left` were to come with it.
-fn after_timing(place: Place, left: u32, taken: TakenTimings) -> FluxReader
+fn after_timing(place: Place, left: u32, taken: Result<Taken, usize>) -> FluxReader
     ensures { result ≡ after_timing place left taken }
 {
     if 1 < left {

@@ -14,23 +14,23 @@ module _ (ts : List ℕ) (i : ℕ) (h : i < length ts) where
   pub rest-is : drop i ts ≡ get_or ts i 0 ∷ drop (i + 1) ts
   rest-is = rw (add-one, drop-cons ts i 0)
 
-  pub out-here : in_range (get_or ts i 0) ≡ false → first_out (drop i ts) ≡ 0
+  pub out_here : in_range (get_or ts i 0) ≡ false → first_out (drop i ts) ≡ 0
   unfolding first_out
-  out-here e = rw (rest-is, e)
+  out_here e = rw (rest-is, e)
 
-  pub out-later : in_range (get_or ts i 0) ≡ true → first_out (drop i ts) ≡ suc (first_out (drop (i + 1) ts))
+  pub out_later : in_range (get_or ts i 0) ≡ true → first_out (drop i ts) ≡ suc (first_out (drop (i + 1) ts))
   unfolding first_out
-  out-later e = rw (rest-is, e)
+  out_later e = rw (rest-is, e)
 
 -- one timing more: x tells of all before it, y of this one
-pub all-later : (ts : List ℕ) (i : ℕ) (x y : Bool) → (x ≡ true → first_out ts ≡ i + first_out (drop i ts)) → i < length ts
+pub all_later : (ts : List ℕ) (i : ℕ) (x y : Bool) → (x ≡ true → first_out ts ≡ i + first_out (drop i ts)) → i < length ts
     → y ≡ in_range (get_or ts i 0) → x && y ≡ true → first_out ts ≡ i + 1 + first_out (drop (i + 1) ts)
-all-later ts i true y before h is e = omega (arith, before refl, out-later ts i h (sym is ∙ e))
-all-later ts i false y before h is e = let z : ◌≡◌ {A = ℕ} 0 1 = cc in absurd (omega arith)
+all_later ts i true y before h is e = omega (arith, before refl, out_later ts i h (sym is ∙ e))
+all_later ts i false y before h is e = let z : ◌≡◌ {A = ℕ} 0 1 = cc in absurd (omega arith)
 
-pub out-end : (ts : List ℕ) (i : ℕ) → length ts ≤ i → first_out (drop i ts) ≡ 0
+pub out_end : (ts : List ℕ) (i : ℕ) → length ts ≤ i → first_out (drop i ts) ≡ 0
 unfolding first_out
-out-end ts i h = rw (drop_of_length-le ts h)
+out_end ts i h = rw (drop_of_length-le ts h)
 
 pub out_within : (ts : List ℕ) → first_out ts ≤ length ts
 unfolding first_out

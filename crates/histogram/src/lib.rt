@@ -1,41 +1,27 @@
 // The histogram of timings.
 #![tactic(auto)]
 
-ghost use Rattle.std.specs.Prelude.{◌≡◌, min, ◌≤◌, length, replicate};
-ghost use Rattle.histogram.specs.Histogram.{bin_of, counts_of, counting, counts_after, sum_after, sum_of};
-ghost use Rattle.refusals.specs.RefusedCalls.{answer_of};
-ghost use Rattle.refusals.specs.declared.Counted.{Counted};
+ghost use Rattle.std.specs.Prelude.{◌≡◌, ◌≤◌, length};
+ghost use Rattle.refusals.specs.RefusedCalls.{answer_by};
+ghost use Rattle.histogram.specs.Histogram.{bin_of, counts_of, counting, counts_given, counts_after, sum_after, sum_of};
 
-use flux_timings::{MOST_TIMINGS, first_out};
 use refusals::Refusal;
 
-// A histogram: 256 counts, all zeros beside a refusal, and what the call answers.
-#[derive(Clone, Copy)]
+// A histogram: 256 counts, and the number of timings.
+#[derive(Clone, Copy, Debug)]
 pub struct Histogram {
     pub counts: [u32; 256],
-    pub answer: Result<usize, Refusal>,
+    pub timings: usize,
 }
 
 // The last count is of all timings from here up, in nanoseconds.
 const LAST_COUNT_FROM: u32 = 25_500;
 
-// A timing, shortened to the least of the last count where it is longer.
-fn shortened(timing: u32) -> u32
-    ensures { result ≡ min timing 25500 }
-{
-    if timing < LAST_COUNT_FROM {
-        timing
-    } else {
-        LAST_COUNT_FROM
-    }
-}
-
 // The count that a timing belongs to. What is divided is small: that is less work than to divide first and to test the result.
 fn bin(timing: u32) -> usize
     ensures { result ≡ bin_of timing }
 {
-    let short = shortened(timing);
-    (short / 100) as usize
+    (timing.min(LAST_COUNT_FROM) / 100) as usize
 }
 
 // The counts of the timings.
@@ -44,46 +30,21 @@ fn counts_of(timings: &[u32]) -> [u32; 256]
     ensures { result ≡ counts_of timings.now }
 {
     let mut counts = [0u32; 256];
-    let mut i: usize = 0;
-    while i < timings.len() {
-        let bin = bin(timings[i]);
-        counts[bin] += 1;
-        i += 1;
+    for timing in timings {
+        counts[bin(*timing)] += 1;
     }
     counts
 }
 
-// A count table beside a refusal: all zeros.
-fn refused(refusal: Refusal) -> Histogram
-    ensures answer { result.answer ≡ Counted.Refused refusal }
-    ensures counts { result.counts ≡ replicate 256 0 }
-{
-    Histogram {
-        counts: [0u32; 256],
-        answer: Err(refusal),
-    }
-}
-
 // Histogram: how many timings are 0 to 99 ns, 100 to 199 ns, and so on; the last count is of all from 25,500 ns up.
-pub fn histogram_of(timings: &[u32]) -> Histogram
-    ensures answer { answer_of result.answer ≡ counting timings.now }
-    ensures counts { result.counts ≡ counts_after (counting timings.now) timings.now }
-    ensures sum { sum_of result.counts ≡ sum_after (counting timings.now) timings.now }
+pub fn histogram_of(timings: &[u32]) -> Result<Histogram, Refusal>
+    ensures answer { answer_by (λ h. h.timings) result ≡ counting timings.now }
+    ensures counts { counts_given result ≡ counts_after (counting timings.now) timings.now }
+    ensures sum { sum_of (counts_given result) ≡ sum_after (counting timings.now) timings.now }
 {
-    let given = timings.len();
-    if given == 0 {
-        return refused(Refusal::NoTimings);
-    }
-    if MOST_TIMINGS < given {
-        return refused(Refusal::TooManyTimings(given));
-    }
-    let out = first_out(timings);
-    if out < given {
-        return refused(Refusal::TimingOutOfRange(out));
-    }
-    let counts = counts_of(timings);
-    Histogram {
-        counts: counts,
-        answer: Ok(given),
-    }
+    flux_timings::judge(timings)?;
+    Ok(Histogram {
+        counts: counts_of(timings),
+        timings: timings.len(),
+    })
 }

@@ -1,15 +1,16 @@
 -- The digits of a number. Assumes nothing.
-use Prim.Native.Nat.{ℕ, zero, suc, ◌+◌, ◌*◌, ◌/◌, ◌≤◌, ◌<◌}
-use mathlib.Core.Path.{◌≡◌, refl, ap, ◌∙◌}
+use Prim.Native.Nat.{ℕ, zero, suc, ◌*◌, ◌/◌, ◌%◌, ◌≤◌, ◌<◌}
+use native.Mathlib.Decide.{dec_le}
+use Rattle.std.specs.Fmt.{decimal}
+use Rattle.std.proofs.lemmas.Fmt.{decimal_digit, decimal_step}
+use mathlib.Core.Path.{◌≡◌, refl, sym, ap, ◌∙◌}
 use mathlib.Core.Bool.{Bool, true, false, cond}
 use mathlib.Core.List.{List, [], ◌∷◌, ◌++◌}
 use native.Mathlib.Omega.{arith}
 use borrow.Author.Tests.{lt-ltb, le-ltb, ltb-true, ltb-false}
 use lib.Dec.{ltb}
 use lib.ListN.{length, length-append}
-use Rattle.lines.specs.Lines.{digit, digits_within, decimal_of, two_digits}
-use Rattle.lines.specs.Writing.{Wrote}
-use Rattle.lines.proofs.Writing.{◌then◌}
+use Rattle.lines.specs.Lines.{digit, digits_within, decimal_of}
 
 -- any number of digits that is enough gives the same
 enough : (k j n : ℕ) → n ≤ k → n ≤ j → digits_within (suc k) n ≡ digits_within (suc j) n
@@ -57,29 +58,17 @@ decimal-within (suc k) n h = go (ltb n 10) refl (decimal-within k (n / 10))
 pub decimal-short : (n : ℕ) → n < 0x1_0000_0000 → length (decimal_of n) ≤ 10
 decimal-short n h = decimal-within 9 n (omega arith)
 
--- a number's digits, written
-pub wrote-small : {a b : List ℕ} {i j : ℕ} (n d : ℕ) → Wrote a i (d ∷ []) 1 b j → d ≡ digit n → n < 10 → Wrote a i (decimal_of n) 10 b j
-wrote-small n d w e h =
-    let made : d ∷ [] ≡ decimal_of n = rw (e, decimal-small n h) in
-    rw (← made) record { bytes = w.bytes; place = w.place; few = omega (arith, w.few) }
+-- what std and its libraries write
+decimal_below : (k n : ℕ) → n < k → n < 0x1_0000_0000 → decimal_of n ≡ decimal n
+unfolding digit
+decimal_below zero n h fits = absurd (omega arith)
+decimal_below (suc k) n h fits = go (dec_le 10 n) (decimal_below k (n / 10))
+  where
+    go : Dec (10 ≤ n) → (n / 10 < k → n / 10 < 0x1_0000_0000 → decimal_of (n / 10) ≡ decimal (n / 10)) → decimal_of n ≡ decimal n
+    go (yes g) before = decimal-more n g ∙ ap (λ (l : List ℕ). l ++ (digit n ∷ [])) (before (omega arith) (omega arith)) ∙ sym (decimal_step n g (omega arith))
+    go (no g) before =
+        let e : n % 10 ≡ n = omega arith in
+        decimal-small n (omega arith) ∙ rw e (sym (decimal_digit n (omega arith)))
 
-pub wrote-more : {a b c : List ℕ} {i j k : ℕ} (n d : ℕ) → Wrote a i (decimal_of (n / 10)) 10 b j → Wrote b j (d ∷ []) 1 c k → d ≡ digit n
-    → 10 ≤ n → n < 0x1_0000_0000 → Wrote a i (decimal_of n) 10 c k
-wrote-more n d first second e h fits =
-    let both = first then second in
-    let made : decimal_of (n / 10) ++ (d ∷ []) ≡ decimal_of n = rw (e, decimal-more n h) in
-    record {
-      bytes = rw made at both.bytes;
-      place = rw made at both.place;
-      few = decimal-short n fits;
-    }
-
--- before the last digit of a number of 32 bits there are at most nine
-pub before_last : {a b : List ℕ} {i j : ℕ} (n : ℕ) → Wrote a i (decimal_of (n / 10)) 10 b j → n < 0x1_0000_0000 → j ≤ i + 9
-before_last n w fits = omega (arith, w.place, decimal-within 8 (n / 10) (omega arith))
-
--- two digits, written
-pub wrote-two : {a b c : List ℕ} {i j k : ℕ} (n d e : ℕ) → Wrote a i (d ∷ []) 1 b j → Wrote b j (e ∷ []) 1 c k → d ≡ digit (n / 10) → e ≡ digit n
-    → Wrote a i (two_digits n) 2 c k
-unfolding two_digits
-wrote-two n d e first second p q = rw (← p, ← q) (first then second)
+pub decimal_is : (n : ℕ) → n < 0x1_0000_0000 → decimal_of n ≡ decimal n
+decimal_is n fits = decimal_below (suc n) n (omega arith) fits

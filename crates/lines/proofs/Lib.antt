@@ -1,4 +1,5 @@
+pub mod Writing
+pub mod Steps
 pub mod Digits
 pub mod Lengths
 pub mod Names
-pub mod Writing

@@ -5,6 +5,9 @@
 ghost use Rattle.std.specs.Prelude.{◌≡◌, ◌∷◌, [], ◌++◌, ◌+◌, ◌<◌, ◌≤◌, length};
 ghost use Rattle.lines.specs.Lines.{digit, decimal_of, two_digits, name_of, header_of, finding_line, refused_line, out_after};
 ghost use Rattle.lines.specs.Writing.{Wrote};
+ghost use Rattle.lines.specs.PrivateContracts.{WroteOn};
+
+use itoa::Buffer;
 
 // The header line.
 pub fn header(
@@ -18,13 +21,15 @@ pub fn header(
     ensures answer { result ≡ length (header_of track side cells sectors findings) }
     ensures out { out.new ≡ out_after (header_of track side cells sectors findings) out.old }
 {
-    let next = write_byte(out, 0, b'T');
-    let next = write_two_digits(out, next, track);
-    let next = write_field(out, next, b" H", side);
-    let next = write_field(out, next, b" cells ", cells);
-    let next = write_field(out, next, b" sectors ", sectors);
-    let next = write_field(out, next, b" findings ", findings);
-    write_byte(out, next, b'\n')
+    let mut line = Line { out, at: 0 };
+    line.byte(b'T');
+    line.two_digits(track);
+    line.field(b" H", side);
+    line.field(b" cells ", cells);
+    line.field(b" sectors ", sectors);
+    line.field(b" findings ", findings);
+    line.byte(b'\n');
+    line.at
 }
 
 // The line of a finding, without anything before it. A number that is no kind has no name.
@@ -32,7 +37,7 @@ pub fn finding_line(out: &mut [u8], kind: u32, level: u32, place: u32, detail: u
     ensures answer { result ≡ length (finding_line kind level place detail) }
     ensures out { out.new ≡ out_after (finding_line kind level place detail) out.old }
 {
-    write_line(out, 0, kind, level, place, detail)
+    finding_line_at(out, 0, kind, level, place, detail)
 }
 
 // The line of a finding, from place `at` on; the answer is the place after it. A place of 32 bits leaves room in every sum.
@@ -46,7 +51,18 @@ pub fn finding_line_at(
 ) -> usize
     ensures { Wrote out.old at (finding_line kind level place detail) 67 out.new result }
 {
-    write_line(out, at as usize, kind, level, place, detail)
+    let mut line = Line {
+        out,
+        at: at as usize,
+    };
+    line.number(kind);
+    line.byte(b' ');
+    line.name(kind);
+    line.field(b" level ", level);
+    line.field(b" place ", place);
+    line.field(b" detail ", detail);
+    line.byte(b'\n');
+    line.at
 }
 
 // The line of a refusal's number.
@@ -54,8 +70,10 @@ pub fn refused_line(out: &mut [u8], number: u32) -> usize
     ensures answer { result ≡ length (refused_line number) }
     ensures out { out.new ≡ out_after (refused_line number) out.old }
 {
-    let next = write_field(out, 0, b"refused ", number);
-    write_byte(out, next, b'\n')
+    let mut line = Line { out, at: 0 };
+    line.field(b"refused ", number);
+    line.byte(b'\n');
+    line.at
 }
 
 // A track in two digits, without anything before or after them; of a number above 99, the last two.
@@ -63,106 +81,91 @@ pub fn two_digits(out: &mut [u8], track: u32) -> usize
     ensures answer { result ≡ 2 }
     ensures out { out.new ≡ out_after (two_digits track) out.old }
 {
-    write_two_digits(out, 0, track)
+    let mut line = Line { out, at: 0 };
+    line.two_digits(track);
+    line.at
 }
 
-// The names of the kinds, from kind 1 on, each with a space after it.
-const NAMES: [u8; 88] =
-    *b"LGT SHT NOS TNF EXT DSN ISN ITN IIF SSZ NSI NSD SBI SND SBD DOI DBI SWS SID MTV NFA FZD ";
+// The names of the kinds, from kind 1 on.
+const NAMES: [[u8; 3]; 22] = [
+    *b"LGT", *b"SHT", *b"NOS", *b"TNF", *b"EXT", *b"DSN", *b"ISN", *b"ITN", *b"IIF", *b"SSZ",
+    *b"NSI", *b"NSD", *b"SBI", *b"SND", *b"SBD", *b"DOI", *b"DBI", *b"SWS", *b"SID", *b"MTV",
+    *b"NFA", *b"FZD",
+];
 
-// The functions below write from place `at` on and answer the place after what they wrote. No place passes 33 bits, so
-// that no sum can overflow.
-
-// The line of a finding.
-fn write_line(out: &mut [u8], at: usize, kind: u32, level: u32, place: u32, detail: u32) -> usize
-    requires { at + 67 ≤ 0x1_FFFF_FFFF }
-    ensures { Wrote out.old at (finding_line kind level place detail) 67 out.new result }
-{
-    let next = write_decimal(out, at, kind);
-    let next = write_byte(out, next, b' ');
-    let next = write_name(out, next, kind);
-    let next = write_field(out, next, b" level ", level);
-    let next = write_field(out, next, b" place ", place);
-    let next = write_field(out, next, b" detail ", detail);
-    write_byte(out, next, b'\n')
+// A lent buffer, and the place in it that is written next. What there is no room for is only counted. No place passes 33 bits, so that no sum
+// can overflow.
+#[derive(Drop)]
+struct Line<'a> {
+    out: &'a mut [u8],
+    at: usize,
 }
 
-// A kind's name: three letters, or none for a number that is no kind.
-fn write_name(out: &mut [u8], at: usize, kind: u32) -> usize
-    requires { at + 3 ≤ 0x1_FFFF_FFFF }
-    ensures { Wrote out.old at (name_of kind) 3 out.new result }
-{
-    if kind < 1 {
-        return at;
+impl<'a> Line<'a> {
+    // A kind's name: three letters, or none for a number that is no kind.
+    fn name(&mut self, kind: u32)
+        requires { self.old.at + 3 ≤ 0x1_FFFF_FFFF }
+        ensures { WroteOn self.old self.new (name_of kind) 3 }
+    {
+        if kind < 1 || kind > 22 {
+            return;
+        }
+        self.word(&NAMES[kind as usize - 1]);
     }
-    if kind > 22 {
-        return at;
+
+    // A word and a number.
+    fn field(&mut self, bytes: &[u8], n: u32)
+        requires { self.old.at + (length bytes.now + 10) ≤ 0x1_FFFF_FFFF }
+        ensures { WroteOn self.old self.new (bytes.now ++ decimal_of n) (length bytes.now + 10) }
+    {
+        self.word(bytes);
+        self.number(n);
     }
-    let names: &[u8] = &NAMES;
-    let i = 4 * (kind as usize - 1);
-    write_word(out, at, &names[i..i + 3])
-}
 
-// A word and a number.
-fn write_field(out: &mut [u8], at: usize, bytes: &[u8], n: u32) -> usize
-    requires { at + (length bytes.now + 10) ≤ 0x1_FFFF_FFFF }
-    ensures { Wrote out.old at (bytes.now ++ decimal_of n) (length bytes.now + 10) out.new result }
-{
-    let next = write_word(out, at, bytes);
-    write_decimal(out, next, n)
-}
+    // The last two digits of a number.
+    fn two_digits(&mut self, n: u32)
+        requires { self.old.at + 2 ≤ 0x1_FFFF_FFFF }
+        ensures { WroteOn self.old self.new (two_digits n) 2 }
+    {
+        self.byte(last_digit(n / 10));
+        self.byte(last_digit(n));
+    }
 
-// The last two digits of a number.
-fn write_two_digits(out: &mut [u8], at: usize, n: u32) -> usize
-    requires { at + 2 ≤ 0x1_FFFF_FFFF }
-    ensures { Wrote out.old at (two_digits n) 2 out.new result }
-{
-    let next = write_byte(out, at, last_digit(n / 10));
-    write_byte(out, next, last_digit(n))
-}
+    // A number in decimal.
+    fn number(&mut self, n: u32)
+        requires { self.old.at + 10 ≤ 0x1_FFFF_FFFF }
+        ensures { WroteOn self.old self.new (decimal_of n) 10 }
+    {
+        let mut buffer = Buffer::new();
+        self.word(buffer.format(n).as_bytes());
+    }
 
-// A number in decimal.
-fn write_decimal(out: &mut [u8], at: usize, n: u32) -> usize
-    requires { at + 10 ≤ 0x1_FFFF_FFFF }
-    ensures { Wrote out.old at (decimal_of n) 10 out.new result }
-{
-    if n < 10 {
-        write_byte(out, at, last_digit(n))
-    } else {
-        let next = write_decimal(out, at, n / 10);
-        write_byte(out, next, last_digit(n))
+    // The bytes of a word.
+    fn word(&mut self, bytes: &[u8])
+        requires { self.old.at + length bytes.now ≤ 0x1_FFFF_FFFF }
+        ensures { WroteOn self.old self.new bytes.now (length bytes.now) }
+    {
+        for byte in bytes {
+            self.byte(*byte);
+        }
+    }
+
+    // A byte, where there is room for it.
+    fn byte(&mut self, byte: u8)
+        requires { self.old.at < 0x1_FFFF_FFFF }
+        ensures { WroteOn self.old self.new (byte ∷ []) 1 }
+    {
+        if self.at < self.out.len() {
+            self.out[self.at] = byte;
+        }
+        self.at += 1;
     }
 }
 
 // The last decimal digit of a number, as a character.
+#[tactic(auto, unfolding(crate::specs::Lines::digit))]
 fn last_digit(n: u32) -> u8
     ensures { result ≡ digit n }
 {
     b'0' + (n % 10) as u8
-}
-
-// The bytes of a word.
-fn write_word(out: &mut [u8], at: usize, bytes: &[u8]) -> usize
-    requires { at + length bytes.now ≤ 0x1_FFFF_FFFF }
-    ensures { Wrote out.old at bytes.now (length bytes.now) out.new result }
-{
-    let mut next = at;
-    let mut i: usize = 0;
-    while i < bytes.len() {
-        next = write_byte(out, next, bytes[i]);
-        i += 1;
-    }
-    next
-}
-
-// A byte, where there is room for it.
-fn write_byte(out: &mut [u8], at: usize, byte: u8) -> usize
-    requires { at < 0x1_FFFF_FFFF }
-    ensures { Wrote out.old at (byte ∷ []) 1 out.new result }
-{
-    if at < out.len() {
-        out[at] = byte;
-        return at + 1;
-    }
-    at + 1
 }

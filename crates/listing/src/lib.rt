@@ -9,23 +9,28 @@ ghost use Rattle.lines.specs.Writing.{Wrote};
 ghost use Rattle.listing.specs.Listing.{listing_of};
 ghost use Rattle.listing.specs.PrivateContracts.{line_at};
 
-use refusals::Refusal;
+use findings::Density;
+use sectors::Track;
 
-// The whole listing of a track of n cells, packed in `bytes`; `track` and `side` are the drive's. A buffer of 65,536 bytes holds any.
-pub fn list_track(bytes: &[u8], n: usize, track: u32, side: u32, out: &mut [u8]) -> usize
-    ensures answer { result ≡ length (listing_of bytes.now n track side) }
+// The whole listing of a track of double density. A buffer of 65,536 bytes holds any.
+pub fn list_track(track: Track, out: &mut [u8]) -> usize
+    ensures answer { result ≡ length (listing_of track.entry.cells.bytes.now track.entry.cells.count track.entry.track track.entry.side) }
     ensures few { result ≤ 65536 }
-    ensures out { out.new ≡ out_after (listing_of bytes.now n track side) out.old }
+    ensures out { out.new ≡ out_after (listing_of track.entry.cells.bytes.now track.entry.cells.count track.entry.track track.entry.side) out.old }
 {
-    let mut numbers: [u32; NUMBERS] = [0; NUMBERS];
-    let found = findings::findings_as_numbers(bytes, n, track, side, &mut numbers);
-    let answer = found.answer;
-    match answer {
-        Err(refusal) => { lines::refused_line(out, refusal.number()) }
-        Ok(count) => {
-            let sectors = found.sectors as u32;
-            let at = lines::header(out, track, side, n as u32, sectors, count as u32);
-            write_lines(out, at, &numbers, count)
+    let mut numbers = [0; NUMBERS];
+    match findings::findings_as_numbers(Density::Double, track, &mut numbers) {
+        Err(refusal) => lines::refused_line(out, refusal.number()),
+        Ok(found) => {
+            let at = lines::header(
+                out,
+                track.track,
+                track.side,
+                track.cells.count as u32,
+                found.sectors as u32,
+                found.findings as u32,
+            );
+            write_lines(out, at, &numbers, found.findings)
         }
     }
 }
@@ -39,9 +44,8 @@ fn write_lines(out: &mut [u8], at: usize, numbers: &[u32; NUMBERS], count: usize
     ensures { Wrote out.old at (joined (line_at numbers.now) count) (67 * count) out.new result }
 {
     let mut next = at;
-    let mut index: usize = 0;
-    while index < count {
-        let k = 4 * index;
+    for i in 0..count {
+        let k = 4 * i;
         next = lines::finding_line_at(
             out,
             next as u32,
@@ -50,7 +54,6 @@ fn write_lines(out: &mut [u8], at: usize, numbers: &[u32; NUMBERS], count: usize
             numbers[k + 2],
             numbers[k + 3],
         );
-        index += 1;
     }
     next
 }

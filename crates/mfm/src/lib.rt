@@ -12,6 +12,7 @@ ghost use Rattle.mfm.specs.PrivateContracts.{coded_by};
 ghost use Rattle.mfm.specs.Table.{cell_table, entry_of};
 ghost use Rattle.mfm.specs.Calls.{coding_answer, decoding_answer, encoded_after, decoded_after};
 
+use cells::Cells;
 use refusals::Refusal;
 use table::CELLS;
 
@@ -78,11 +79,11 @@ pub fn cell_table() -> [u16; 512]
 }
 
 // The byte whose sixteen cells start at p of a track of n cells, counted on past n: its data cells.
-pub fn byte_on(bytes: &[u8], n: usize, p: usize) -> u8
-    ensures { result ≡ byte_on (cell bytes.now n) p }
+pub fn byte_on(cells: Cells, p: usize) -> u8
+    ensures { result ≡ byte_on (cell cells.entry.bytes.now cells.entry.count) p }
 {
-    let cells = sixteen_cells(bytes, n, p);
-    nibble((cells / 256) as u8) * 16 + nibble((cells % 256) as u8)
+    let word = sixteen_cells(cells, p);
+    nibble((word / 256) as u8) * 16 + nibble((word % 256) as u8)
 }
 
 // The 32 data cells of 64 cells, as a number: every second cell, moved together twice as many at a time.
@@ -145,25 +146,22 @@ fn write_bytes(cells: &[u8], bytes: &mut [u8])
 }
 
 // The sixteen cells from p, as a number: out of three bytes where they lie before the track's end, else cell by cell.
-fn sixteen_cells(bytes: &[u8], n: usize, p: usize) -> u64
-    ensures { (result ≡ word (cell bytes.now n) 16 p) × (result < 65536) }
+fn sixteen_cells(cells: Cells, p: usize) -> u64
+    ensures { (result ≡ word (cell cells.entry.bytes.now cells.entry.count) 16 p) × (result < 65536) }
 {
+    let bytes = cells.bytes;
     let k = p / 8;
-    if p < n {
-        if 16 <= n - p {
+    if p < cells.count {
+        if 16 <= cells.count - p {
             if k + 2 < bytes.len() {
-                let three = wide(bytes[k]) * 65536 + wide(bytes[k + 1]) * 256 + wide(bytes[k + 2]);
+                let three = u64::from(bytes[k]) * 65536
+                    + u64::from(bytes[k + 1]) * 256
+                    + u64::from(bytes[k + 2]);
                 return (three >> (8 - p % 8)) % 65536;
             }
         }
     }
-    cells::word_at(bytes, n, p, 16)
-}
-
-fn wide(byte: u8) -> u64
-    ensures { (result ≡ byte) × (result < 256) }
-{
-    byte as u64
+    cells.word(p, 16)
 }
 
 // The four data cells of a byte of cells.

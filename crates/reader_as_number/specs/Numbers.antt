@@ -5,23 +5,21 @@
 --
 -- A fresh reader is 0, and each number stands for one reader. The main property: however the bytes are cut, calls that keep the reader as a
 -- number give the timings of all bytes (`AllByNumber`). Assumes nothing.
-use Rattle.std.specs.Prelude.{ℕ, ◌+◌, ◌-◌, ◌*◌, ◌/◌, ◌%◌, ◌≡◌, cond, List, [], ◌++◌, eqb, take}
+use Rattle.std.specs.Prelude.{ℕ, ◌+◌, ◌-◌, ◌*◌, ◌/◌, ◌%◌, ◌≡◌, cond, List, [], ◌++◌, eqb, take, Option, Some, None}
 use Rattle.basis.specs.Bytes.{AreBytes}
 use Rattle.refusals.specs.RefusedCalls.{Answer}
 use Rattle.refusals.specs.RefusedCalls.Answer.{gives, refused}
 use Rattle.revolution_portions.specs.Timings.{timings_in}
 use Rattle.revolution_portions.specs.Portions.{usable_reader, portion_timings, portion_answer, portion_reader}
-use Rattle.revolution_values.specs.declared.Held.{Held}
-use Rattle.revolution_values.specs.declared.Held.TheVariants.{Nothing, High}
 use Rattle.revolution_portions.specs.declared.RevolutionReader.{RevolutionReader}
 
 -- 12.24: what is held as a number, and back
-abbrev pub held_number : Held → ℕ
-held_number Nothing = 0
-held_number (High high) = high + 1
+abbrev pub held_number : Option ℕ → ℕ
+held_number None = 0
+held_number (Some high) = high + 1
 
-abbrev pub held_from : ℕ → Held
-held_from n = cond (eqb n 0) Nothing (High (n - 1))
+abbrev pub held_from : ℕ → Option ℕ
+held_from n = cond (eqb n 0) None (Some (n - 1))
 
 -- 12.24: the three parts in one number
 abbrev pub number_of_parts : RevolutionReader → ℕ

@@ -5,16 +5,14 @@ ghost use Rattle.std.specs.Prelude.{◌≡◌, ◌<◌};
 ghost use Rattle.reader_as_number.specs.Numbers.{held_number, held_from, number_of_reader, reader_of_number};
 
 use revolution_portions::RevolutionReader;
-use revolution_values::{Held, Unfinished};
+use revolution_values::Unfinished;
 
 // The number of a reader; that of one which no call leaves is a fresh reader's.
 pub fn number_of_reader(reader: RevolutionReader) -> u32
     ensures { result ≡ number_of_reader reader }
 {
     let used = reader.usable();
-    let unfinished = used.unfinished;
-    let held = unfinished.held;
-    held_number(held) + 257 * (unfinished.zeros + 8 * used.timings)
+    held_number(used.unfinished.held) + 257 * (used.unfinished.zeros + 8 * used.timings)
 }
 
 // The reader of a number.
@@ -30,22 +28,22 @@ pub fn reader_of_number(number: u32) -> RevolutionReader
     }
 }
 
-fn held_number(held: Held) -> u32
+fn held_number(held: Option<u8>) -> u32
     ensures number { result ≡ held_number held }
     ensures small { result < 257 }
 {
     match held {
-        Held::Nothing => 0,
-        Held::High(high) => (high as u32) + 1,
+        None => 0,
+        Some(high) => u32::from(high) + 1,
     }
 }
 
-fn held_from(number: u32) -> Held
+fn held_from(number: u32) -> Option<u8>
     requires { number < 257 }
     ensures { result ≡ held_from number }
 {
     if number == 0 {
-        return Held::Nothing;
+        return None;
     }
-    Held::High((number - 1) as u8)
+    Some((number - 1) as u8)
 }

@@ -6,25 +6,17 @@
 
 ghost use Rattle.std.specs.Prelude.{◌≡◌, ◌≤◌, length};
 ghost use Rattle.refusals.specs.RefusedCalls.{answer_of};
-ghost use Rattle.refusals.specs.declared.Counted.{Counted};
 ghost use Rattle.revolution_portions.specs.Portions.{fresh_reader, usable_reader, portion_answer, portion_reader, portion_list, AllTimings};
 ghost use Rattle.revolution_portions.specs.PrivateContracts.{LookedOver};
 
 use refusals::Refusal;
-use revolution_values::{Held, Passed, Unfinished};
+use revolution_values::{Passed, Unfinished};
 
 // Where the reading of a revolution's values stands (rule 12.16): the timing that has not ended, and how many have.
-#[derive(Clone, Copy)]
+#[derive(Clone, Copy, Debug)]
 pub struct RevolutionReader {
     pub unfinished: Unfinished,
     pub timings: u32,
-}
-
-// A portion taken: how many timings end in it, or a refusal, and the next state, which is the same beside a refusal.
-#[derive(Clone, Copy)]
-pub struct TakenPortion {
-    pub answer: Result<usize, Refusal>,
-    pub next: RevolutionReader,
 }
 
 impl RevolutionReader {
@@ -34,7 +26,7 @@ impl RevolutionReader {
     {
         RevolutionReader {
             unfinished: Unfinished {
-                held: Held::Nothing,
+                held: None,
                 zeros: 0,
             },
             timings: 0,
@@ -45,8 +37,7 @@ impl RevolutionReader {
     pub fn usable(self) -> Self
         ensures { result ≡ usable_reader self }
     {
-        let unfinished = self.unfinished;
-        if revolution_values::MOST_ZEROS < unfinished.zeros {
+        if revolution_values::MOST_ZEROS < self.unfinished.zeros {
             return RevolutionReader::new();
         }
         if flux_timings::MOST_TIMINGS < self.timings as usize {
@@ -55,48 +46,32 @@ impl RevolutionReader {
         self
     }
 
-    // A portion more of the values: the timings that end in it, to the front of a list (rule 9.15).
-    pub fn take(self, portion: &[u8], timings: &mut [u32]) -> TakenPortion
-        ensures answer { answer_of result.answer ≡ portion_answer self portion.now (length timings.old) }
-        ensures state { result.next ≡ portion_reader self portion.now (length timings.old) }
-        ensures list { timings.new ≡ portion_list self portion.now timings.old }
-        ensures all { AllTimings self portion.now (answer_of result.answer) timings.new }
+    // A portion more of the values: the timings that end in it, to the front of a list (rule 9.15). Beside a refusal the state is kept.
+    pub fn take(&mut self, portion: &[u8], timings: &mut [u32]) -> Result<usize, Refusal>
+        ensures answer { answer_of result ≡ portion_answer self.old portion.now (length timings.old) }
+        ensures state { self.new ≡ portion_reader self.old portion.now (length timings.old) }
+        ensures list { timings.new ≡ portion_list self.old portion.now timings.old }
+        ensures all { AllTimings self.old portion.now (answer_of result) timings.new }
     {
         let reader = self.usable();
-        let unfinished = reader.unfinished;
         let before = reader.timings as usize;
-        let seen = look(unfinished, portion);
+        let seen = look(reader.unfinished, portion);
         let count = seen.count;
-        let out = seen.out;
         if flux_timings::MOST_TIMINGS < before + count {
-            return refused(self, Refusal::TooManyTimings(before + count));
+            return Err(Refusal::TooManyTimings(before + count));
         }
-        if out < count {
-            return refused(self, Refusal::TimingOutOfRange(before + out));
+        if let Some(out) = seen.out {
+            return Err(Refusal::TimingOutOfRange(before + out));
         }
         if timings.len() < count {
-            return refused(self, Refusal::NoRoom(count));
+            return Err(Refusal::NoRoom(count));
         }
-        revolution_values::pass(unfinished, portion, timings);
-        let left = seen.unfinished;
-        TakenPortion {
-            answer: Ok(count),
-            next: RevolutionReader {
-                unfinished: left,
-                timings: (before + count) as u32,
-            },
-        }
-    }
-}
-
-// A portion refused: the state is the one that came.
-fn refused(reader: RevolutionReader, refusal: Refusal) -> TakenPortion
-    ensures answer { result.answer ≡ Counted.Refused refusal }
-    ensures next { result.next ≡ reader }
-{
-    TakenPortion {
-        answer: Err(refusal),
-        next: reader,
+        revolution_values::pass(reader.unfinished, portion, timings);
+        *self = RevolutionReader {
+            unfinished: seen.unfinished,
+            timings: (before + count) as u32,
+        };
+        Ok(count)
     }
 }
 

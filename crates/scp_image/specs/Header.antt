@@ -5,7 +5,7 @@
 --                                                     track  track                                        4 bytes    4 bytes
 --
 -- n is the length of the whole image. The main property: the call gives the ten numbers of the header, or a refusal. Assumes nothing.
-use Rattle.std.specs.Prelude.{ℕ, ◌+◌, ◌/◌, ◌%◌, Bool, cond, not, ◌&&◌, ◌||◌, List, [], ◌∷◌, length, take, drop, ◌==◌, nat_lt, slice_index}
+use Rattle.std.specs.Prelude.{ℕ, ◌+◌, ◌/◌, ◌%◌, Bool, cond, not, ◌&&◌, ◌||◌, List, [], ◌∷◌, length, take, drop, ◌==◌, nat_lt, slice_index, Option, Some, None}
 use Rattle.basis.specs.Bytes.{number}
 use Rattle.refusals.specs.RefusedCalls.{Answer, refused_with, buffer_after}
 use Rattle.refusals.specs.RefusedCalls.Answer.{gives}
@@ -87,3 +87,7 @@ header_answer image n = header_judged image n (gives 10)
 -- it is kept
 abbrev pub header_after : (image : List ℕ) (n : ℕ) → List ℕ → List ℕ
 header_after image n list = buffer_after (header_answer image n) (take (length list) (header_numbers image)) list
+
+-- a place that a search answers, where `bound` stands for none
+abbrev pub place_below : (bound place : ℕ) → Option ℕ
+place_below bound place = cond (nat_lt place bound) (Some place) None

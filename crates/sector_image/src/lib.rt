@@ -1,19 +1,18 @@
 // The plain image of a track: the data of its nine sectors, in the order of their numbers.
 #![tactic(auto)]
 
-ghost use Rattle.std.specs.Prelude.{◌≡◌, ◌+◌, ◌-◌, ◌≤◌, length};
+ghost use Rattle.std.specs.Prelude.{◌≡◌, ◌+◌, ◌≤◌, eqb, length, position, any};
 ghost use Rattle.std.proofs.lemmas.List.Edits.{sets};
 ghost use Rattle.basis.specs.Lists.{written_over};
-ghost use Rattle.basis.specs.Search.{least};
 ghost use Rattle.cells.specs.CellsAndBytes.{cell};
 ghost use Rattle.refusals.specs.RefusedCalls.{answer_of, buffer_after};
 ghost use Rattle.sector_records.specs.Sectors.{bytes_from};
-ghost use Rattle.sector_image.specs.Image.{numbered, is_plain, fits, first_unfit, some_outside, image_judged, image_of, image_answer, image_after};
-ghost use Rattle.sector_image.specs.PrivateContracts.{AtMost64, OfTrack, AllThere, sectors_in};
+ghost use Rattle.sector_image.specs.Image.{is_plain, fits, first_unfit, some_outside, image_judged, image_of, image_answer, image_after};
+ghost use Rattle.sector_image.specs.PrivateContracts.{OfTrack, AllThere, unfit_or_ten};
 
 use refusals::Refusal;
 use sector_records::BYTE_LENGTH;
-use sectors::{Sector, Sectors};
+use sectors::{Cells, Density, Sector, Track};
 
 // The bytes of an image: nine sectors of 512.
 pub const IMAGE: usize = 4608;
@@ -28,136 +27,112 @@ const MARK_LENGTH: usize = 64;
 // The size code of 512 bytes, as the whole byte of the ID.
 const SIZE_CODE: u8 = 2;
 
-// Puts the plain image of a track of n cells, packed in `bytes`, at the front of `image` (rule 9.61); `track` and `side` are the drive's.
-pub fn sector_image(bytes: &[u8], n: usize, track: u32, side: u32, image: &mut [u8]) -> Result<usize, Refusal>
-    ensures answer { answer_of result ≡ image_answer bytes.now n track side (length image.old) }
-    ensures image { image.new ≡ image_after bytes.now n track side image.old }
+// Puts the plain image of a track at the front of `image` (rule 9.61).
+pub fn sector_image(track: Track, image: &mut [u8]) -> Result<usize, Refusal>
+    ensures answer { answer_of result ≡ image_answer track.entry.cells.bytes.now track.entry.cells.count track.entry.track track.entry.side (length image.old) }
+    ensures image { image.new ≡ image_after track.entry.cells.bytes.now track.entry.cells.count track.entry.track track.entry.side image.old }
 {
-    let found = sectors::sectors_of(bytes, n, track, side);
-    let ss = found.sectors;
-    let answer = found.answer;
-    match answer {
-        Err(refusal) => Err(refusal),
-        Ok(_) => put_image(bytes, n, ss, image),
-    }
+    let sectors = track.sectors(Density::Double)?;
+    put_image(track.cells, &sectors.all[..sectors.count], image)
 }
 
-// The image of a track with the sectors ss.
-fn put_image(bytes: &[u8], n: usize, ss: Sectors, image: &mut [u8]) -> Result<usize, Refusal>
-    requires { OfTrack ss }
-    ensures answer { answer_of result ≡ image_judged (sectors_in ss) (length image.old) }
-    ensures image { image.new ≡ buffer_after (image_judged (sectors_in ss) (length image.old)) (image_of (cell bytes.now n) (sectors_in ss)) image.old }
+// The image of a track with these sectors.
+fn put_image(cells: Cells, sectors: &[Sector], image: &mut [u8]) -> Result<usize, Refusal>
+    requires { OfTrack sectors.now }
+    ensures answer { answer_of result ≡ image_judged sectors.now (length image.old) }
+    ensures image { image.new ≡ buffer_after (image_judged sectors.now (length image.old)) (image_of (cell cells.entry.bytes.now cells.entry.count) sectors.now) image.old }
 {
-    let broken = first_unfit(ss);
-    if broken <= SECTORS {
-        return Err(Refusal::NoPlainImage(broken));
+    if let Some(number) = first_unfit(sectors) {
+        return Err(Refusal::NoPlainImage(number));
     }
-    if some_outside(ss) {
+    if some_outside(sectors) {
         return Err(Refusal::NoPlainImage(0));
     }
     if image.len() < IMAGE {
         return Err(Refusal::NoRoomForBytes(IMAGE));
     }
-    write_image(bytes, n, ss, image);
+    write_image(cells, sectors, image);
     Ok(IMAGE)
 }
 
-// The first number from 1 to 9 that stands in the way; 10 where none does.
-fn first_unfit(ss: Sectors) -> usize
-    requires { AtMost64 ss }
-    ensures { result ≡ first_unfit (sectors_in ss) }
+// The first number from 1 to 9 that stands in the way.
+fn first_unfit(sectors: &[Sector]) -> Option<usize>
+    requires { length sectors.now ≤ 64 }
+    ensures { unfit_or_ten result ≡ first_unfit sectors.now }
 {
-    let mut number: usize = 1;
-    while number <= SECTORS {
-        if !fits(ss, number as u8) {
-            return number;
+    for number in 1..10 {
+        if !fits(sectors, number as u8) {
+            return Some(number);
         }
-        number += 1;
     }
-    number
+    None
 }
 
 // Whether one sector has this number, and that one is plain.
-fn fits(ss: Sectors, number: u8) -> bool
-    requires { AtMost64 ss }
-    ensures { result ≡ fits (sectors_in ss) number }
+fn fits(sectors: &[Sector], number: u8) -> bool
+    ensures { result ≡ fits sectors.now number }
 {
-    let first = find(ss, number, 0);
-    if ss.count <= first {
-        return false;
+    match find(sectors, number) {
+        None => false,
+        Some(first) => {
+            !has_number(&sectors[first + 1..], number) && is_plain(&sectors[first])
+        }
     }
-    if find(ss, number, first + 1) < ss.count {
-        return false;
-    }
-    is_plain(ss.all[first])
 }
 
-// The first sector from index `from` on with this number; the number of sectors where there is none.
-fn find(ss: Sectors, number: u8, from: usize) -> usize
-    requires { AtMost64 ss }
-    ensures { result ≡ least (numbered (sectors_in ss) number) (ss.count - from) from }
+// The index of the first sector with this number.
+fn find(sectors: &[Sector], number: u8) -> Option<usize>
+    ensures { result ≡ position (λ s. eqb s.number number) sectors.now }
 {
-    let mut i = from;
-    while i < ss.count {
-        if ss.all[i].number == number {
-            return i;
-        }
-        i += 1;
-    }
-    i
+    sectors.iter().position(|s| s.number == number)
+}
+
+// Whether some sector has this number.
+fn has_number(sectors: &[Sector], number: u8) -> bool
+    ensures { result ≡ any (λ s. eqb s.number number) sectors.now }
+{
+    sectors.iter().any(|s| s.number == number)
 }
 
 // Whether a sector has 512 bytes with good checks.
-fn is_plain(sector: Sector) -> bool
-    ensures { result ≡ is_plain sector }
+fn is_plain(sector: &Sector) -> bool
+    ensures { result ≡ is_plain sector.now }
 {
     (sector.size_code == SIZE_CODE) & sector.id_check_good & sector.data_check_good
 }
 
 // Whether some sector has a number that is none of 1 to 9.
-fn some_outside(ss: Sectors) -> bool
-    requires { AtMost64 ss }
-    ensures { result ≡ some_outside (sectors_in ss) }
+fn some_outside(sectors: &[Sector]) -> bool
+    ensures { result ≡ some_outside sectors.now }
 {
-    let mut i: usize = 0;
-    while i < ss.count {
-        let number = ss.all[i].number;
-        if (number < 1) | (9 < number) {
-            return true;
-        }
-        i += 1;
-    }
-    false
+    sectors.iter().any(|s| (s.number < 1) | (9 < s.number))
 }
 
 // The nine sectors, each after the one with the number before it.
-fn write_image(bytes: &[u8], n: usize, ss: Sectors, image: &mut [u8])
-    requires { AllThere ss × (4608 ≤ length image.old) }
-    ensures { image.new ≡ written_over (image_of (cell bytes.now n) (sectors_in ss)) image.old }
+fn write_image(cells: Cells, sectors: &[Sector], image: &mut [u8])
+    requires { AllThere sectors.now × (4608 ≤ length image.old) }
+    ensures { image.new ≡ written_over (image_of (cell cells.entry.bytes.now cells.entry.count) sectors.now) image.old }
 {
-    let mut i: usize = 0;
-    while i < SECTORS {
-        let index = find(ss, i as u8 + 1, 0);
-        write_sector(bytes, n, data_at(ss.all[index]), SECTOR * i, image);
-        i += 1;
+    for i in 0..SECTORS {
+        if let Some(index) = find(sectors, i as u8 + 1) {
+            write_sector(cells, data_at(&sectors[index]), SECTOR * i, image);
+        }
     }
 }
 
 // The cell after a sector's data mark.
-fn data_at(sector: Sector) -> usize
-    ensures { (result ≡ sector.data_place + 64) × (result ≤ 0x1_0000_0040) }
+fn data_at(sector: &Sector) -> usize
+    ensures { (result ≡ sector.now.data_place + 64) × (result ≤ 0x1_0000_0040) }
 {
     sector.data_place as usize + MARK_LENGTH
 }
 
 // Decodes the 512 bytes from cell p on into the image from byte `at` on.
-fn write_sector(bytes: &[u8], n: usize, p: usize, at: usize, image: &mut [u8])
+fn write_sector(cells: Cells, p: usize, at: usize, image: &mut [u8])
     requires { (p ≤ 0x1_0000_0040) × (at ≤ 4096) × (at + 512 ≤ length image.old) }
-    ensures { image.new ≡ sets image.old at (bytes_from (cell bytes.now n) p 512) }
+    ensures { image.new ≡ sets image.old at (bytes_from (cell cells.entry.bytes.now cells.entry.count) p 512) }
 {
-    let mut i: usize = 0;
-    while i < SECTOR {
-        image[at + i] = mfm::byte_on(bytes, n, p + BYTE_LENGTH * i);
-        i += 1;
+    for i in 0..SECTOR {
+        image[at + i] = mfm::byte_on(cells, p + BYTE_LENGTH * i);
     }
 }

@@ -1,8 +1,9 @@
--- What only the contracts of private functions need: a map of the marks. Assumes nothing.
-use Rattle.std.specs.Prelude.{ℕ, ◌+◌, ◌/◌, ◌≤◌, ◌≡◌, Bool, ◌&&◌, eqb, List}
+-- What only the contracts of private functions need: a map of the marks, and where data is found. Assumes nothing.
+use Rattle.std.specs.Prelude.{ℕ, ◌+◌, ◌/◌, ◌≤◌, ◌≡◌, Bool, cond, ◌&&◌, eqb, List, Option, Some, None}
 use Rattle.cell_words.specs.Words.{Holds}
 use Rattle.layouts.specs.declared.Layout.{Layout}
 use Rattle.sector_records.specs.Marks.{mark_at, word_mark_at}
+use Rattle.sector_records.specs.Sectors.{least_data, data_found}
 
 -- a mark whose byte may be that of an ID or of data: its second data cell is a one
 unfoldable pub likely_at : (ℕ → ℕ) → ℕ → Bool
@@ -13,3 +14,7 @@ likely_at f p = mark_at f p && eqb (f (p + 51)) 1
 abbrev pub MarkMap : Layout → (ℕ → ℕ) → ℕ → List ℕ → Type 0
 MarkMap layout f n marks =
     (n ≤ 131072) × ((layout.density ≡ 1 → ⊥) → Holds (likely_at f) marks (n / 64 + 63)) × (layout.density ≡ 1 → Holds (word_mark_at f 0xF57E) marks (n / 64 + 63))
+
+-- the place of the data mark, where one is found
+unfoldable pub data_place_of : Layout → (ℕ → ℕ) → ℕ → Option ℕ
+data_place_of layout f p = cond (data_found layout f p) (Some (least_data layout f p)) None

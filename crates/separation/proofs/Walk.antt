@@ -15,7 +15,7 @@ use Rattle.refusals.specs.RefusedCalls.Answer.{gives}
 use Rattle.flux_timings.specs.Timings.{in_range, first_out}
 use Rattle.separator.specs.Rule.{cells_at, residual_after, double_half_window, step_answer_by, step_residual_by}
 use Rattle.separation.specs.Separation.{cells_for, windows_from, cells_in, cells_of_by}
-use Rattle.separation.specs.PrivateContracts.{IsHalfWindow}
+use Rattle.separator.specs.Rule.{IsHalfWindow}
 use Rattle.separator.proofs.Lifted.{Kept, kept-none, kept_next}
 use Rattle.flux_timings.proofs.Timing.{range-of}
 use Rattle.separator.proofs.MachineStep.{Steppable, cells-small}

@@ -16,7 +16,7 @@ use Rattle.cells.proofs.Packing.{Cells}
 use Rattle.cells.proofs.Zeros.{cells-append, cells-zeros, packed-with-zeros, cleared-front}
 use Rattle.cells.proofs.Appending.{packed-with-one}
 use Rattle.separation.specs.Separation.{cells_for, cells_of_by}
-use Rattle.separation.specs.PrivateContracts.{IsHalfWindow}
+use Rattle.separator.specs.Rule.{IsHalfWindow}
 use Rattle.separation.proofs.Walk.{Walked, Turn, walk_start, start-passed, walk-next, next-passed, walk_end}
 
 -- the cells q packed in the first `needed` bytes of a buffer, and then the rest

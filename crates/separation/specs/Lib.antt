@@ -1,3 +1,2 @@
 pub mod Separation
 pub mod Demand3
-pub mod PrivateContracts

@@ -2,16 +2,16 @@
 --
 --   u = t + r          n = (u + half) / window, rounded down          e = u - window * n          the new r = e / 2, towards zero
 --
--- The step is stated over half of the window: 1,000 ns for double density and 2,000 ns for single density. The main property: the step by
--- value and the lent one give the same answer, `step_answer_by`, with the same offset beside it, `step_offset_by`, and leave the same residual,
--- `step_residual_by`. Assumes nothing.
-use Rattle.std.specs.Prelude.{ℕ, ◌-◌, ◌*◌, ◌/◌, Bool, cond, ◌&&◌, ◌||◌, ℤ, pos, neg_ℤ, ◌+ℤ◌, ◌-ℤ◌, nat_abs}
+-- The step is stated over half of the window: 1,000 ns for double density and 2,000 ns for single density. The main property: on a state by
+-- value and on a lent one it gives the same answer, `step_answer_by`, with the same offset beside it, `step_offset_by`, and leaves the same
+-- residual, `step_residual_by`. Assumes nothing.
+use Rattle.std.specs.Prelude.{ℕ, ◌-◌, ◌*◌, ◌/◌, ◌≡◌, ◌⊎◌, Bool, cond, ◌&&◌, ◌||◌, ℤ, pos, neg_ℤ, ◌+ℤ◌, ◌-ℤ◌, nat_abs, Result, Ok, Err}
 use Rattle.std.specs.Int.Signed.{le_z, quot_z, shr_z}
-use Rattle.refusals.specs.RefusedCalls.{Answer, refused_with}
+use Rattle.refusals.specs.RefusedCalls.{Answer, answer_by}
 use Rattle.refusals.specs.RefusedCalls.Answer.{gives, refused}
 use Rattle.flux_timings.specs.Timings.{in_range}
-use Rattle.separator.specs.declared.Taken.{Taken}
-use Rattle.separator.specs.declared.Taken.TheVariants.{Cells, Refused}
+use Rattle.refusals.specs.declared.Refusal.{Refusal}
+use Rattle.separator.specs.declared.Step.{Step}
 
 -- 3.3: u, the timing and the residual together
 unfoldable pub reading : ℤ → ℕ → ℤ
@@ -42,6 +42,10 @@ double_half_window = 1000
 abbrev pub single_half_window : ℕ
 single_half_window = 2000
 
+-- half of the window of one of the two densities
+abbrev pub IsHalfWindow : ℕ → Type 0
+IsHalfWindow half = (half ≡ double_half_window) ⊎ (half ≡ single_half_window)
+
 -- 3.6, 3.20: the least residual that a step leaves, and the most: -500 and 499 for double density, -1000 and 999 for single density
 abbrev pub least_residual : ℕ → ℤ
 least_residual half = neg_ℤ (pos (half / 2))
@@ -54,9 +58,13 @@ unfoldable pub usable : ℕ → ℤ → ℤ
 usable half r = cond (le_z (least_residual half) r && le_z r (most_residual half)) r (pos 0)
 
 -- 3.7, 3.8, 3.9: what a step hands back, as an answer: n, or the refusal
-abbrev pub taken_answer : Taken → Answer ℕ
-taken_answer (Cells count) = gives count
-taken_answer (Refused refusal) = refused_with refusal
+abbrev pub taken_answer : Result Step Refusal → Answer ℕ
+taken_answer step = answer_by (λ s. s.cells) step
+
+-- 3.15: and the offset beside it: e, or 0 beside a refusal
+abbrev pub offset_given : Result Step Refusal → ℤ
+offset_given (Ok step) = step.offset
+offset_given (Err refusal) = pos 0
 
 -- 3.7, 3.8, 3.9, 3.22, 8.8, 9.5, 9.47: the answer of a step, by value and lent: n, or 8 with index 0 where the timing is out of range
 unfoldable pub step_answer_by : ℕ → ℤ → ℕ → Answer ℕ

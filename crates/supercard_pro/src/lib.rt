@@ -36,8 +36,8 @@ pub fn revolution_timings(
     }
     let from = value_offset(block, revolution);
     let to = from + 2 * count;
-    let taken = RevolutionReader::new().take(&block[from..to], timings);
-    taken.answer
+    let mut reader = RevolutionReader::new();
+    reader.take(&block[from..to], timings)
 }
 
 // Whether a block is refused with 16 (rule 12.8).

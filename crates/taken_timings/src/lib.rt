@@ -6,79 +6,63 @@ ghost use Rattle.refusals.specs.RefusedCalls.{answer_of};
 ghost use Rattle.taken_timings.specs.Timings.{none_taken, count_after, timing_cells, taken_after, taken_cells, timings_answer};
 
 use refusals::Refusal;
-use separator::{Separator, Taken};
+use separator::{DoubleDensity, Separator};
 
-// The timings taken so far: all in range, with their number, their cells in all and the separator's state; or the index of the first outside
-// its range.
-#[derive(Clone, Copy)]
-pub enum TakenTimings {
-    InRange {
-        timings: usize,
-        cells: usize,
-        separator: Separator,
-    },
-    OutOfRange(usize),
+// The timings taken so far, where all are in range: their number, their cells in all and the separator's state. After a timing outside its
+// range its index stands in place of them, so that the state is a Result<Taken, usize>.
+#[derive(Clone, Copy, Debug)]
+pub struct Taken {
+    pub timings: usize,
+    pub cells: usize,
+    pub separator: Separator,
 }
 
 // Before the first timing.
-pub fn none_taken() -> TakenTimings
+pub fn none_taken() -> Result<Taken, usize>
     ensures { result ≡ none_taken }
 {
-    TakenTimings::InRange {
+    Ok(Taken {
         timings: 0,
         cells: 0,
         separator: Separator::new(),
-    }
+    })
 }
 
 // A timing more: it is stepped, and its cells are put after those so far. After one outside its range no more are.
-pub fn take_timing(taken: TakenTimings, timing: u32, cells: &mut [u8]) -> TakenTimings
+pub fn take_timing(
+    taken: Result<Taken, usize>,
+    timing: u32,
+    cells: &mut [u8],
+) -> Result<Taken, usize>
     ensures taken { result ≡ taken_after taken timing }
     ensures buffer { cells.new ≡ taken_cells taken timing cells.old }
 {
-    match taken {
-        TakenTimings::InRange {
-            timings,
-            cells: at,
-            separator,
-        } => {
-            let stepped = separator.step(timing);
-            let given = stepped.given;
-            let answer = given.taken;
-            let next = stepped.next;
-            match answer {
-                Taken::Cells(count) => {
-                    put_cells(cells, at, count);
-                    TakenTimings::InRange {
-                        timings: add_count(timings, 1),
-                        cells: add_count(at, count),
-                        separator: next,
-                    }
-                }
-                Taken::Refused(_) => TakenTimings::OutOfRange(timings),
-            }
+    let mut taken = taken?;
+    match taken.separator.step::<DoubleDensity>(timing) {
+        Ok(step) => {
+            put_cells(cells, taken.cells, step.cells);
+            Ok(Taken {
+                timings: add_count(taken.timings, 1),
+                cells: add_count(taken.cells, step.cells),
+                separator: taken.separator,
+            })
         }
-        TakenTimings::OutOfRange(index) => TakenTimings::OutOfRange(index),
+        Err(_) => Err(taken.timings),
     }
 }
 
 // What the timings give in all: the number of their cells, or a refusal.
-pub fn count_taken(taken: TakenTimings) -> Result<usize, Refusal>
+pub fn count_taken(taken: Result<Taken, usize>) -> Result<usize, Refusal>
     ensures { answer_of result ≡ timings_answer taken }
 {
     match taken {
-        TakenTimings::InRange {
-            timings: _,
-            cells,
-            separator: _,
-        } => {
-            if separation::MOST_CELLS < cells {
-                Err(Refusal::TooManyCells(cells))
-            } else {
-                Ok(cells)
+        Ok(taken) => {
+            if separation::MOST_CELLS < taken.cells {
+                return Err(Refusal::TooManyCells(taken.cells));
             }
+            Ok(taken.cells)
         }
-        TakenTimings::OutOfRange(index) => Err(Refusal::TimingOutOfRange(index)),
+        Err(index) => Err(Refusal::TimingOutOfRange(index)),
     }
 }
 

@@ -1,17 +1,17 @@
 -- Section 10 of the specification, rules 10.11 to 10.15: the track file in portions: from the start, portion after portion, to the end. The
 -- main properties: however a file is cut, it gives what TrackFile says of the whole (`WholeFile`), and reading stops exactly where a refusal
 -- is given at once (`AtOnce`). Assumes nothing.
-use Rattle.std.specs.Prelude.{ℕ, ◌≡◌, Bool, true, false, cond, ◌||◌, List, [], ◌∷◌, ◌++◌, ltb, length, replicate}
-use Rattle.refusals.specs.RefusedCalls.{Answer, refused_with}
+use Rattle.std.specs.Prelude.{ℕ, ◌≡◌, Bool, true, false, cond, ◌||◌, List, [], ◌∷◌, ◌++◌, ltb, length, replicate, Result}
+use Rattle.refusals.specs.RefusedCalls.{Answer, refused_with, answer_by}
 use Rattle.refusals.specs.RefusedCalls.Answer.{gives, refused}
+use Rattle.refusals.specs.declared.Refusal.{Refusal}
 use Rattle.refusals.specs.declared.Refusal.TheVariants.{NoRoom}
 use Rattle.file_reader.specs.Bytes.{reader_after_byte, cells_after_byte}
 use Rattle.file_reader.specs.declared.Number.TheVariants.{Empty}
 use Rattle.file_reader.specs.declared.Reader.{Reader}
 use Rattle.file_reader.specs.declared.Reader.TheVariants.{PlaceCount, Track, Side, CellCount, PackedCells, FluxCount, AllCells, NotATrackFile, Stopped}
 use Rattle.track_file.specs.TrackFile.{Content, refused_at_once, file_answer_in, file_buffer}
-use Rattle.track_file.specs.declared.Read.{Read}
-use Rattle.track_file.specs.declared.Read.TheVariants.{Cells, Refused}
+use Rattle.track_file.specs.declared.FileCells.{FileCells}
 
 -- 10.11: the beginning. A cell buffer of less than 16,384 bytes is refused
 unfoldable pub start_of : ℕ → Reader
@@ -65,9 +65,8 @@ is_stopped NotATrackFile = false
 is_stopped (Stopped refusal) = true
 
 -- an answer, with a refusal as its number and the value beside it
-abbrev pub read_answer : Read → Answer Content
-read_answer (Cells track side count) = gives (record { track = track; side = side; cells = count })
-read_answer (Refused refusal) = refused_with refusal
+abbrev pub read_answer : Result FileCells Refusal → Answer Content
+read_answer read = answer_by (λ (file : FileCells). record { track = file.track; side = file.side; cells = file.count }) read
 
 -- 9.10, 10.7, 10.14: what the end of the file brings. Where a section is not whole, bytes are missing
 unfoldable pub finish_answer : Reader → Answer Content

@@ -6,7 +6,7 @@
 --
 -- The main property: `file_answer`, which is what a file gives, also where it is read in portions (`WholeFile`, in Portions). What is asked
 -- of a file that lacks the bytes for it counts them as 0: such a file is short and refused. Assumes nothing.
-use Rattle.std.specs.Prelude.{ℕ, ◌+◌, Bool, cond, not, ◌&&◌, ◌||◌, List, eqb, leb, ltb, length, get_or, take, drop, replicate}
+use Rattle.std.specs.Prelude.{ℕ, ◌+◌, ◌/◌, ◌%◌, Bool, cond, not, ◌&&◌, ◌||◌, List, [], ◌∷◌, ◌++◌, eqb, leb, ltb, length, get_or, take, drop, replicate}
 use Rattle.basis.specs.Bytes.{number}
 use Rattle.basis.specs.Lists.{written_over}
 use Rattle.cells.specs.CellsAndBytes.{bytes_for}
@@ -39,6 +39,18 @@ flux_section file = drop (bytes_for (cell_count file)) (drop 4 (cell_section fil
 
 abbrev pub flux_count : List ℕ → ℕ
 flux_count file = number (flux_section file)
+
+-- 10.2: a number in four bytes, the lowest first
+abbrev pub in_four_bytes : ℕ → List ℕ
+in_four_bytes n = n % 256 ∷ n / 256 % 256 ∷ n / 65536 % 256 ∷ n / 16777216 % 256 ∷ []
+
+-- 10.1, 10.2, 10.3: a track file up to its packed cells: the place, after its count of 2, and the number of cells
+unfoldable pub front_of : (T H cells : ℕ) → List ℕ
+front_of T H cells = in_four_bytes 2 ++ (T ∷ H ∷ in_four_bytes cells)
+
+-- 10.1, 18.12: the track file with these packed cells. It has no timings: its last count is 0
+unfoldable pub file_with : (T H cells : ℕ) → List ℕ → List ℕ
+file_with T H cells packed = front_of T H cells ++ (packed ++ in_four_bytes 0)
 
 -- 10.7: how many bytes a file with this count of cells has
 abbrev pub file_length : List ℕ → ℕ

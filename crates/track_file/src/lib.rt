@@ -2,7 +2,9 @@
 // cells go to a buffer that the caller lends to each call.
 #![tactic(auto)]
 
-ghost use Rattle.std.specs.Prelude.{◌≡◌, ◌≤◌, length, drop};
+ghost use Rattle.std.specs.Prelude.{◌≡◌, ◌+◌, ◌≤◌, length, drop};
+ghost use Rattle.basis.specs.Lists.{written_over};
+ghost use Rattle.track_file.specs.TrackFile.{file_with};
 ghost use Rattle.track_file.specs.Portions.{start_of, start_cells, reader_after, cells_after, is_stopped, AtOnce, read_answer, finish_answer, WholeFile};
 
 use file_reader::{Number, Reader};
@@ -11,11 +13,12 @@ use refusals::Refusal;
 // The bytes that a cell buffer must have: room for 131,072 cells.
 pub const ROOM: usize = 16_384;
 
-// What a file gives: its place and the number of its cells, or a refusal.
-#[derive(Clone, Copy)]
-pub enum Read {
-    Cells { track: u8, side: u8, count: usize },
-    Refused(Refusal),
+// What a file gives that is not refused: its place and the number of its cells.
+#[derive(Clone, Copy, Debug)]
+pub struct FileCells {
+    pub track: u8,
+    pub side: u8,
+    pub count: usize,
 }
 
 // The beginning, before any byte: the cell buffer is cleared, or refused where it has too little room (rule 10.11).
@@ -59,7 +62,7 @@ pub fn stopped(reader: Reader) -> bool
 }
 
 // The end of the file: what it gives (rule 10.14). It writes nothing: the cells stand in the buffer that the portions were fed with.
-pub fn finish(reader: Reader) -> Read
+pub fn finish(reader: Reader) -> Result<FileCells, Refusal>
     ensures answer { read_answer result ≡ finish_answer reader }
     ensures file { WholeFile reader (read_answer result) }
 {
@@ -67,18 +70,32 @@ pub fn finish(reader: Reader) -> Read
 }
 
 // What the end of the file gives. A file that ends anywhere else is short.
-fn given(reader: Reader) -> Read
+fn given(reader: Reader) -> Result<FileCells, Refusal>
     ensures { read_answer result ≡ finish_answer reader }
 {
     match reader {
-        Reader::AllCells(place, count) => Read::Cells {
+        Reader::AllCells(place, count) => Ok(FileCells {
             track: place.track,
             side: place.side,
             count: count as usize,
-        },
-        Reader::Stopped(refusal) => Read::Refused(refusal),
-        _ => Read::Refused(Refusal::NotATrackFile),
+        }),
+        Reader::Stopped(refusal) => Err(refusal),
+        _ => Err(Refusal::NotATrackFile),
     }
+}
+
+// Puts a track file at the front of `out` (rule 10.1): the place, the cells, and no timings.
+pub fn write_file(track: u8, side: u8, count: usize, cells: &[u8], out: &mut [u8])
+    requires { 14 + length cells.now ≤ length out.old }
+    ensures { out.new ≡ written_over (file_with track side count cells.now) out.old }
+{
+    let end = 10 + cells.len();
+    out[..4].copy_from_slice(&2u32.to_le_bytes());
+    out[4] = track;
+    out[5] = side;
+    out[6..10].copy_from_slice(&(count as u32).to_le_bytes());
+    out[10..end].copy_from_slice(cells);
+    out[end..end + 4].copy_from_slice(&0u32.to_le_bytes());
 }
 
 // How far a portion is fed, and the reader there.

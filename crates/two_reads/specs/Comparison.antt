@@ -3,13 +3,14 @@
 --   L data bytes                                    two check bytes: high, low          L is 128, 256, 512 or 1,024
 --
 -- The main property: FZD stands exactly where the reads differ, with the first byte that differs and all bits that do. Assumes nothing.
-use Rattle.std.specs.Prelude.{ℕ, zero, suc, ◌+◌, Bool, cond, not, ◌||◌, List, [], ◌∷◌, eqb, ltb, length, get_or}
+use Rattle.std.specs.Prelude.{ℕ, zero, suc, ◌+◌, Bool, cond, not, ◌||◌, List, [], ◌∷◌, eqb, ltb, length, get_or, Result, Ok, Err, Option, Some, None}
 use Rattle.std.specs.Int.Bits.{bit_xor}
 use Rattle.std.specs.Int.Count.{ones}
 use Rattle.basis.specs.Search.{least}
 use Rattle.levels.specs.Levels.{levels}
 use Rattle.refusals.specs.RefusedCalls.{Answer, refused_with}
 use Rattle.refusals.specs.RefusedCalls.Answer.{gives, refused}
+use Rattle.refusals.specs.declared.Refusal.{Refusal}
 use Rattle.refusals.specs.declared.Refusal.TheVariants.{LengthsDiffer, NotASectorLength}
 
 -- 14.1: a read has 130, 258, 514 or 1,026 bytes
@@ -49,3 +50,14 @@ abbrev pub numbers_given : Answer ℕ → List ℕ → List ℕ
 numbers_given (gives zero) numbers = 0 ∷ 0 ∷ 0 ∷ 0 ∷ []
 numbers_given (gives (suc n)) numbers = numbers
 numbers_given (refused number value) numbers = 0 ∷ 0 ∷ 0 ∷ 0 ∷ []
+
+-- 8.33: how many findings a call gives
+abbrev pub findings_in : Option (List ℕ) → ℕ
+findings_in None = 0
+findings_in (Some _) = 1
+
+-- 14.5: the numbers that a call gives, with zeros where there is no finding or the call is refused
+abbrev pub numbers_in : Result (Option (List ℕ)) Refusal → List ℕ
+numbers_in (Ok (Some numbers)) = numbers
+numbers_in (Ok None) = 0 ∷ 0 ∷ 0 ∷ 0 ∷ []
+numbers_in (Err _) = 0 ∷ 0 ∷ 0 ∷ 0 ∷ []

@@ -1,13 +1,13 @@
 -- Section 14 of the specification, rules 14.6 to 14.9: the part of a read whose check is good. The main property: what is handed back is a
 -- part of the first or of the second lent read, it begins where that read begins, and it is as long as stated. Assumes nothing.
-use Rattle.std.specs.Prelude.{ℕ, ◌+◌, ◌-◌, ◌*◌, Bool, true, false, cond, List, ◌∷◌, ◌≡◌, eqb, length, get_or, take}
+use Rattle.std.specs.Prelude.{ℕ, ◌+◌, ◌-◌, ◌*◌, Bool, true, false, cond, List, ◌∷◌, ◌≡◌, eqb, length, get_or, take, Result}
 use Rattle.std.specs.Borrow.{Bor}
 use Rattle.crc.specs.CheckWord.{check_word}
-use Rattle.refusals.specs.RefusedCalls.{Answer, refused_with}
+use Rattle.refusals.specs.RefusedCalls.{Answer, answer_by}
 use Rattle.refusals.specs.RefusedCalls.Answer.{gives, refused}
+use Rattle.refusals.specs.declared.Refusal.{Refusal}
 use Rattle.two_reads.specs.Comparison.{pair_judged}
 use Rattle.two_reads.specs.declared.GoodPart.{GoodPart}
-use Rattle.two_reads.specs.declared.GoodPart.TheVariants.{Of, Refused}
 
 -- 14.1: how many data bytes a read has: all but its two check bytes
 abbrev pub data_bytes : List ℕ → ℕ
@@ -40,9 +40,8 @@ unfoldable pub part_answer : (first second : List ℕ) → (mark : ℕ) → Answ
 part_answer first second mark = pair_judged first second (gives (good_part_of first second mark))
 
 -- 8.33: an answer of the code, as the numbers of the rules
-abbrev pub good_part_answer : GoodPart → Answer Part
-good_part_answer (Of second count) = gives (record { second = second; count = count })
-good_part_answer (Refused refusal) = refused_with refusal
+abbrev pub good_part_answer : Result GoodPart Refusal → Answer Part
+good_part_answer = answer_by (λ part. record { second = part.second; count = part.count })
 
 -- 14.8: the part that is handed back: the one of the answer, and the empty one beside a refusal
 abbrev pub part_given : Answer Part → Part

@@ -2,56 +2,39 @@
 // data bytes of a sector with the two check bytes behind them.
 #![tactic(auto)]
 
-ghost use Rattle.std.specs.Prelude.{◌≡◌, [], ◌∷◌, ◌≤◌, ◌<◌, ◌*◌, ◌+◌, length};
-ghost use Rattle.std.specs.Int.Bits.{bit_xor};
-ghost use Rattle.std.specs.Int.Count.{ones};
-ghost use Rattle.refusals.specs.RefusedCalls.{answer_of};
-ghost use Rattle.two_reads.specs.Comparison.{is_read_length, first_difference, differing_bits, comparison, fuzzy_numbers, numbers_given};
+ghost use Rattle.std.specs.Prelude.{◌≡◌, ℕ, ◌≤◌, ◌<◌, Some, length, unwrap_or};
+ghost use Rattle.refusals.specs.RefusedCalls.{answer_of, answer_by};
+ghost use Rattle.refusals.specs.RefusedCalls.Answer.{gives};
+ghost use Rattle.two_reads.specs.Comparison.{pair_judged, is_read_length, findings_in, numbers_in, first_difference, differing_bits, comparison, fuzzy_numbers, numbers_given};
 ghost use Rattle.two_reads.specs.GoodRead.{check_is_good, part_answer, part_given, good_part_answer, IsPart};
 
 use refusals::Refusal;
 
-// What comparing two reads gives: the four numbers of the finding, zeros where there is none, and how many findings, or a refusal.
-#[derive(Clone, Copy)]
-pub struct Compared {
-    pub numbers: [u32; 4],
-    pub answer: Result<usize, Refusal>,
-}
-
-// The part of a read whose check is good: whether it is of the second read, and how many of its first bytes. Or a refusal.
-#[derive(Clone, Copy)]
-pub enum GoodPart {
-    Of { second: bool, count: usize },
-    Refused(Refusal),
+// The part of a read whose check is good: whether it is of the second read, and how many of its first bytes.
+#[derive(Clone, Copy, Debug)]
+pub struct GoodPart {
+    pub second: bool,
+    pub count: usize,
 }
 
 // The kind of the finding: FZD.
 pub const FUZZY: u32 = 22;
 
-// FZD, where two reads differ: its place is the least index at which they do, its detail how many bits differ. The data mark is part of no
-// read, so it changes nothing here.
-pub fn compare_reads(first: &[u8], second: &[u8], data_mark: u8) -> Compared
-    ensures answer { answer_of result.answer ≡ comparison first.now second.now }
-    ensures numbers { result.numbers ≡ numbers_given (comparison first.now second.now) (fuzzy_numbers first.now second.now) }
+// The four numbers of FZD, where two reads differ: its place is the least index at which they do, its detail how many bits differ. The data mark is
+// part of no read, so it changes nothing here.
+pub fn compare_reads(first: &[u8], second: &[u8], data_mark: u8) -> Result<Option<[u32; 4]>, Refusal>
+    ensures answer { answer_by findings_in result ≡ comparison first.now second.now }
+    ensures numbers { numbers_in result ≡ numbers_given (comparison first.now second.now) (fuzzy_numbers first.now second.now) }
 {
-    if first.len() != second.len() {
-        return none(Err(Refusal::LengthsDiffer));
-    }
-    if !is_read_length(first.len()) {
-        return none(Err(Refusal::NotASectorLength));
-    }
-    let place = first_difference(first, second);
-    if place == first.len() {
-        return none(Ok(0));
-    }
-    Compared {
-        numbers: [
+    judge_pair(first, second)?;
+    match first_difference(first, second) {
+        None => Ok(None),
+        Some(place) => Ok(Some([
             FUZZY,
             levels::level(FUZZY as usize - 1),
             place as u32,
             differing_bits(first, second),
-        ],
-        answer: Ok(1),
+        ])),
     }
 }
 
@@ -60,82 +43,75 @@ pub fn compare_reads(first: &[u8], second: &[u8], data_mark: u8) -> Compared
 pub fn good_read<'a>(first: &'a [u8], second: &'a [u8], data_mark: u8) -> &'a [u8]
     ensures { IsPart result first.entry second.entry (part_given (part_answer first.now second.now data_mark)) }
 {
-    let part = good_part(first, second, data_mark);
-    match part {
-        GoodPart::Of {
-            second: of_second,
-            count,
-        } => {
-            if of_second {
-                return &second[..count];
+    match good_part(first, second, data_mark) {
+        Ok(part) => {
+            if part.second {
+                return &second[..part.count];
             }
-            &first[..count]
+            &first[..part.count]
         }
-        GoodPart::Refused(_) => &first[..0],
+        Err(_) => &first[..0],
     }
 }
 
 // Which read that part is of, and how long it is, for callers who need to know.
-pub fn good_part(first: &[u8], second: &[u8], data_mark: u8) -> GoodPart
+pub fn good_part(first: &[u8], second: &[u8], data_mark: u8) -> Result<GoodPart, Refusal>
     ensures { good_part_answer result ≡ part_answer first.now second.now data_mark }
 {
-    if first.len() != second.len() {
-        return GoodPart::Refused(Refusal::LengthsDiffer);
-    }
-    if !is_read_length(first.len()) {
-        return GoodPart::Refused(Refusal::NotASectorLength);
-    }
+    judge_pair(first, second)?;
     if is_good(first, data_mark) {
-        return GoodPart::Of {
+        return Ok(GoodPart {
             second: false,
             count: first.len() - CHECK_BYTES,
-        };
+        });
     }
     if is_good(second, data_mark) {
-        return GoodPart::Of {
+        return Ok(GoodPart {
             second: true,
             count: second.len() - CHECK_BYTES,
-        };
+        });
     }
-    GoodPart::Of {
+    Ok(GoodPart {
         second: false,
         count: 0,
-    }
+    })
 }
 
 // How many check bytes a read ends with.
 const CHECK_BYTES: usize = 2;
 
-// An answer without a finding.
-fn none(answer: Result<usize, Refusal>) -> Compared
-    ensures { (result.answer ≡ answer) × (result.numbers ≡ 0 ∷ 0 ∷ 0 ∷ 0 ∷ []) }
+// Whether two reads have the same length, and that of a read (rule 14.2).
+fn judge_pair(first: &[u8], second: &[u8]) -> Result<(), Refusal>
+    ensures { answer_of result ≡ pair_judged first.now second.now (gives tt) }
 {
-    Compared {
-        numbers: [0; 4],
-        answer,
+    if first.len() != second.len() {
+        return Err(Refusal::LengthsDiffer);
     }
+    if !is_read_length(first.len()) {
+        return Err(Refusal::NotASectorLength);
+    }
+    Ok(())
 }
 
 // Whether a read may have n bytes: 128, 256, 512 or 1,024 data bytes, and the check bytes.
 fn is_read_length(n: usize) -> bool
     ensures { result ≡ is_read_length n }
 {
-    (n == 130) | (n == 258) | (n == 514) | (n == 1026)
+    matches!(n, 130 | 258 | 514 | 1026)
 }
 
-// The least index at which the reads differ; the number of bytes where there is none.
-fn first_difference(first: &[u8], second: &[u8]) -> usize
+// The least index at which the reads differ.
+fn first_difference(first: &[u8], second: &[u8]) -> Option<usize>
     requires { length first.now ≡ length second.now }
-    ensures { result ≡ first_difference first.now second.now }
+    ensures { unwrap_or result (length first.now) ≡ first_difference first.now second.now }
+    ensures { (i : ℕ) → result ≡ Some i → i < length first.now }
 {
-    let mut i: usize = 0;
-    while i < first.len() {
+    for i in 0..first.len() {
         if first[i] != second[i] {
-            return i;
+            return Some(i);
         }
-        i += 1;
     }
-    i
+    None
 }
 
 // How many bits differ. With at most 1,026 bytes these are at most 8,208.
@@ -144,19 +120,10 @@ fn differing_bits(first: &[u8], second: &[u8]) -> u32
     ensures { result ≡ differing_bits first.now second.now }
 {
     let mut bits: u32 = 0;
-    let mut i: usize = 0;
-    while i < first.len() {
-        bits += ones_of(first[i], second[i]);
-        i += 1;
+    for i in 0..first.len() {
+        bits += (first[i] ^ second[i]).count_ones();
     }
     bits
-}
-
-// The ones of two bytes combined by exclusive or.
-fn ones_of(a: u8, b: u8) -> u32
-    ensures { (result ≡ ones (bit_xor a b)) × (result ≤ 8) }
-{
-    u8::count_ones(a ^ b)
 }
 
 // Whether the check of a read is good.
@@ -166,19 +133,5 @@ fn is_good(read: &[u8], data_mark: u8) -> bool
 {
     let size = read.len() - CHECK_BYTES;
     let before = crc::check_word(&[0xA1, 0xA1, 0xA1, data_mark]);
-    let word = crc::check_word_from(before, &read[..size]);
-    word == check_bytes(read[size], read[size + 1])
-}
-
-// Two check bytes as one number.
-fn check_bytes(high: u8, low: u8) -> u16
-    ensures { result ≡ high * 256 + low }
-{
-    wide(high) * 256 + wide(low)
-}
-
-fn wide(byte: u8) -> u16
-    ensures { (result ≡ byte) × (result < 256) }
-{
-    byte as u16
+    crc::check_word_from(before, &read[..size]) == u16::from_be_bytes([read[size], read[size + 1]])
 }

@@ -20,9 +20,8 @@ returns c f round short held near far =
     let s = c.args.s in
     let d = c.layout_of-layout in
     let l = d.result in
-    let w = c.wide.ensures.0 in
     rw (← d.ensures.layout)
     (inside_both l.sync l.mark_length l.id_length f s _
     (c.syncs_between-inside.ensures.1 f l.sync round short (rw (← d.ensures.layout) at held) (omega (arith, d.ensures.sound.id)))
     _ c.if-s-eq0.false
-    (rw (← w) (c.syncs_between.ensures.1 f l.sync round short (rw (← d.ensures.layout) at held) (omega arith))))
+    (c.syncs_between.ensures.1 f l.sync round short (rw (← d.ensures.layout) at held) (omega arith)))

@@ -1,16 +1,14 @@
--- `lines::header` meets its contract: its parts one after the other. Assumes nothing.
+-- The header's parts one after the other. Assumes nothing.
+use Rattle.std.proofs.Common.{rules}
 use Rattle.lines.specs.Lines.{bytes_of, header_of}
-use Rattle.lines.proofs.Writing.{◌then◌, promised}
+use Rattle.lines.proofs.Steps.{◌and◌}
+use Rattle.lines.proofs.Writing.{answer_is, out_is}
 use Rattle.lines.proofs.header.Goals as goal
 
-pub returns : goal.returns
+pub returns-clause-answer : goal.returns-clause-answer
 unfolding header_of bytes_of
-returns c =
-    let line-end = c in
-    let findings = c in
-    let sectors = c in
-    let cells = c in
-    let side = c in
-    let track = c in let both = promised
-    (c.write_byte-next.ensures then c.write_two_digits-next.ensures then c.write_field-next.ensures then c.write_field-next-2.ensures
-    then c.write_field-next-3.ensures then c.write_field-next-4.ensures then c.write_byte.ensures) in record { answer = both.0; out = both.1 }
+returns-clause-answer c = let w = c.byte.ensures and c.two_digits.ensures and c.field.ensures and c.field-2.ensures and c.field-3.ensures and c.field-4.ensures and c.byte-2.ensures in answer_is w.wrote
+
+pub returns-clause-out : goal.returns-clause-out
+unfolding header_of bytes_of
+returns-clause-out c = let w = c.byte.ensures and c.two_digits.ensures and c.field.ensures and c.field-2.ensures and c.field-3.ensures and c.field-4.ensures and c.byte-2.ensures in search (rules, out_is w.wrote)

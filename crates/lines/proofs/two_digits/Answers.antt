@@ -1,8 +1,12 @@
--- `lines::two_digits` meets its contract. Assumes nothing.
+-- Two digits are two bytes. Assumes nothing.
+use Rattle.std.proofs.Common.{rules}
 use Rattle.lines.specs.Lines.{two_digits}
 use Rattle.lines.proofs.Writing.{answer_is, out_is}
 use Rattle.lines.proofs.two_digits.Goals as goal
 
-pub returns : goal.returns
+pub returns-clause-answer : goal.returns-clause-answer
 unfolding two_digits
-returns c = let w = c.write_two_digits.ensures in record { answer = answer_is w; out = out_is w }
+returns-clause-answer c = answer_is c.two_digits.ensures.wrote
+
+pub returns-clause-out : goal.returns-clause-out
+returns-clause-out c = search (rules, out_is c.two_digits.ensures.wrote)

@@ -8,7 +8,7 @@ use lib.ListN.{length}
 use mir.Syntax.{w32}
 use mir.Val.{SFits}
 use mir.Facts.{to_z-of_z}
-use Rattle.separation.specs.PrivateContracts.{IsHalfWindow}
+use Rattle.separator.specs.Rule.{IsHalfWindow}
 use Rattle.separation.proofs.BorderPulses.{one_at_most, none_passed, one-passed, all-passed}
 use Rattle.separation.proofs.Walk.{Walked, Turn, turn, walk-small, walk_end}
 use Rattle.separation.proofs.Writing.{front-cleared, filled-start, filled_next, filled-end}

@@ -6,15 +6,15 @@ use Rattle.cell_words.proofs.Words.{holds-less}
 use Rattle.cell_patterns.proofs.LongRuns.{long_at, no-long-run}
 use borrow.Author.Rules.{rules}
 use Rattle.cell_patterns.proofs.zeros.longest_run.Goals as goal
+use Rattle.cell_patterns.proofs.zeros.longest_run.Goals.{then-n-gt-MOST_CELLS-via-then-n-gt-MOST_CELLS, then-n-gt-MOST_CELLS-via-else-n-gt-MOST_CELLS+then-not-some_zero}
 
 pub returns-then-n-gt-MOST_CELLS : goal.returns-then-n-gt-MOST_CELLS
-returns-then-n-gt-MOST_CELLS c f round h short held long = absurd (omega (arith, c.if-n-gt-MOST_CELLS.true))
-
-pub returns-then-not-some_zero : goal.returns-then-not-some_zero
-returns-then-not-some_zero c f round h short held long =
+returns-then-n-gt-MOST_CELLS c f round h short held long =
     let a = c.args in
-    rw (c.no_run-then-not-some_zero.ensures.0, c.no_run-then-not-some_zero.ensures.1)
-    (no-long-run f a.n _ (holds-less (one_at f) _ (a.n / 64 + 68) (a.n / 64 + 2) held (omega arith)) (c.some_zero.ensures c.if-not-some_zero.true (search rules)))
+    elim c.then-n-gt-MOST_CELLS.branch [
+    | then-n-gt-MOST_CELLS-via-then-n-gt-MOST_CELLS w ↦ absurd (omega (arith, w.if-n-gt-MOST_CELLS.true))
+    | then-n-gt-MOST_CELLS-via-else-n-gt-MOST_CELLS+then-not-some_zero w ↦ no-long-run f a.n _ (holds-less (one_at f) _ (a.n / 64 + 68) (a.n / 64 + 2) held (omega arith)) (w.some_zero.ensures w.if-not-some_zero.true (search rules))
+    ]
 
 pub returns : goal.returns
 returns c f round h short held long =

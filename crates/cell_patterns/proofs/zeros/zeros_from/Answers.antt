@@ -22,5 +22,5 @@ returns c = (
       let s = c in
       let a = c.args in
       zeros-over-index f a.n a.p c.requires.0 round _ a.first _
-      (c.least_in-end.ensures.1 (one_at f) (a.n / 64 + 1) held (search rules) (search rules)) c.if-end-n.false first c.smaller.ensures.0,
+      (c.least_in-end.ensures.1 (one_at f) (a.n / 64 + 1) held (search rules) (search rules)) c.if-end-n.false first c.min.ensures,
 )

@@ -1,8 +1,0 @@
--- `lines::last_digit` meets its contract. Assumes nothing.
-use mathlib.Core.Path.{refl}
-use Rattle.lines.specs.Lines.{digit}
-use Rattle.lines.proofs.last_digit.Goals as goal
-
-pub returns : goal.returns
-unfolding digit
-returns c = refl
