@@ -117,7 +117,7 @@ fn make_maps(
     words: &mut [u64; WORDS],
     syncs: &mut [u64; WORDS],
 )
-    requires { cells.entry.count ≤ 131072 }
+    requires { cells.count ≤ 131072 }
     ensures { TrackMaps (layout_of density) cells.entry.bytes.now cells.entry.count words.new syncs.new }
 {
     clear(words);
@@ -142,7 +142,7 @@ fn list(
     words: &[u64; WORDS],
     syncs: &[u64; WORDS],
 ) -> Sectors
-    requires { (cells.entry.count ≤ 131072) × TrackMaps (layout_of density) cells.entry.bytes.now cells.entry.count words.now syncs.now }
+    requires { (cells.count ≤ 131072) × TrackMaps (layout_of density) cells.bytes.now cells.count words.now syncs.now }
     ensures { result ≡ kept (sectors_of (layout_of density) cells.entry.bytes.now cells.entry.count) }
 {
     let layout = layout_of(density);
@@ -159,7 +159,7 @@ fn list(
 // The sectors of a track, in one pass from ID mark to ID mark. Past the first 64 they are only counted, and no records are made of them. The struct is
 // changed in place: a function that took it and gave it back would copy all its records.
 fn list_by(layout: Layout, cells: Cells, marks: &[u64; WORDS]) -> Sectors
-    requires { Sound layout × (cells.entry.count ≤ 131072) × MarkMap layout (cell cells.entry.bytes.now cells.entry.count) cells.entry.count marks.now }
+    requires { Sound layout × (cells.count ≤ 131072) × MarkMap layout (cell cells.bytes.now cells.count) cells.count marks.now }
     ensures { result ≡ kept (sectors_of layout cells.entry.bytes.now cells.entry.count) }
 {
     let mut sectors = no_sectors();
@@ -214,7 +214,7 @@ pub fn no_sector() -> Sector
 
 // The record of the ID mark at p.
 fn sector_at(layout: Layout, cells: Cells, marks: &[u64; WORDS], p: usize) -> Sector
-    requires { Sound layout × (p < 131072) × MarkMap layout (cell cells.entry.bytes.now cells.entry.count) cells.entry.count marks.now × (p ≤ cells.entry.count) }
+    requires { Sound layout × (p < 131072) × MarkMap layout (cell cells.bytes.now cells.count) cells.count marks.now × (p ≤ cells.count) }
     ensures { result ≡ sector_at layout (cell cells.entry.bytes.now cells.entry.count) p }
 {
     let mark = mfm::byte_on(cells, p + layout.byte_place);
@@ -260,7 +260,7 @@ fn id_byte(mark: usize, cells: Cells, p: usize, i: usize) -> u8
 
 // Where the data mark of the ID mark at p stands, where there is one within reach.
 fn find_data(layout: Layout, cells: Cells, marks: &[u64; WORDS], p: usize) -> Option<usize>
-    requires { Sound layout × (p < 131072) × MarkMap layout (cell cells.entry.bytes.now cells.entry.count) cells.entry.count marks.now × (p ≤ cells.entry.count) }
+    requires { Sound layout × (p < 131072) × MarkMap layout (cell cells.bytes.now cells.count) cells.count marks.now × (p ≤ cells.count) }
     ensures { result ≡ data_place_of layout (cell cells.entry.bytes.now cells.entry.count) p }
 {
     let from = p + layout.id_length;
@@ -332,7 +332,7 @@ fn find_id_mark(
     from: usize,
     to: usize,
 ) -> usize
-    requires { (from ≤ to) × (to ≤ cells.entry.count + 1000) × MarkMap layout (cell cells.entry.bytes.now cells.entry.count) cells.entry.count marks.now }
+    requires { (from ≤ to) × (to ≤ cells.count + 1000) × MarkMap layout (cell cells.bytes.now cells.count) cells.count marks.now }
     ensures { result ≡ least (id_mark_at layout (cell cells.entry.bytes.now cells.entry.count)) (to - from) from }
 {
     if layout.density == SINGLE_DENSITY {
@@ -350,7 +350,7 @@ fn find_data_mark(
     from: usize,
     to: usize,
 ) -> usize
-    requires { (from ≤ to) × (to ≤ cells.entry.count + 1000) × MarkMap layout (cell cells.entry.bytes.now cells.entry.count) cells.entry.count marks.now }
+    requires { (from ≤ to) × (to ≤ cells.count + 1000) × MarkMap layout (cell cells.bytes.now cells.count) cells.count marks.now }
     ensures { result ≡ least (data_mark_at layout (cell cells.entry.bytes.now cells.entry.count)) (to - from) from }
 {
     if layout.density == SINGLE_DENSITY {
@@ -369,7 +369,7 @@ fn find_mark(
     from: usize,
     to: usize,
 ) -> usize
-    requires { (from ≤ to) × (to ≤ cells.entry.count + 1000) × Holds (likely_at (cell cells.entry.bytes.now cells.entry.count)) marks.now (cells.entry.count / 64 + 63) × (cells.entry.count ≤ 131072) × (0xC0 ≤ low) }
+    requires { (from ≤ to) × (to ≤ cells.count + 1000) × Holds (likely_at (cell cells.bytes.now cells.count)) marks.now (cells.count / 64 + 63) × (cells.count ≤ 131072) × (0xC0 ≤ low) }
     ensures { result ≡ least (mark_of (cell cells.entry.bytes.now cells.entry.count) low high) (to - from) from }
 {
     let mut p = cell_words::least_in(marks, from, to);

@@ -103,8 +103,8 @@ fn is_read_length(n: usize) -> bool
 // The least index at which the reads differ.
 fn first_difference(first: &[u8], second: &[u8]) -> Option<usize>
     requires { length first.now ≡ length second.now }
-    ensures { unwrap_or result (length first.now) ≡ first_difference first.now second.now }
-    ensures { (i : ℕ) → result ≡ Some i → i < length first.now }
+    ensures least { unwrap_or result (length first.now) ≡ first_difference first.now second.now }
+    ensures inside { (i : ℕ) → result ≡ Some i → i < length first.now }
 {
     for i in 0..first.len() {
         if first[i] != second[i] {
