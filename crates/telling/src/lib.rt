@@ -111,15 +111,14 @@ pub fn told_portion(
     ensures value { value.new ≡ value_in (answer_of answer) }
     ensures state { state.new ≡ number_kept (answer_of answer) state.old next }
 {
-    let advanced = reader_as_number::number_of_reader(next);
-    *state = match answer {
-        Ok(_) => advanced,
-        Err(_) => *state,
-    };
+    if answer.is_ok() {
+        *state = reader_as_number::number_of_reader(next);
+    }
     told(answer, value)
 }
 
 // A sector's record as numbers.
+#[tactic(auto, unfolding(crate::specs::Numbers::sector_numbers))]
 pub fn sector_numbers(sector: Sector) -> [u32; 13]
     ensures { result ≡ sector_numbers sector }
 {
