@@ -294,3 +294,19 @@ out-of-all ts = rw (zero-add (first_out ts))
 -- few zeros are counted as they are
 pub few-as-they-are : (unfinished : Unfinished) → unfinished.zeros ≤ 7 → capped unfinished ≡ unfinished
 few-as-they-are unfinished h = rw (min-eq_left h)
+
+-- the first of some timings that is out of range, and where all are in it
+module _ (ts : List ℕ) {out : Option ℕ} (is : out ≡ out_among ts) where
+  pub out-some-is : {first : ℕ} → out ≡ Some first → (first_out ts < length ts) × (first ≡ first_out ts)
+  out-some-is {first} e = go (ltb (first_out ts) (length ts)) refl (sym e ∙ is)
+    where
+      go : (x : Bool) → ltb (first_out ts) (length ts) ≡ x → Some first ≡ cond x (Some (first_out ts)) None → (first_out ts < length ts) × (first ≡ first_out ts)
+      go true x e = (ltb-true (first_out ts) (length ts) x, cc)
+      go false x e = absurd cc
+
+  pub out-none-is : out ≡ None → length ts ≤ first_out ts
+  out-none-is e = go (ltb (first_out ts) (length ts)) refl (sym e ∙ is)
+    where
+      go : (x : Bool) → ltb (first_out ts) (length ts) ≡ x → None ≡ cond x (Some (first_out ts)) None → length ts ≤ first_out ts
+      go true x e = absurd cc
+      go false x e = ltb-false (first_out ts) (length ts) x
