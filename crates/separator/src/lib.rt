@@ -83,6 +83,7 @@ impl Separator {
     }
 
     // One timing. Beside a refusal the state stays as it is.
+    #[tactic(auto, unfolding(crate::specs::Rule::step_answer_by, crate::specs::Rule::step_offset_by, crate::specs::Rule::step_residual_by))]
     pub fn step<W: BitWindow>(&mut self, timing: u32) -> Result<Step, Refusal>
         ensures answer { taken_answer result ≡ step_answer_by W.HALF self.old.residual timing }
         ensures offset { offset_given result ≡ step_offset_by W.HALF self.old.residual timing }
@@ -130,8 +131,9 @@ impl Separator {
 fn usable_residual<W: BitWindow>(residual: i32) -> i32
     ensures { result ≡ usable W.HALF residual }
 {
-    let least = -((W::HALF / 2) as i32);
-    let most = ((W::HALF - 1) / 2) as i32;
+    let half = W::HALF;
+    let least = -((half / 2) as i32);
+    let most = ((half - 1) / 2) as i32;
     if least <= residual && residual <= most {
         residual
     } else {
