@@ -4,7 +4,7 @@
 // to store them.
 #![tactic(auto)]
 
-ghost use Rattle.std.specs.Prelude.{◌≡◌, length};
+ghost use Rattle.std.specs.Prelude.{◌≡◌, ◌≤◌, length};
 ghost use Rattle.refusals.specs.RefusedCalls.{answer_of};
 ghost use Rattle.revolution_portions.specs.Portions.{fresh_reader, usable_reader, portion_answer, portion_reader, portion_list, AllTimings};
 
@@ -35,7 +35,9 @@ impl RevolutionReader {
     // A fresh state in the place of one that calls cannot leave (rule 12.19).
     #[tactic(auto, unfolding(crate::specs::Portions::usable_reader, crate::specs::Portions::is_left_by_calls))]
     pub fn usable(self) -> Self
-        ensures { result ≡ usable_reader self }
+        ensures is { result ≡ usable_reader self }
+        ensures few_zeros { result.unfinished.zeros ≤ 7 }
+        ensures few_timings { result.timings ≤ 65536 }
     {
         if revolution_values::MOST_ZEROS < self.unfinished.zeros {
             return RevolutionReader::new();
