@@ -51,23 +51,31 @@ module _ (layout : Layout) (bytes : List ℕ) (N T H : ℕ) (s : Sectors) (place
   abbrev all : List Sector
   all = sectors_of layout bytes N
 
-  pub sectors-listed : s ≡ kept all
-  sectors-listed = e ∙ ap (λ (b : Bool). kept (cond b [] all)) (or_right (ltb N 20000) (ltb 131072 N) cells)
+  listed : s ≡ kept all
+  listed = e ∙ ap (λ (b : Bool). kept (cond b [] all)) (or_right (ltb N 20000) (ltb 131072 N) cells)
 
   counted : s.count ≡ length all
-  counted = ap (λ (x : Sectors). x.count) sectors-listed ∙ kept-count all
+  counted = ap (λ (x : Sectors). x.count) listed ∙ kept-count all
 
-  pub sectors-many : 64 < s.count → refused 4 s.count ≡ sectors_answer layout bytes N T H
+  pub many_sectors : 64 < s.count → refused 4 s.count ≡ sectors_answer layout bytes N T H
   unfolding sectors_answer count_judged
-  sectors-many h =
+  many_sectors h =
       let l : 64 < length all = rw (← counted) h in
       rw counted (rw (lt-ltb 64 (length all) l) (track-accepted bytes N T H (refused 4 (length all)) place cells enough))
 
-  pub sectors-few : s.count ≤ 64 → gives s.count ≡ sectors_answer layout bytes N T H
+  pub none_beside : 64 < s.count → kept [] ≡ sectors_beside (sectors_answer layout bytes N T H) all
+  unfolding sectors_beside
+  none_beside h = ap (λ (x : Answer ℕ). sectors_beside x all) (many_sectors h)
+
+  pub few_sectors : s.count ≤ 64 → gives s.count ≡ sectors_answer layout bytes N T H
   unfolding sectors_answer
-  sectors-few h =
+  few_sectors h =
       let l : length all ≤ 64 = rw (← counted) h in
       rw counted (count-accepted (length all) (gives (length all)) l ∙ track-accepted bytes N T H (count_judged (length all) (gives (length all))) place cells enough)
+
+  pub all_beside : s.count ≤ 64 → s ≡ sectors_beside (sectors_answer layout bytes N T H) all
+  unfolding sectors_beside
+  all_beside h = listed ∙ ap (λ (x : Answer ℕ). sectors_beside x all) (few_sectors h)
 
 -- y refuses as x does, and where x is accepted it is `next`
 pub record Follows {A B : Type 0} (x : Answer A) (y next : Answer B) : Type 0 where

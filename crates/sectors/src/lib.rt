@@ -60,7 +60,7 @@ impl<'a> Track<'a> {
     }
 
     // The same. Where the call is not refused, the maps of the track's ones and syncs stand in two lent arrays then, for what else looks at its cells.
-    #[tactic(auto, unfolding(crate::specs::Calls::track_judged, crate::specs::Calls::count_judged, crate::specs::Calls::sectors_answer, crate::specs::Calls::sectors_beside))]
+    #[tactic(auto, unfolding(crate::specs::Calls::track_judged, crate::specs::Calls::count_judged, crate::specs::Calls::sectors_answer, crate::specs::Calls::sectors_beside), using(crate::proofs::Calls::many_sectors, crate::proofs::Calls::none_beside, crate::proofs::Calls::few_sectors, crate::proofs::Calls::all_beside))]
     pub fn sectors_with_maps(
         self,
         density: Density,
