@@ -84,6 +84,7 @@ fn fill<W: BitWindow>(timings: &[u32], room: &mut [u8; MOST_CELL_BYTES]) -> Coun
     let mut border_pulses: usize = 0;
     let mut separator = Separator::new();
     for timing in timings {
+        // Each is in range, so that no step refuses.
         if let Ok(step) = separator.step_on::<W>(*timing) {
             let more = step.cells as usize;
             put_cells(room, count, more);
