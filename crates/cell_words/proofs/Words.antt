@@ -3,7 +3,7 @@ use Prim.Native.Nat.{ℕ, zero, suc, ◌+◌, ◌-◌, ◌*◌, ◌/◌, ◌%◌
 use mathlib.Core.Path.{◌≡◌, refl, sym, ap, ◌∙◌}
 use mathlib.Core.Bool.{Bool, true, false, not, cond, ◌&&◌, ◌||◌}
 use mathlib.Core.List.{List}
-use native.Mathlib.Nat.{add-mul, zero-add, add-zero, suc-add, pow-suc, mul_assoc, mul_comm, zero-mul, zero-div, mod-lt}
+use native.Mathlib.Nat.{add-mul, zero-add, add-zero, suc-add, pow-suc, mul_assoc, zero-mul, zero-div, mod-lt}
 use native.Mathlib.Numerals.{add-one}
 use native.Mathlib.Decide.{ℕ_discrete}
 use native.Mathlib.Omega.{arith}

@@ -1,7 +1,7 @@
 // The plain image of a track: the data of its nine sectors, in the order of their numbers.
 #![tactic(auto)]
 
-ghost use Rattle.std.specs.Prelude.{◌≡◌, ◌+◌, ◌≤◌, eqb, length, position, any};
+ghost use Rattle.std.specs.Prelude.{◌≡◌, ◌+◌, ◌≤◌, eqb, length, position};
 ghost use Rattle.std.proofs.lemmas.List.Edits.{sets};
 ghost use Rattle.basis.specs.Lists.{written_over};
 ghost use Rattle.cells.specs.CellsAndBytes.{cell};
@@ -75,7 +75,7 @@ fn fits(sectors: &[Sector], number: u8) -> bool
     match find(sectors, number) {
         None => false,
         Some(first) => {
-            !has_number(&sectors[first + 1..], number) && is_plain(&sectors[first])
+            find(&sectors[first + 1..], number).is_none() && is_plain(&sectors[first])
         }
     }
 }
@@ -85,13 +85,6 @@ fn find(sectors: &[Sector], number: u8) -> Option<usize>
     ensures { result ≡ position (λ s. eqb s.number number) sectors.now }
 {
     sectors.iter().position(|s| s.number == number)
-}
-
-// Whether some sector has this number.
-fn has_number(sectors: &[Sector], number: u8) -> bool
-    ensures { result ≡ any (λ s. eqb s.number number) sectors.now }
-{
-    sectors.iter().any(|s| s.number == number)
 }
 
 // Whether a sector has 512 bytes with good checks.
@@ -105,7 +98,12 @@ fn is_plain(sector: &Sector) -> bool
 fn some_outside(sectors: &[Sector]) -> bool
     ensures { result ≡ some_outside sectors.now }
 {
-    sectors.iter().any(|s| (s.number < 1) | (9 < s.number))
+    for sector in sectors {
+        if (sector.number < 1) | (9 < sector.number) {
+            return true;
+        }
+    }
+    false
 }
 
 // The nine sectors, each after the one with the number before it.

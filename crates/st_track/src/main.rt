@@ -20,15 +20,17 @@ enum Written {
 }
 
 // Reads the input, by way of `buffer`, and then puts its image, or the line that says why there is none, at the front of `buffer`.
-fn image_input<R: Read>(from: &mut R, cells: &mut [u8], buffer: &mut [u8]) -> Written
-    requires { (length cells.old ≡ 16384) × (length buffer.old ≡ 65536) }
+fn image_input<R: Read>(
+    from: &mut R,
+    cells: &mut [u8; track_file::ROOM],
+    buffer: &mut [u8; 65536],
+) -> Written
     ensures few_output { output_count result ≤ 65536 }
     ensures few_message { message_count result ≤ 65536 }
     ensures image { ImagedInput (output_count result) (message_count result) buffer.new }
 {
     let start = track_file::start(cells);
-    let input = track_input::read_all(from, start, buffer, cells);
-    match input {
+    match track_input::read_all(from, start, buffer, cells) {
         Input::Ended(reader) => match file_image::image_file(reader, cells, buffer) {
             Ok(count) => Written::Output(count),
             Err(refusal) => Written::Message(write_refusal(refusal, buffer)),
@@ -79,8 +81,7 @@ fn write_unreadable(out: &mut [u8]) -> usize
 fn main(rt: HostRuntime) {
     let mut cells = [0u8; track_file::ROOM];
     let mut buffer = system_calls::large_buffer();
-    let written = image_input(&mut rt.stdin(), &mut cells, &mut buffer);
-    let _ = match written {
+    let _ = match image_input(&mut rt.stdin(), &mut cells, &mut buffer) {
         Written::Output(count) => rt.stdout().write_all(&buffer[..count]),
         Written::Message(count) => rt.stderr().write_all(&buffer[..count]),
     };

@@ -1,5 +1,5 @@
 -- `cell_words::map_by_cells` meets its contract: after k cells the map is that of the places where the first k of the word stand. Assumes nothing.
-use Prim.Native.Nat.{◌+◌, ◌-◌}
+use Prim.Native.Nat.{◌+◌}
 use mathlib.Core.Path.{◌≡◌}
 use native.Mathlib.Omega.{arith}
 use Rattle.cell_words.specs.Tests.{one_at, stands_at}

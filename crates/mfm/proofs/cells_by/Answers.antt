@@ -4,4 +4,4 @@ use Rattle.mfm.proofs.Cells.{cast-bit}
 use Rattle.mfm.proofs.cells_by.Goals as goal
 
 pub returns : goal.returns
-returns c = c.entry.ensures ∙ rw (cast-bit c.args.before)
+returns c = c.entry.ensures ∙ rw (c.from.ensures, cast-bit c.args.before)
