@@ -22,7 +22,7 @@ use Rattle.track_file.specs.Portions.{read_answer, finish_answer, reader_through
 use Rattle.track_file.specs.TrackFile.{Content, file_answer_in, file_buffer}
 use Rattle.std.specs.Prelude.{Result, Ok}
 use Rattle.track_file.specs.declared.FileCells.{FileCells}
-use Rattle.track_file.proofs.Whole.{finished}
+use Rattle.track_file.proofs.Whole.{whole_of_answer}
 use Rattle.disk_files.specs.TrackOfFile.{FoundTrack, found, track_found, file_track, track_of_file, finding_count, track_numbers, finding_numbers}
 
 -- what a call answers and leaves of the two lists, of a track or a refusal
@@ -70,7 +70,7 @@ pub whole-track : (reader : Reader) (cells buffer : List ℕ) (portions : List (
     → file_track (finish_answer reader) cells ≡ track_of_file (length buffer) (whole_of portions)
 unfolding track_of_file
 whole-track reader cells buffer portions same-reader same-cells =
-    let whole = (finished reader refl).1.whole buffer portions same-reader in
+    let whole = (whole_of_answer reader refl).whole buffer portions same-reader in
     same-track (finish_answer reader) cells (file_buffer (length buffer) (whole_of portions)) (λ content accepted. same-cells ∙ whole.1 content accepted)
     ∙ ap (λ (x : Answer Content). file_track x (file_buffer (length buffer) (whole_of portions))) whole.0
 
