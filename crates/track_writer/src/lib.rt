@@ -46,11 +46,11 @@ fn count_pieces(list: &[u8]) -> usize
     ensures { UpToMost (length (pieces_of list.now)) result }
 {
     let mut count: usize = 0;
-    for byte in list {
+    for &byte in list {
         if MOST_PIECES < count {
             return count;
         }
-        count += pieces_for(*byte);
+        count += pieces_for(byte);
     }
     count
 }
@@ -72,9 +72,9 @@ fn write_list(list: &[u8], cells: &mut [u8])
         run: false,
     };
     let mut at: usize = 0;
-    for byte in list {
-        at = put_byte(&table, writer, *byte, cells, at);
-        writer = step(writer, *byte);
+    for &byte in list {
+        at = put_byte(&table, writer, byte, cells, at);
+        writer = step(writer, byte);
     }
 }
 
