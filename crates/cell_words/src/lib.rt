@@ -17,8 +17,9 @@ pub const WORDS: usize = 2116;
 // The places of a map.
 const PLACES: usize = 135424;
 
-// The 64 cells from p of a track of n cells, counted on past n. Where they lie on the track and nine bytes hold them they are loaded at once; all
+// The 64 cells from p, counted on past the track's end. Where they lie on the track and nine bytes hold them they are loaded at once; all
 // else is a function of its own, so that the compiler puts these few lines into the loops that ask.
+#[inline(always)]
 pub fn word_from(cells: Cells, p: usize) -> u64
     ensures { result ≡ word (cell cells.entry.bytes.now cells.entry.count) 64 p }
 {
@@ -34,6 +35,7 @@ pub fn word_from(cells: Cells, p: usize) -> u64
 }
 
 // The same for any place, which is first moved before the track's end.
+#[inline(never)]
 fn word_round(cells: Cells, p: usize) -> u64
     ensures { result ≡ word (cell cells.entry.bytes.now cells.entry.count) 64 p }
 {

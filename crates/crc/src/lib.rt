@@ -66,8 +66,8 @@ fn after_rest(word: u16, bytes: &[u8]) -> u16
     ensures { result ≡ check_word_from word bytes.now }
 {
     let mut so_far = word;
-    for byte in bytes {
-        so_far = step(so_far, *byte);
+    for &byte in bytes {
+        so_far = step(so_far, byte);
     }
     so_far
 }

@@ -116,11 +116,11 @@ fn write_by_table(table: &[u16; 512], bytes: &[u8], before: bool, cells: &mut [u
     ensures { cells.new ≡ written_over (coded_by table.now (cond before 1 0) bytes.now) cells.old }
 {
     let mut last = u8::from(before);
-    for (i, byte) in bytes.iter().enumerate() {
-        let [high, low] = entry(table, last, *byte).to_be_bytes();
+    for (i, &byte) in bytes.iter().enumerate() {
+        let [high, low] = entry(table, last, byte).to_be_bytes();
         cells[2 * i] = high;
         cells[2 * i + 1] = low;
-        last = *byte;
+        last = byte;
     }
 }
 

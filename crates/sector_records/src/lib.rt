@@ -105,12 +105,7 @@ const LAST_DATA_MARK: u8 = 0xFB;
 
 // Makes the two maps of a track. They go on past its end: that of the syncs by 64 words, since data may begin there; that of the ones goes further, since
 // each map that is made of it comes out shorter.
-fn make_maps(
-    density: Density,
-    cells: Cells,
-    words: &mut [u64; WORDS],
-    syncs: &mut [u64; WORDS],
-)
+fn make_maps(density: Density, cells: Cells, words: &mut [u64; WORDS], syncs: &mut [u64; WORDS])
     requires { cells.count ≤ 131072 }
     ensures { TrackMaps (layout_of density) cells.entry.bytes.now cells.entry.count words.new syncs.new }
 {
@@ -244,7 +239,8 @@ impl<'a> Marked<'a> {
     {
         let place = p + self.layout.byte_place;
         let end = p + self.layout.mark_length + BYTE_LENGTH * k;
-        check_word(self.layout.check_start, self.cells, place, k + 1) == check_bytes(self.cells, end)
+        check_word(self.layout.check_start, self.cells, place, k + 1)
+            == check_bytes(self.cells, end)
     }
 
     // Where the data mark of the ID mark at p stands, where there is one within reach.
@@ -280,7 +276,8 @@ impl<'a> Marked<'a> {
         match self.density {
             Density::Single => {
                 let data = self.cells.find_word(DATA_WORD, WORD_CELLS, from, to);
-                self.cells.find_word(DELETED_DATA_WORD, WORD_CELLS, from, data)
+                self.cells
+                    .find_word(DELETED_DATA_WORD, WORD_CELLS, from, data)
             }
             Density::Double => self.find_mark(FIRST_DATA_MARK, LAST_DATA_MARK, from, to),
         }
@@ -336,6 +333,7 @@ pub fn no_sector() -> Sector
 }
 
 // The data length of a size code, of which the controller sees the two low bits.
+#[tactic(auto, unfolding(crate::specs::Sectors::length_of))]
 fn length_of(code: u8) -> u32
     ensures { (result ≡ length_of code) × (result ≤ 1024) }
 {
@@ -354,7 +352,10 @@ fn check_word(start: u16, cells: Cells, p: usize, k: usize) -> u16
 {
     let mut decoded = [0u8; 1028];
     for i in 0..(k + 3) / 4 {
-        let four = mfm::data_cells(cell_words::word_from(cells, p + 4 * BYTE_LENGTH * i)).to_be_bytes();
+        let four = mfm::data_cells(cell_words::word_from(
+            cells,
+            p + 4 * BYTE_LENGTH * i,
+        )).to_be_bytes();
         decoded[4 * i] = four[4];
         decoded[4 * i + 1] = four[5];
         decoded[4 * i + 2] = four[6];
@@ -364,6 +365,7 @@ fn check_word(start: u16, cells: Cells, p: usize, k: usize) -> u16
 }
 
 // The two check bytes from p on, as a word.
+#[tactic(auto, unfolding(crate::specs::Sectors::check_bytes))]
 fn check_bytes(cells: Cells, p: usize) -> u16
     requires { p ≤ 300000 }
     ensures { result ≡ check_bytes (cells_on cells.entry) p }
