@@ -23,13 +23,9 @@ const PLACES: usize = 135424;
 pub fn word_from(cells: Cells, p: usize) -> u64
     ensures { result ≡ word (cell cells.entry.bytes.now cells.entry.count) 64 p }
 {
-    if p < cells.count {
-        if 64 <= cells.count - p {
-            let k = p / 8;
-            if k + 8 < cells.bytes.len() {
-                return nine_bytes(cells.bytes, k, p % 8);
-            }
-        }
+    let k = p / 8;
+    if p < cells.count && 64 <= cells.count - p && k + 8 < cells.bytes.len() {
+        return nine_bytes(cells.bytes, k, p % 8);
     }
     word_round(cells, p)
 }
@@ -40,13 +36,9 @@ fn word_round(cells: Cells, p: usize) -> u64
     ensures { result ≡ word (cell cells.entry.bytes.now cells.entry.count) 64 p }
 {
     let at = place_on(cells.count, p);
-    if at < cells.count {
-        if 64 <= cells.count - at {
-            let k = at / 8;
-            if k + 8 < cells.bytes.len() {
-                return nine_bytes(cells.bytes, k, at % 8);
-            }
-        }
+    let k = at / 8;
+    if at < cells.count && 64 <= cells.count - at && k + 8 < cells.bytes.len() {
+        return nine_bytes(cells.bytes, k, at % 8);
     }
     cells.word(at, 64)
 }
@@ -109,10 +101,7 @@ pub fn gap_map(words: &[u64; WORDS], map: &mut [u64; WORDS], m: usize)
 pub fn both_map(map: &mut [u64; WORDS], k: usize, m: usize)
     ensures { (t : ℕ → Bool) → Holds t map.old (m + 1) → m < 2116 → 1 ≤ k → k < 64 → length map.old ≡ 2116 → MapOf (both_at k t) map.new m }
 {
-    if k == 0 {
-        return;
-    }
-    if 63 < k {
+    if k == 0 || 63 < k {
         return;
     }
     both_by(map, k, m);
@@ -122,10 +111,7 @@ pub fn both_map(map: &mut [u64; WORDS], k: usize, m: usize)
 pub fn keep_map(words: &[u64; WORDS], k: usize, passes: bool, map: &mut [u64; WORDS], m: usize)
     ensures { (s t : ℕ → Bool) → Holds s words.now (m + 1) → Holds t map.old m → m < 2116 → 1 ≤ k → k < 64 → length map.old ≡ 2116 → MapOf (kept_from k passes s t) map.new m }
 {
-    if k == 0 {
-        return;
-    }
-    if 63 < k {
+    if k == 0 || 63 < k {
         return;
     }
     keep_by(words, k, passes, map, m);
@@ -312,16 +298,11 @@ fn zeros_before(x: u64) -> usize
 }
 
 // A place whose cells are those from p: before the track's end, where there is one.
+#[tactic(auto, using(crate::proofs::Loading::same_place))]
 fn place_on(n: usize, p: usize) -> usize
     ensures { (bytes : List ℕ) (q : ℕ) → cell bytes n (result + q) ≡ cell bytes n (p + q) }
 {
-    if p < n {
-        return p;
-    }
-    if n == 0 {
-        return p;
-    }
-    p % n
+    if p < n || n == 0 { p } else { p % n }
 }
 
 // The 64 cells from cell s of byte k on.

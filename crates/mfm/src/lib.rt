@@ -147,15 +147,11 @@ fn sixteen_cells(cells: Cells, p: usize) -> u64
 {
     let bytes = cells.bytes;
     let k = p / 8;
-    if p < cells.count {
-        if 16 <= cells.count - p {
-            if k + 2 < bytes.len() {
-                let three = u64::from(bytes[k]) * 65536
-                    + u64::from(bytes[k + 1]) * 256
-                    + u64::from(bytes[k + 2]);
-                return (three >> (8 - p % 8)) % 65536;
-            }
-        }
+    if p < cells.count && 16 <= cells.count - p && k + 2 < bytes.len() {
+        let three = u64::from(bytes[k]) * 65536
+            + u64::from(bytes[k + 1]) * 256
+            + u64::from(bytes[k + 2]);
+        return (three >> (8 - p % 8)) % 65536;
     }
     cells.word(p, 16)
 }

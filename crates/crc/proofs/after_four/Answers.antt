@@ -1,20 +1,8 @@
 -- `crc::after_four` meets its contract: each byte's part of the word is looked up by itself (Linear). Assumes nothing.
-use Prim.Native.Nat.{◌/◌, ◌%◌}
 use mathlib.Core.Path.{sym}
 use native.Mathlib.Omega.{arith}
-use lib.Bits.{xor_lt}
 use Rattle.crc.proofs.Linear.{four_bytes}
 use Rattle.crc.proofs.after_four.Goals as goal
-
-pub entry-requires : goal.entry-requires
-entry-requires c =
-    let s = c in
-    (c.requires, xor_lt 8 (c.args.word / 256) c.from.result (omega arith) (omega arith), omega arith)
-
-pub entry-requires-2 : goal.entry-requires-2
-entry-requires-2 c =
-    let s = c in
-    (c.requires, xor_lt 8 (c.args.word % 256) c.from-2.result (omega arith) (omega arith), omega arith)
 
 pub returns : goal.returns
 returns c =
