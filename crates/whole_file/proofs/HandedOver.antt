@@ -10,7 +10,7 @@ use Rattle.std.specs.Prelude.{Result, Ok, Err}
 use Rattle.basis.specs.Lists.{written_over}
 use Rattle.cells.specs.CellsAndBytes.{bytes_for}
 use Rattle.refusals.specs.RefusedCalls.{Answer, buffer_after, refused_with}
-use Rattle.refusals.specs.RefusedCalls.Answer.{gives, refused}
+use Rattle.refusals.specs.RefusedCalls.Answer.{gives}
 use Rattle.refusals.specs.declared.Refusal.{Refusal}
 use Rattle.refusals.specs.declared.Refusal.TheVariants.{NoRoom}
 use Rattle.file_reader.specs.declared.Reader.{Reader}
