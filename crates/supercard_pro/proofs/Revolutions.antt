@@ -1,7 +1,7 @@
 -- The table of a block: its numbers, and the revolutions that are bad. Assumes nothing.
 use Prim.Native.Nat.{ℕ, zero, suc, ◌+◌, ◌-◌, ◌*◌, ◌≤◌, ◌<◌}
 use mathlib.Core.Path.{◌≡◌, refl, sym, ◌∙◌, ap}
-use mathlib.Core.Bool.{Bool, true, false, ◌||◌}
+use mathlib.Core.Bool.{true, false}
 use mathlib.Core.List.{List, [], ◌∷◌}
 use native.Mathlib.Omega.{arith}
 use borrow.Author.Tests.{lt-ltb, le-ltb}
@@ -11,13 +11,13 @@ use lib.Seq.{get_or-drop, get_or-take, length-take-le}
 use Rattle.basis.specs.Bytes.{four_bytes, number}
 use Rattle.basis.specs.Search.{least}
 use Rattle.basis.proofs.Search.{least_step, least-hit, least-end}
-use Rattle.supercard_pro.specs.TrackBlock.{value_count, value_offset, table_end, ends_in_zero, other_letters, bad_revolution, some_bad, not_a_track_block}
+use Rattle.supercard_pro.specs.TrackBlock.{value_count, value_offset, table_end, ends_in_zero, bad_revolution, some_bad}
 use Rattle.revolution_portions.specs.Timings.{values_of}
 
 -- a number at a place of the block
-pub number-here : (block : List ℕ) (at : ℕ)
+pub number_here : (block : List ℕ) (at : ℕ)
     → four_bytes (get_or block at 0) (get_or block (at + 1) 0) (get_or block (at + 2) 0) (get_or block (at + 3) 0) ≡ number (drop at block)
-number-here block at =
+number_here block at =
     let e : at + 0 ≡ at = omega arith in
     rw (get_or-drop at block 0 0, get_or-drop at block 1 0, get_or-drop at block 2 0, get_or-drop at block 3 0, e)
 
@@ -98,22 +98,3 @@ module _ (block : List ℕ) (revolutions : ℕ) where
       let f : least (bad_revolution block revolutions) revolutions 0 ≡ k
       = ap (λ (n : ℕ). least (bad_revolution block revolutions) n 0) (sym s) ∙ sym e ∙ least-end (bad_revolution block revolutions) k revolutions h in
       rw f (sym (le-ltb k revolutions h))
-
--- refusal 16
-or-true : (b : Bool) → true ≡ (b || true)
-or-true true = refl
-or-true false = refl
-
-module _ (block : List ℕ) (revolutions : ℕ) where
-  pub short-table : length block < table_end revolutions → true ≡ not_a_track_block block revolutions
-  unfolding not_a_track_block
-  short-table h = rw (lt-ltb (length block) (table_end revolutions) h) (or-true (other_letters block))
-
-  pub letters-differ : other_letters block ≡ true → true ≡ not_a_track_block block revolutions
-  unfolding not_a_track_block
-  letters-differ e = rw e
-
-  pub as-revolutions-are : table_end revolutions ≤ length block → other_letters block ≡ false → {bad : Bool} → bad ≡ some_bad block revolutions
-      → bad ≡ not_a_track_block block revolutions
-  unfolding not_a_track_block
-  as-revolutions-are h e b = rw (e, le-ltb (length block) (table_end revolutions) h) b
