@@ -2,13 +2,13 @@
 use Prim.Native.Nat.{ℕ, zero, suc, ◌+◌, ◌-◌, ◌*◌, ◌/◌, ◌%◌, ◌^◌, ◌<◌, ◌≤◌, min}
 use mathlib.Core.Path.{◌≡◌, refl, sym, ap, ◌∙◌}
 use mathlib.Core.Bool.{Bool, true, false, cond}
-use native.Mathlib.Nat.{zero-add, add-zero, pow-suc, mul_assoc, zero-mul, min-eq_left, min-eq_right, eq-zero-or-pos, mul-le-mul_right, mod-eq_of_lt, lt_of_lt_of_le}
+use native.Mathlib.Nat.{add-zero, pow-suc, mul_assoc, zero-mul, min-eq_left, min-eq_right, eq-zero-or-pos, mul-le-mul_right}
 use native.Mathlib.Omega.{arith}
 use mathlib.Core.Logic.{◌⊎◌, inl, inr}
 use lib.Count.{count_leading_zeros, leading_of_zero, leading_top, leading_unique}
 use lib.Pow.{pow-add, pow_pos, shl_lt}
 use Rattle.basis.specs.Search.{least, count}
-use Rattle.basis.proofs.Search.{least-low, least-longer, least_step, least-end, count-end}
+use Rattle.basis.proofs.Search.{least-low, least-longer, least_step, count-end}
 use Rattle.cell_words.specs.Words.{digit, mask}
 use Rattle.cell_words.proofs.Words.{digit_lt, mask_lt, word-rest, count-split, leading-mask}
 

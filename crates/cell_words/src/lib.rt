@@ -1,7 +1,7 @@
 // Tests on cells, made at 64 places at once. The map of a test is a list of words with a bit for each place, the highest bit for the first.
 #![tactic(auto)]
 
-ghost use Rattle.std.specs.Prelude.{◌≡◌, Bool, List, ℕ, ◌+◌, ◌-◌, ◌*◌, ◌/◌, ◌%◌, ◌^◌, ◌<◌, ◌≤◌, eqb, length};
+ghost use Rattle.std.specs.Prelude.{◌≡◌, Bool, List, ℕ, ◌+◌, ◌-◌, ◌*◌, ◌/◌, ◌%◌, ◌^◌, ◌<◌, ◌≤◌, eqb, length, get_or};
 ghost use Rattle.std.specs.Int.Count.{count_leading_zeros};
 ghost use Rattle.basis.specs.Search.{least, count};
 ghost use Rattle.cells.specs.CellsAndBytes.{cell_at, cell, word};
@@ -9,7 +9,6 @@ ghost use Rattle.cell_words.specs.Words.{mask, Holds, MapOf};
 ghost use Rattle.cell_words.specs.Tests.{one_at, like_at, both_at, kept_from, alone_at, gap_from, thrice_at, stands_at};
 ghost use Rattle.cell_words.specs.PrivateContracts.{seven_from, sync_from};
 
-use basis::smaller;
 use cells::Cells;
 
 // The words of a map: enough for a track of 131,072 cells, and for 4,352 places past its end.
@@ -18,34 +17,28 @@ pub const WORDS: usize = 2116;
 // The places of a map.
 const PLACES: usize = 135424;
 
-// The 64 cells from p of a track of n cells, counted on past n. Where they lie on the track and nine bytes hold them they are loaded at once; all
+// The 64 cells from p, counted on past the track's end. Where they lie on the track and nine bytes hold them they are loaded at once; all
 // else is a function of its own, so that the compiler puts these few lines into the loops that ask.
+#[inline(always)]
 pub fn word_from(cells: Cells, p: usize) -> u64
     ensures { result ≡ word (cell cells.entry.bytes.now cells.entry.count) 64 p }
 {
-    if p < cells.count {
-        if 64 <= cells.count - p {
-            let k = p / 8;
-            if k + 8 < cells.bytes.len() {
-                return nine_bytes(cells.bytes, k, p % 8);
-            }
-        }
+    let k = p / 8;
+    if p < cells.count && 64 <= cells.count - p && k + 8 < cells.bytes.len() {
+        return nine_bytes(cells.bytes, k, p % 8);
     }
     word_round(cells, p)
 }
 
 // The same for any place, which is first moved before the track's end.
+#[inline(never)]
 fn word_round(cells: Cells, p: usize) -> u64
     ensures { result ≡ word (cell cells.entry.bytes.now cells.entry.count) 64 p }
 {
     let at = place_on(cells.count, p);
-    if at < cells.count {
-        if 64 <= cells.count - at {
-            let k = at / 8;
-            if k + 8 < cells.bytes.len() {
-                return nine_bytes(cells.bytes, k, at % 8);
-            }
-        }
+    let k = at / 8;
+    if at < cells.count && 64 <= cells.count - at && k + 8 < cells.bytes.len() {
+        return nine_bytes(cells.bytes, k, at % 8);
     }
     cells.word(at, 64)
 }
@@ -66,15 +59,27 @@ pub fn load(cells: Cells, words: &mut [u64; WORDS], m: usize)
 
 // The functions below make the first m words of a map out of those of others, of which some need up to three words more, or change a map in place.
 
+// Makes each of the first m words of a map out of the two words of another map that begin there, and of its own two.
+fn each_word<F: Fn(u64, u64, u64, u64) -> u64>(
+    words: &[u64; WORDS],
+    map: &mut [u64; WORDS],
+    m: usize,
+    f: F,
+)
+    requires { F.IsAlwaysCallable f }
+    ensures { (w : ℕ) → w < m → m < 2116 → F.post f (get_or words.now w 0) (get_or words.now (w + 1) 0) (get_or map.old w 0) (get_or map.old (w + 1) 0) (get_or map.new w 0) }
+{
+    for w in 0..m.min(WORDS - 1) {
+        map[w] = f(words[w], words[w + 1], map[w], map[w + 1]);
+    }
+}
+
 // The map of the places where a test passes, or of those where it fails.
 pub fn like_map(words: &[u64; WORDS], passes: bool, map: &mut [u64; WORDS], m: usize)
     ensures { (t : ℕ → Bool) → Holds t words.now m → m ≤ 2116 → length map.old ≡ 2116 → MapOf (like_at passes t) map.new m }
 {
-    let end = smaller(m, WORDS);
-    let mut w: usize = 0;
-    while w < end {
+    for w in 0..m.min(WORDS) {
         map[w] = like_word(words[w], passes);
-        w += 1;
     }
 }
 
@@ -82,34 +87,21 @@ pub fn like_map(words: &[u64; WORDS], passes: bool, map: &mut [u64; WORDS], m: u
 pub fn alone_map(words: &[u64; WORDS], map: &mut [u64; WORDS], m: usize)
     ensures { (t : ℕ → Bool) → Holds t words.now (m + 1) → m < 2116 → length map.old ≡ 2116 → MapOf (alone_at t) map.new m }
 {
-    let end = smaller(m, WORDS - 1);
-    let mut w: usize = 0;
-    while w < end {
-        map[w] = alone_word(words[w], words[w + 1]);
-        w += 1;
-    }
+    each_word(words, map, m, alone_word);
 }
 
 // Out of the map of 100, that of the ones whose next one is too near or too far in double density.
 pub fn gap_map(words: &[u64; WORDS], map: &mut [u64; WORDS], m: usize)
     ensures { (s t : ℕ → Bool) → Holds s words.now (m + 1) → Holds t map.old m → m < 2116 → length map.old ≡ 2116 → MapOf (gap_from s t) map.new m }
 {
-    let end = smaller(m, WORDS - 1);
-    let mut w: usize = 0;
-    while w < end {
-        map[w] = gap_word(words[w], words[w + 1], map[w]);
-        w += 1;
-    }
+    each_word(words, map, m, gap_word);
 }
 
 // Leaves in a map the places from which its test passes k places on too, for a k from 1 to 63.
 pub fn both_map(map: &mut [u64; WORDS], k: usize, m: usize)
     ensures { (t : ℕ → Bool) → Holds t map.old (m + 1) → m < 2116 → 1 ≤ k → k < 64 → length map.old ≡ 2116 → MapOf (both_at k t) map.new m }
 {
-    if k == 0 {
-        return;
-    }
-    if 63 < k {
+    if k == 0 || 63 < k {
         return;
     }
     both_by(map, k, m);
@@ -119,10 +111,7 @@ pub fn both_map(map: &mut [u64; WORDS], k: usize, m: usize)
 pub fn keep_map(words: &[u64; WORDS], k: usize, passes: bool, map: &mut [u64; WORDS], m: usize)
     ensures { (s t : ℕ → Bool) → Holds s words.now (m + 1) → Holds t map.old m → m < 2116 → 1 ≤ k → k < 64 → length map.old ≡ 2116 → MapOf (kept_from k passes s t) map.new m }
 {
-    if k == 0 {
-        return;
-    }
-    if 63 < k {
+    if k == 0 || 63 < k {
         return;
     }
     keep_by(words, k, passes, map, m);
@@ -143,12 +132,7 @@ pub fn word_map(words: &[u64; WORDS], word: u64, map: &mut [u64; WORDS], m: usiz
 pub fn thrice_map(words: &[u64; WORDS], map: &mut [u64; WORDS], m: usize)
     ensures { (t : ℕ → Bool) → Holds t words.now (m + 1) → m < 2116 → length map.old ≡ 2116 → MapOf (thrice_at t) map.new m }
 {
-    let end = smaller(m, WORDS - 1);
-    let mut w: usize = 0;
-    while w < end {
-        map[w] = thrice_word(words[w], words[w + 1]);
-        w += 1;
-    }
+    each_word(words, map, m, thrice_word);
 }
 
 // The sync of double density.
@@ -161,7 +145,7 @@ const WORD_CELLS: usize = 16;
 fn map_of_syncs(words: &[u64; WORDS], map: &mut [u64; WORDS], m: usize)
     ensures { (f : ℕ → ℕ) → ((i : ℕ) → f i < 2) → Holds (one_at f) words.now (m + 3) → m ≤ 2113 → length map.old ≡ 2116 → MapOf (stands_at f 0x4489) map.new m }
 {
-    let count = smaller(m, WORDS - 3);
+    let count = m.min(WORDS - 3);
     alone_map(words, map, count + 2);
     seven_map(words, map, count + 1);
     sync_map(words, map, count);
@@ -172,10 +156,8 @@ fn map_by_cells(words: &[u64; WORDS], word: u64, map: &mut [u64; WORDS], m: usiz
     ensures { (f : ℕ → ℕ) → ((i : ℕ) → f i < 2) → Holds (one_at f) words.now (m + 1) → m < 2116 → word < 0x1_0000 → length map.old ≡ 2116 → MapOf (stands_at f word) map.new m }
 {
     like_map(words, has_one(word, 0), map, m);
-    let mut k: usize = 1;
-    while k < WORD_CELLS {
+    for k in 1..WORD_CELLS {
         keep_by(words, k, has_one(word, k), map, m);
-        k += 1;
     }
 }
 
@@ -191,23 +173,24 @@ fn keep_by(words: &[u64; WORDS], k: usize, passes: bool, map: &mut [u64; WORDS],
     requires { (1 ≤ k) × (k < 64) }
     ensures { (s t : ℕ → Bool) → Holds s words.now (m + 1) → Holds t map.old m → m < 2116 → length map.old ≡ 2116 → MapOf (kept_from k passes s t) map.new m }
 {
-    let end = smaller(m, WORDS - 1);
-    let mut w: usize = 0;
-    while w < end {
-        map[w] = keep_word(words[w], words[w + 1], k, passes, map[w]);
-        w += 1;
-    }
+    each_word(
+        words,
+        map,
+        m,
+        move |x, y, a, _b| -> u64
+            requires { (1 ≤ k) × (k < 64) }
+            ensures { (s t : ℕ → Bool) (p : ℕ) → x ≡ mask s 64 p → y ≡ mask s 64 (p + 64) → a ≡ mask t 64 p → result ≡ mask (kept_from k passes s t) 64 p }
+        { keep_word(x, y, k, passes, a) },
+    );
 }
 
+// Not by each_word, to which a map cannot be lent both as the one that is read and as the one that is changed.
 fn both_by(map: &mut [u64; WORDS], k: usize, m: usize)
     requires { (1 ≤ k) × (k < 64) }
     ensures { (t : ℕ → Bool) → Holds t map.old (m + 1) → m < 2116 → length map.old ≡ 2116 → MapOf (both_at k t) map.new m }
 {
-    let end = smaller(m, WORDS - 1);
-    let mut w: usize = 0;
-    while w < end {
+    for w in 0..m.min(WORDS - 1) {
         map[w] = both_word(map[w], map[w + 1], k);
-        w += 1;
     }
 }
 
@@ -215,31 +198,21 @@ fn both_by(map: &mut [u64; WORDS], k: usize, m: usize)
 fn seven_map(words: &[u64; WORDS], map: &mut [u64; WORDS], m: usize)
     ensures { (s t : ℕ → Bool) → Holds s words.now (m + 1) → Holds t map.old (m + 1) → m < 2116 → length map.old ≡ 2116 → MapOf (seven_from s t) map.new m }
 {
-    let end = smaller(m, WORDS - 1);
-    let mut w: usize = 0;
-    while w < end {
-        map[w] = seven_word(words[w], words[w + 1], map[w], map[w + 1]);
-        w += 1;
-    }
+    each_word(words, map, m, seven_word);
 }
 
 // Out of the map of 1000100, that of 4489.
 fn sync_map(words: &[u64; WORDS], map: &mut [u64; WORDS], m: usize)
     ensures { (s t : ℕ → Bool) → Holds s words.now (m + 1) → Holds t map.old (m + 1) → m < 2116 → length map.old ≡ 2116 → MapOf (sync_from s t) map.new m }
 {
-    let end = smaller(m, WORDS - 1);
-    let mut w: usize = 0;
-    while w < end {
-        map[w] = sync_word(words[w], words[w + 1], map[w], map[w + 1]);
-        w += 1;
-    }
+    each_word(words, map, m, sync_word);
 }
 
 // Looks a map's test up between two places: the first that passes, of those not before `from` and before `to`, or the greater of the two.
 pub fn least_in(map: &[u64; WORDS], from: usize, to: usize) -> usize
     ensures { (from ≤ result) × ((t : ℕ → Bool) (m : ℕ) → Holds t map.now m → to ≤ 64 * m → m ≤ 2116 → result ≡ least t (to - from) from) }
 {
-    let end = smaller(to, PLACES);
+    let end = to.min(PLACES);
     if end <= from {
         return from;
     }
@@ -250,7 +223,7 @@ pub fn least_in(map: &[u64; WORDS], from: usize, to: usize) -> usize
 pub fn count_in(map: &[u64; WORDS], from: usize, to: usize) -> usize
     ensures { (result ≤ 135552) × ((t : ℕ → Bool) (m : ℕ) → Holds t map.now m → to ≤ 64 * m → m ≤ 2116 → result ≡ count t (to - from) from) }
 {
-    let end = smaller(to, PLACES);
+    let end = to.min(PLACES);
     if end <= from {
         return 0;
     }
@@ -262,18 +235,16 @@ fn least_before(map: &[u64; WORDS], from: usize, to: usize) -> usize
     requires { (from < to) × (to ≤ 135424) }
     ensures { (from ≤ result) × ((t : ℕ → Bool) (m : ℕ) → Holds t map.now m → to ≤ 64 * m → m ≤ 2116 → result ≡ least t (to - from) from) }
 {
-    let mut w = from / 64;
+    let w = from / 64;
     let first = map[w] << (from % 64);
     if first != 0 {
-        return smaller(to, from + zeros_before(first));
+        return to.min(from + zeros_before(first));
     }
-    w += 1;
-    while 64 * w < to {
-        let x = map[w];
+    for v in w + 1..to.div_ceil(64) {
+        let x = map[v];
         if x != 0 {
-            return smaller(to, 64 * w + zeros_before(x));
+            return to.min(64 * v + zeros_before(x));
         }
-        w += 1;
     }
     to
 }
@@ -303,10 +274,8 @@ fn count_words(map: &[u64; WORDS], a: usize, b: usize) -> usize
     ensures { (result ≤ 135424) × ((t : ℕ → Bool) (m : ℕ) → Holds t map.now m → b ≤ m → result ≡ count t (64 * (b - a)) (64 * a)) }
 {
     let mut found: usize = 0;
-    let mut w = a;
-    while w < b {
+    for w in a..b {
         found += count_part(map[w], 0, 64);
-        w += 1;
     }
     found
 }
@@ -329,16 +298,11 @@ fn zeros_before(x: u64) -> usize
 }
 
 // A place whose cells are those from p: before the track's end, where there is one.
+#[tactic(auto, using(crate::proofs::Loading::same_place))]
 fn place_on(n: usize, p: usize) -> usize
     ensures { (bytes : List ℕ) (q : ℕ) → cell bytes n (result + q) ≡ cell bytes n (p + q) }
 {
-    if p < n {
-        return p;
-    }
-    if n == 0 {
-        return p;
-    }
-    p % n
+    if p < n || n == 0 { p } else { p % n }
 }
 
 // The 64 cells from cell s of byte k on.
@@ -346,29 +310,24 @@ fn nine_bytes(bytes: &[u8], k: usize, s: usize) -> u64
     requires { (k + 8 < length bytes.now) × (s < 8) }
     ensures { result ≡ word (cell_at bytes.now) 64 (8 * k + s) }
 {
-    (eight_bytes(bytes, k) << s) | (wide(bytes[k + 8]) >> (8 - s))
+    (eight_bytes(bytes, k) << s) | (u64::from(bytes[k + 8]) >> (8 - s))
 }
 
-// The word of eight bytes from byte k on. The compiler joins two sums of four to one load, and one sum of eight it does not.
+// The word of eight bytes from byte k on.
 fn eight_bytes(bytes: &[u8], k: usize) -> u64
     requires { k + 8 ≤ length bytes.now }
     ensures { result ≡ word (cell_at bytes.now) 64 (8 * k) }
 {
-    (wide(bytes[k]) * 0x0100_0000
-        + wide(bytes[k + 1]) * 0x0001_0000
-        + wide(bytes[k + 2]) * 0x0100
-        + wide(bytes[k + 3]))
-        * 0x0001_0000_0000
-        + (wide(bytes[k + 4]) * 0x0100_0000
-            + wide(bytes[k + 5]) * 0x0001_0000
-            + wide(bytes[k + 6]) * 0x0100
-            + wide(bytes[k + 7]))
-}
-
-fn wide(byte: u8) -> u64
-    ensures { (result ≡ byte) × (result < 256) }
-{
-    byte as u64
+    u64::from_be_bytes([
+        bytes[k],
+        bytes[k + 1],
+        bytes[k + 2],
+        bytes[k + 3],
+        bytes[k + 4],
+        bytes[k + 5],
+        bytes[k + 6],
+        bytes[k + 7],
+    ])
 }
 
 // Words that follow each other, k places on.
@@ -392,7 +351,7 @@ fn keep_word(x: u64, y: u64, k: usize, passes: bool, a: u64) -> u64
     a & like_word(on(x, y, k), passes)
 }
 
-fn alone_word(x: u64, y: u64) -> u64
+fn alone_word(x: u64, y: u64, _a: u64, _b: u64) -> u64
     ensures { (t : ℕ → Bool) (p : ℕ) → x ≡ mask t 64 p → y ≡ mask t 64 (p + 64) → result ≡ mask (alone_at t) 64 p }
 {
     let x1 = on(x, y, 1);
@@ -424,7 +383,7 @@ fn sync_word(x: u64, y: u64, a: u64, b: u64) -> u64
     (a1 & a8) & (x15 & !x)
 }
 
-fn gap_word(x: u64, y: u64, a: u64) -> u64
+fn gap_word(x: u64, y: u64, a: u64, _b: u64) -> u64
     ensures { (s t : ℕ → Bool) (p : ℕ) → x ≡ mask s 64 p → y ≡ mask s 64 (p + 64) → a ≡ mask t 64 p → result ≡ mask (gap_from s t) 64 p }
 {
     let x1 = on(x, y, 1);
@@ -433,7 +392,7 @@ fn gap_word(x: u64, y: u64, a: u64) -> u64
     (x & x1) | (a & !(x3 | x4))
 }
 
-fn thrice_word(x: u64, y: u64) -> u64
+fn thrice_word(x: u64, y: u64, _a: u64, _b: u64) -> u64
     ensures { (t : ℕ → Bool) (p : ℕ) → x ≡ mask t 64 p → y ≡ mask t 64 (p + 64) → result ≡ mask (thrice_at t) 64 p }
 {
     let a = on(x, y, 16);

@@ -13,12 +13,13 @@ pub struct Cells<'a> {
 }
 
 // Cell i of packed bytes, 0 or 1; past their end 0.
+#[tactic(auto, unfolding(crate::specs::CellsAndBytes::cell_at), using(crate::proofs::Places::cell_at_past))]
 pub fn cell_at(bytes: &[u8], i: usize) -> u64
     ensures { result ≡ cell_at bytes.now i }
 {
     let k = i / 8;
     if k < bytes.len() {
-        ((bytes[k] >> (7 - i % 8)) % 2) as u64
+        u64::from((bytes[k] >> (7 - i % 8)) % 2)
     } else {
         0
     }
@@ -111,16 +112,7 @@ impl<'a> Cells<'a> {
         requires { (at < self.count) × (1 ≤ k) × (k ≤ 64) }
         ensures { result ≡ true → Skipped self.entry.bytes.now self.entry.count at cells k x left }
     {
-        if 56 < k {
-            return false;
-        }
-        if left < 8 {
-            return false;
-        }
-        if 0 < at % 8 {
-            return false;
-        }
-        if self.count - at < 8 {
+        if 56 < k || left < 8 || 0 < at % 8 || self.count - at < 8 {
             return false;
         }
         !stands_in(append_byte(cells, byte_at(self.bytes, at / 8)), k, x)

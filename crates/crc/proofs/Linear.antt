@@ -1,13 +1,13 @@
 -- The check word's step is linear over exclusive or, so four bytes go in by four look-ups in tables of 256.
 -- Assumes nothing.
-use Prim.Native.Nat.{ℕ, zero, suc, ◌+◌, ◌-◌, ◌*◌, ◌/◌, ◌%◌, ◌^◌, ◌<◌}
+use Prim.Native.Nat.{ℕ, zero, suc, ◌+◌, ◌*◌, ◌/◌, ◌%◌, ◌^◌, ◌<◌}
 use mathlib.Core.Path.{◌≡◌, refl, sym, ap, ◌∙◌}
 use mathlib.Core.Bool.{Bool, true, false, cond}
-use native.Mathlib.Nat.{zero-div, div-eq_of_lt, mod-eq_of_lt, mod-lt, mul_assoc, mul_comm, mul-one, mul-le-mul_left, mul-lt-mul_of_pos_right, mul-mod_left, add-zero, add-mul, mod-one, zero-mul}
+use native.Mathlib.Nat.{zero-div, div-eq_of_lt, mod-eq_of_lt, mod-lt, mul_assoc, mul_comm, mul-one, mul-le-mul_left, mul-lt-mul_of_pos_right, add-zero, add-mul, mod-one, zero-mul}
 use native.Mathlib.Numerals.{add-one, one-add}
 use native.Mathlib.Omega.{arith}
 use lib.Dec.{eqb}
-use lib.Pow.{pow-add, pow_pos, mod-pow-add, split, shl-shr}
+use lib.Pow.{pow-add, pow_pos, mod-pow-add, split}
 use lib.Bits.{bit_xor, xor_zero_r, xor_shr, xor_mod, xor_block, xor_lt, xor_comm, xor_shifted, xor_zero_l}
 use Rattle.crc.specs.CheckWord.{after_bit, after_bits, after_byte}
 use Rattle.crc.specs.PrivateContracts.{after_zeros}

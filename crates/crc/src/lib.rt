@@ -28,7 +28,7 @@ pub fn check_word_from(word: u16, bytes: &[u8]) -> u16
     ensures { result ≡ check_word_from word bytes.now }
 {
     if bytes.len() < FEW {
-        return after_rest(word, bytes, 0);
+        return after_rest(word, bytes);
     }
     let table = step_table();
     after_bytes(&table, word, bytes)
@@ -38,7 +38,7 @@ pub fn check_word_from(word: u16, bytes: &[u8]) -> u16
 pub fn step(word: u16, byte: u8) -> u16
     ensures { result ≡ after_byte word byte }
 {
-    after_high((word / 256) ^ wide(byte)) ^ ((word % 256) * 256)
+    after_high((word / 256) ^ u16::from(byte)) ^ ((word % 256) * 256)
 }
 
 fn step_table() -> [u64; 256]
@@ -52,32 +52,22 @@ fn after_bytes(table: &[u64; 256], word: u16, bytes: &[u8]) -> u16
     requires { table.now ≡ step_table }
     ensures { result ≡ check_word_from word bytes.now }
 {
+    let (fours, rest) = bytes.as_chunks::<4>();
     let mut so_far = word;
-    let mut i: usize = 0;
-    while 4 <= bytes.len() - i {
-        so_far = after_four(
-            table,
-            so_far,
-            bytes[i],
-            bytes[i + 1],
-            bytes[i + 2],
-            bytes[i + 3],
-        );
-        i += 4;
+    for four in fours {
+        let [a, b, c, d] = *four;
+        so_far = after_four(table, so_far, a, b, c, d);
     }
-    after_rest(so_far, bytes, i)
+    after_rest(so_far, rest)
 }
 
-// The check word after the bytes from byte `from` on, one by one.
-fn after_rest(word: u16, bytes: &[u8], from: usize) -> u16
-    requires { from ≤ length bytes.now }
-    ensures { result ≡ check_word_from word (drop from bytes.now) }
+// The check word after bytes, one by one.
+fn after_rest(word: u16, bytes: &[u8]) -> u16
+    ensures { result ≡ check_word_from word bytes.now }
 {
     let mut so_far = word;
-    let mut i = from;
-    while i < bytes.len() {
-        so_far = step(so_far, bytes[i]);
-        i += 1;
+    for &byte in bytes {
+        so_far = step(so_far, byte);
     }
     so_far
 }
@@ -88,10 +78,10 @@ fn after_four(table: &[u64; 256], word: u16, a: u8, b: u8, c: u8, d: u8) -> u16
     requires { table.now ≡ step_table }
     ensures { result ≡ after_byte (after_byte (after_byte (after_byte word a) b) c) d }
 {
-    let first = (word / 256) ^ wide(a);
-    let second = (word % 256) ^ wide(b);
+    let first = (word / 256) ^ u16::from(a);
+    let second = (word % 256) ^ u16::from(b);
     (entry(table, first, 3) ^ entry(table, second, 2))
-        ^ (entry(table, wide(c), 1) ^ entry(table, wide(d), 0))
+        ^ (entry(table, u16::from(c), 1) ^ entry(table, u16::from(d), 0))
 }
 
 // The check word whose high byte is `high` and whose low byte is 0, after a zero byte and `more` others.
@@ -99,7 +89,7 @@ fn entry(table: &[u64; 256], high: u16, more: usize) -> u16
     requires { (table.now ≡ step_table) × (high < 256) × (more < 4) }
     ensures { result ≡ after_zeros (more + 1) (high * 256) }
 {
-    ((table[high as usize] >> (16 * more)) % 65536) as u16
+    ((table[usize::from(high)] >> (16 * more)) % 65536) as u16
 }
 
 // The same after one zero byte, by shifts: the bits of 1021h.
@@ -109,10 +99,4 @@ fn after_high(high: u16) -> u16
 {
     let x = high ^ (high >> 4);
     (x << 12) ^ (x << 5) ^ x
-}
-
-fn wide(byte: u8) -> u16
-    ensures { (result ≡ byte) × (result < 256) }
-{
-    byte as u16
 }

@@ -10,17 +10,13 @@ const LEVELS: [u8; 22] = [
 ];
 
 // The level of a kind, which is given by its index, from 0; 0 where no kind has that index.
+#[tactic(auto, unfolding(crate::specs::Levels::levels))]
 pub fn level(k: usize) -> u32
     ensures { result ≡ get_or levels k 0 }
 {
-    if k < 22 {
-        return wide(LEVELS[k]);
+    if k < LEVELS.len() {
+        u32::from(LEVELS[k])
+    } else {
+        0
     }
-    0
-}
-
-fn wide(x: u8) -> u32
-    ensures { result ≡ x }
-{
-    x as u32
 }

@@ -1,22 +1,17 @@
 -- The clock rule a byte at a time, and the loop that codes by a table. Assumes nothing.
-use Prim.Native.Nat.{ℕ, zero, suc, ◌+◌, ◌-◌, ◌*◌, ◌/◌, ◌%◌, ◌^◌, ◌<◌, ◌≤◌}
+use Prim.Native.Nat.{ℕ, suc, ◌+◌, ◌*◌, ◌/◌, ◌%◌, ◌<◌, ◌≤◌}
 use mathlib.Core.Path.{◌≡◌, refl, sym, ap, ap₂, ◌∙◌}
-use mathlib.Core.Bool.{Bool, cond}
 use mathlib.Core.List.{List, [], ◌∷◌, ◌++◌, append_assoc, append-nil}
-use native.Mathlib.Nat.{not-suc-le-zero, lt_of_lt_of_le}
-use native.Mathlib.Numerals.{sub-one, add-one}
+use native.Mathlib.Numerals.{add-one}
 use native.Mathlib.Omega.{arith}
-use lib.Dec.{T, eqb, eqb→eq}
 use lib.ListN.{length, get_or, take, drop, set, length-set, drop_of_length-le, take-append-drop}
-use lib.Pow.{pow-add, pow_mono}
 use lib.Seq.{drop-cons, take-suc-set, drop-set-lt, drop-drop}
 use Rattle.basis.specs.Lists.{listed, written_over}
 use Rattle.basis.proofs.Lists.{length-listed}
-use Rattle.basis.proofs.Tables.{below_both, passes-both}
-use Rattle.cells.specs.CellsAndBytes.{bit_of, word, list_cell, packed_byte, packed}
+use Rattle.cells.specs.CellsAndBytes.{bit_of, list_cell, packed_byte, packed}
 use Rattle.cells.proofs.Packing.{packed-append}
 use Rattle.cells.proofs.Words.{word_split, word_lt}
-use Rattle.mfm.specs.Coding.{data_bits, clock, bit_cells, encoded, byte_cells}
+use Rattle.mfm.specs.Coding.{data_bits, bit_cells, encoded, byte_cells}
 use Rattle.mfm.specs.PrivateContracts.{coded_by}
 use Rattle.mfm.specs.Table.{entry_of}
 use Rattle.mfm.proofs.Cells.{length-cells, cells_are, cells-append, last-of-byte, of-byte}

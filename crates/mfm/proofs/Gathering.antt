@@ -1,12 +1,12 @@
 -- Every second cell of a word, moved together: numbers whose digits have room beside them. Assumes nothing.
 use Prim.Native.Nat.{ℕ, zero, suc, ◌+◌, ◌-◌, ◌*◌, ◌/◌, ◌%◌, ◌^◌, ◌<◌, ◌≤◌}
 use mathlib.Core.Path.{◌≡◌, refl, sym, ap, ◌∙◌}
-use native.Mathlib.Nat.{mul_assoc, mul_comm, add-mul, mul-suc, add-zero, zero-add, mod-lt, mul-le-mul_right}
+use native.Mathlib.Nat.{mul_assoc, mul_comm, add-mul, mul-suc, zero-add, mod-lt, mul-le-mul_right}
 use native.Mathlib.Omega.{arith}
 use lib.Bits.{bit_and, bit_or, and_zero_r, and_mask, and_block, or_shr, or_mod, or_shifted_r}
-use lib.Pow.{pow-add, pow_pos, high, low, split, shr-shr, mod-mod-pow, mod-pow-add, field, ones_lt, shl_lt}
+use lib.Pow.{pow-add, pow_pos, high, low, split, shr-shr, mod-mod-pow, mod-pow-add, field, ones_lt}
 use Rattle.cells.specs.CellsAndBytes.{word}
-use Rattle.cells.proofs.Words.{word_lt, word_split, word_same}
+use Rattle.cells.proofs.Words.{word_lt, word_split}
 use Rattle.mfm.specs.Coding.{data_cell}
 
 -- the digits g 0, g 1, .. of m bits each

@@ -22,6 +22,7 @@ pub const MOST_TO_CODE: usize = 8192;
 pub const MOST_TO_DECODE: usize = 16384;
 
 // Coding: two bytes of cells for each byte, at the front of `cells`; they are counted. `before` is the data bit before the bytes.
+#[tactic(auto, unfolding(crate::specs::Calls::judged, refusals::specs::RefusedCalls::buffer_after))]
 pub fn encode(bytes: &[u8], before: bool, cells: &mut [u8]) -> Result<usize, Refusal>
     ensures answer { answer_of result ≡ coding_answer bytes.now cells.old }
     ensures buffer { cells.new ≡ encoded_after (cond before 1 0) bytes.now cells.old }
@@ -40,6 +41,7 @@ pub fn encode(bytes: &[u8], before: bool, cells: &mut [u8]) -> Result<usize, Ref
 
 // Decoding: each two bytes of `cells` make a byte, at the front of `bytes`; a last one that stands alone is passed over. The bytes written
 // are counted.
+#[tactic(auto, unfolding(crate::specs::Calls::judged, refusals::specs::RefusedCalls::buffer_after))]
 pub fn decode(cells: &[u8], bytes: &mut [u8]) -> Result<usize, Refusal>
     ensures answer { answer_of result ≡ decoding_answer cells.now bytes.old }
     ensures buffer { bytes.new ≡ decoded_after cells.now bytes.old }
@@ -68,7 +70,7 @@ pub fn byte_cells(before: bool, byte: u8) -> u16
 pub fn cells_by(table: &[u16; 512], before: bool, byte: u8) -> u16
     ensures { result ≡ entry_of table.now (cond before 1 0) byte }
 {
-    entry(table, before as u8, byte)
+    entry(table, u8::from(before), byte)
 }
 
 // The table by which bytes are coded: entry 256 * bit + byte has the cells of a byte after a data bit.
@@ -113,15 +115,12 @@ fn write_by_table(table: &[u16; 512], bytes: &[u8], before: bool, cells: &mut [u
     requires { 2 * length bytes.now ≤ length cells.old }
     ensures { cells.new ≡ written_over (coded_by table.now (cond before 1 0) bytes.now) cells.old }
 {
-    let mut last = before as u8;
-    let mut i: usize = 0;
-    while i < bytes.len() {
-        let byte = bytes[i];
-        let word = entry(table, last, byte);
-        cells[2 * i] = (word / 256) as u8;
-        cells[2 * i + 1] = (word % 256) as u8;
+    let mut last = u8::from(before);
+    for (i, &byte) in bytes.iter().enumerate() {
+        let [high, low] = entry(table, last, byte).to_be_bytes();
+        cells[2 * i] = high;
+        cells[2 * i + 1] = low;
         last = byte;
-        i += 1;
     }
 }
 
@@ -129,7 +128,7 @@ fn write_by_table(table: &[u16; 512], bytes: &[u8], before: bool, cells: &mut [u
 fn entry(table: &[u16; 512], last: u8, byte: u8) -> u16
     ensures { result ≡ entry_of table.now (last % 2) byte }
 {
-    table[((last % 2) as usize) * 256 + (byte as usize)]
+    table[usize::from(last % 2) * 256 + usize::from(byte)]
 }
 
 // Decodes every two bytes of `cells` into the front of `bytes`.
@@ -137,11 +136,8 @@ fn write_bytes(cells: &[u8], bytes: &mut [u8])
     requires { length cells.now / 2 ≤ length bytes.old }
     ensures { bytes.new ≡ written_over (decoded cells.now) bytes.old }
 {
-    let end = cells.len() / 2;
-    let mut i: usize = 0;
-    while i < end {
+    for i in 0..cells.len() / 2 {
         bytes[i] = nibble(cells[2 * i]) * 16 + nibble(cells[2 * i + 1]);
-        i += 1;
     }
 }
 
@@ -151,15 +147,11 @@ fn sixteen_cells(cells: Cells, p: usize) -> u64
 {
     let bytes = cells.bytes;
     let k = p / 8;
-    if p < cells.count {
-        if 16 <= cells.count - p {
-            if k + 2 < bytes.len() {
-                let three = u64::from(bytes[k]) * 65536
-                    + u64::from(bytes[k + 1]) * 256
-                    + u64::from(bytes[k + 2]);
-                return (three >> (8 - p % 8)) % 65536;
-            }
-        }
+    if p < cells.count && 16 <= cells.count - p && k + 2 < bytes.len() {
+        let three = u64::from(bytes[k]) * 65536
+            + u64::from(bytes[k + 1]) * 256
+            + u64::from(bytes[k + 2]);
+        return (three >> (8 - p % 8)) % 65536;
     }
     cells.word(p, 16)
 }

@@ -8,22 +8,20 @@ use native.Mathlib.Decide.{dec_le}
 use native.Mathlib.Nat.{lt_of_not-le}
 use native.Mathlib.Numerals.{add-one}
 use native.Mathlib.Omega.{arith}
-use borrow.Author.Tests.{eq-eqb, ne_eqb, lt-ltb, le-ltb, eqb-true}
+use borrow.Author.Tests.{ne_eqb, eqb-true}
 use lib.Dec.{eqb}
-use lib.ListN.{length, take, drop, get_or, set, length-append, length-drop, drop_of_length-le, take-append-drop}
-use lib.Seq.{sets-eq, take_at, drop_at, drop-drop, drop-cons, length-take-le}
+use lib.ListN.{length, take, drop, get_or, length-append, length-drop, drop_of_length-le, take-append-drop}
+use lib.Seq.{take_at, drop_at, drop-drop, drop-cons, length-take-le}
 use Rattle.basis.specs.Lists.{written_over}
 use Rattle.crc.specs.CheckWord.{after_byte}
 use Rattle.mfm.specs.Coding.{byte_cells}
 use Rattle.mfm.specs.Table.{cell_table, entry_of}
 use Rattle.mfm.proofs.ByTable.{entry-is}
 use Rattle.mfm.proofs.Cells.{bit-lt}
-use Rattle.refusals.specs.RefusedCalls.Answer.{gives, refused}
 use Rattle.track_writer.specs.declared.Writer.{Writer}
 use Rattle.track_writer.specs.WriteTrack.Piece.{coded, sync_a1, sync_c2}
-use Rattle.track_writer.specs.WriteTrack.{Piece, byte_of, pieces_from, pieces_of, piece_cells, packed_from, written, cell_count}
+use Rattle.track_writer.specs.WriteTrack.{Piece, byte_of, pieces_from, pieces_of, piece_cells, packed_from, written}
 use Rattle.track_writer.specs.PrivateContracts.{two_bytes, bit_before, packed_for, next, rest, pieces_for, UpToMost}
-use Rattle.track_writer.specs.Calls.{judged}
 
 -- a test for an odd number, as a bit
 pub odd_is : (x : ℕ) → cond (eqb (x % 2) 1) 1 0 ≡ x % 2
@@ -38,41 +36,13 @@ odd_is x = go (x % 2) (omega arith)
 pub cells_in : {table : List ℕ} → table ≡ cell_table → (before : Bool) (byte : ℕ) → byte < 256 → entry_of table (cond before 1 0) byte ≡ byte_cells (cond before 1 0) byte
 cells_in e before byte h = rw e (entry-is (cond before 1 0) byte (bit-lt before) h)
 
--- ---- a count that may stop early tells what the refusals ask
+-- ---- a count that may stop early
 counted-few : (n r : ℕ) → UpToMost n r → r ≤ 8192 → r ≡ n
 counted-few n r c h = go (dec_le n 8192)
   where
     go : Dec (n ≤ 8192) → r ≡ n
     go (yes l) = c.exact l
     go (no l) = absurd (omega (arith, c.more (lt_of_not-le l)))
-
-counted-many : (n r : ℕ) → UpToMost n r → 8192 < r → 8192 < n
-counted-many n r c h = go (dec_le n 8192)
-  where
-    go : Dec (n ≤ 8192) → 8192 < n
-    go (yes l) = absurd (omega (arith, c.exact l))
-    go (no l) = lt_of_not-le l
-
-module _ (list : List ℕ) (r room : ℕ) (c : UpToMost (length (pieces_of list)) r) where
-  pub too_many : 8192 < r → refused 20 0 ≡ judged (cell_count list) room
-  unfolding judged cell_count
-  too_many h = let l = counted-many (length (pieces_of list)) r c h in rw (lt-ltb 131072 (16 * length (pieces_of list)) (omega arith))
-
-  bytes_are : r ≤ 8192 → (16 * length (pieces_of list) + 7) / 8 ≡ 2 * r
-  bytes_are h = let e = counted-few (length (pieces_of list)) r c h in omega arith
-
-  pub no_room : r ≤ 8192 → room < 2 * r → refused 10 (2 * r) ≡ judged (cell_count list) room
-  unfolding judged cell_count
-  no_room h g =
-      let e = counted-few (length (pieces_of list)) r c h in
-      rw (le-ltb 131072 (16 * length (pieces_of list)) (omega arith), bytes_are h, lt-ltb room (2 * r) g)
-
-  pub in-room : r ≤ 8192 → 2 * r ≤ room → gives (16 * r) ≡ judged (cell_count list) room
-  unfolding judged cell_count
-  in-room h g =
-      let e = counted-few (length (pieces_of list)) r c h in
-      let s : 16 * length (pieces_of list) ≡ 16 * r = omega arith in
-      rw (le-ltb 131072 (16 * length (pieces_of list)) (omega arith), bytes_are h, le-ltb room (2 * r) g, s)
 
 -- ---- the pieces are counted by the bytes alone: neither the check word nor the runs change their number
 pub piece_count : List ℕ → ℕ
@@ -146,10 +116,7 @@ length-written list = length-packed _ (pieces_of list)
 pub fits : (list : List ℕ) (r room : ℕ) → UpToMost (length (pieces_of list)) r → r ≤ 8192 → 2 * r ≤ room → length (written list) ≤ room
 fits list r room c h g = omega (arith, counted-few (length (pieces_of list)) r c h, length-written list)
 
--- ---- bytes stored in the middle of a buffer, and the three parts of it
-pub put_two : (c : List ℕ) (at a b : ℕ) → at + 2 ≤ length c → set (set c at a) (at + 1) b ≡ take at c ++ ((a ∷ b ∷ []) ++ drop (at + 2) c)
-put_two c at a b h = rw (add-one at) (sets-eq (a ∷ b ∷ []) c at h ∙ append_assoc (take at c) (a ∷ b ∷ []) (drop (at + 2) c))
-
+-- ---- the three parts of a buffer with bytes in its middle
 module _ (c : List ℕ) (at : ℕ) (xs : List ℕ) (h : at + length xs ≤ length c) where
   front_long : length (take at c ++ xs) ≡ at + length xs
   front_long = length-append (take at c) xs ∙ ap (λ (n : ℕ). n + length xs) (length-take-le at c (omega arith))
@@ -171,48 +138,23 @@ module _ (c : List ℕ) (at : ℕ) (xs : List ℕ) (h : at + length xs ≤ lengt
         length-drop (at + length xs) c,
       ) (omega arith)
 
--- ---- what a byte of the list puts, and the writer after it, arm by arm
+-- ---- what a byte of the list puts, arm by arm
 module _ (s : Writer) (b : ℕ) where
   pub for-5 : b ≡ 0xF5 → packed_for s b ≡ two_bytes 0x4489
   unfolding packed_for
-  for-5 e = rw (eq-eqb b 0xF5 e)
+  for-5 e = rw e
 
-  pub for-6 : (b ≡ 0xF5 → ⊥) → b ≡ 0xF6 → packed_for s b ≡ two_bytes 0x5224
+  pub for-6 : b ≡ 0xF6 → packed_for s b ≡ two_bytes 0x5224
   unfolding packed_for
-  for-6 h e = rw (ne_eqb b 0xF5 h, eq-eqb b 0xF6 e)
+  for-6 e = rw e
 
-  pub for-7 : (b ≡ 0xF5 → ⊥) → (b ≡ 0xF6 → ⊥) → b ≡ 0xF7
-      → packed_for s b ≡ two_bytes (byte_cells (bit_before s) (s.word / 256)) ++ two_bytes (byte_cells (s.word / 256 % 2) (s.word % 256))
+  pub for-7 : b ≡ 0xF7 → packed_for s b ≡ two_bytes (byte_cells (bit_before s) (s.word / 256)) ++ two_bytes (byte_cells (s.word / 256 % 2) (s.word % 256))
   unfolding packed_for
-  for-7 h g e = rw (ne_eqb b 0xF5 h, ne_eqb b 0xF6 g, eq-eqb b 0xF7 e)
+  for-7 e = rw e
 
   pub for-other : (b ≡ 0xF5 → ⊥) → (b ≡ 0xF6 → ⊥) → (b ≡ 0xF7 → ⊥) → packed_for s b ≡ two_bytes (byte_cells (bit_before s) b)
   unfolding packed_for
   for-other h g f = rw (ne_eqb b 0xF5 h, ne_eqb b 0xF6 g, ne_eqb b 0xF7 f)
-
-  pub next-5 : b ≡ 0xF5 → next s b ≡ record { word = after_byte (cond s.run s.word 0xFFFF) 0xA1; odd = true; run = true }
-  unfolding next
-  next-5 e = rw (eq-eqb b 0xF5 e)
-
-  pub next-5-on : b ≡ 0xF5 → s.run ≡ true → next s b ≡ record { word = after_byte s.word 0xA1; odd = true; run = true }
-  next-5-on e r = next-5 e ∙ ap (λ (t : Bool). record { word = after_byte (cond t s.word 0xFFFF) 0xA1; odd = true; run = true }) r
-
-  pub next-5-new : b ≡ 0xF5 → s.run ≡ false → next s b ≡ record { word = after_byte 0xFFFF 0xA1; odd = true; run = true }
-  next-5-new e r = next-5 e ∙ ap (λ (t : Bool). record { word = after_byte (cond t s.word 0xFFFF) 0xA1; odd = true; run = true }) r
-
-  pub next-6 : (b ≡ 0xF5 → ⊥) → b ≡ 0xF6 → next s b ≡ record { word = after_byte s.word 0xC2; odd = false; run = false }
-  unfolding next
-  next-6 h e = rw (ne_eqb b 0xF5 h, eq-eqb b 0xF6 e)
-
-  pub next-7 : (b ≡ 0xF5 → ⊥) → (b ≡ 0xF6 → ⊥) → b ≡ 0xF7
-      → next s b ≡ record { word = after_byte (after_byte s.word (s.word / 256)) (s.word % 256); odd = eqb (s.word % 256 % 2) 1; run = false }
-  unfolding next
-  next-7 h g e = rw (ne_eqb b 0xF5 h, ne_eqb b 0xF6 g, eq-eqb b 0xF7 e)
-
-  pub next-other : (b ≡ 0xF5 → ⊥) → (b ≡ 0xF6 → ⊥) → (b ≡ 0xF7 → ⊥)
-      → next s b ≡ record { word = after_byte s.word b; odd = eqb (b % 2) 1; run = false }
-  unfolding next
-  next-other h g f = rw (ne_eqb b 0xF5 h, ne_eqb b 0xF6 g, ne_eqb b 0xF7 f)
 
 -- a byte of the list, and then the others
 pub rest_more : (s : Writer) (b : ℕ) (bs : List ℕ) → rest s (b ∷ bs) ≡ packed_for s b ++ rest (next s b) bs
@@ -297,21 +239,16 @@ module _ (list c₀ : List ℕ) where
 
 -- ---- one store or two for a byte of the list
 module _ (s : Writer) (b : ℕ) (c : List ℕ) (at : ℕ) where
-  pub fits-2 : (x : ℕ) → packed_for s b ≡ two_bytes x → at + length (packed_for s b) ≤ length c → at + 2 ≤ length c
-  fits-2 x e h = rw e at h
-
-  pub fits-4 : (x y : ℕ) → packed_for s b ≡ two_bytes x ++ two_bytes y → at + length (packed_for s b) ≤ length c → at + 4 ≤ length c
-  fits-4 x y e h = rw e at h
-
   pub once : (x : ℕ) (c' : List ℕ) → packed_for s b ≡ two_bytes x → c' ≡ take at c ++ (two_bytes x ++ drop (at + 2) c)
       → (at + 2 ≡ at + length (packed_for s b)) × (c' ≡ take at c ++ (packed_for s b ++ drop (at + length (packed_for s b)) c))
   once x c' e h = rw e (refl, h)
 
-  pub twice : (x y : ℕ) (c₁ c₂ : List ℕ) → packed_for s b ≡ two_bytes x ++ two_bytes y → at + 4 ≤ length c
+  pub twice : (x y : ℕ) (c₁ c₂ : List ℕ) → packed_for s b ≡ two_bytes x ++ two_bytes y → at + length (packed_for s b) ≤ length c
       → c₁ ≡ take at c ++ (two_bytes x ++ drop (at + 2) c)
       → c₂ ≡ take (at + 2) c₁ ++ (two_bytes y ++ drop (at + 2 + 2) c₁)
       → (at + 4 ≡ at + length (packed_for s b)) × (c₂ ≡ take at c ++ (packed_for s b ++ drop (at + length (packed_for s b)) c))
   twice x y c₁ c₂ e l h g =
+      let r : at + 4 ≤ length c = rw e at l in
       let m : at + 2 ≤ length c = omega arith in
       let t : take (at + 2) c₁ ≡ take at c ++ two_bytes x = ap (take (at + 2)) h ∙ placed-take c at (two_bytes x) m in
       let d : drop (at + 2) c₁ ≡ drop (at + 2) c = ap (drop (at + 2)) h ∙ placed-drop c at (two_bytes x) m in

@@ -24,6 +24,7 @@ struct Writer {
 }
 
 // Writes what `list` asks for to the front of `cells`, and counts the cells.
+#[tactic(auto, unfolding(crate::specs::Calls::judged, crate::specs::WriteTrack::cell_count, refusals::specs::RefusedCalls::buffer_after))]
 pub fn write_track(list: &[u8], cells: &mut [u8]) -> Result<usize, Refusal>
     ensures answer { answer_of result ≡ write_answer list.now cells.old }
     ensures buffer { cells.new ≡ written_after list.now cells.old }
@@ -45,13 +46,11 @@ fn count_pieces(list: &[u8]) -> usize
     ensures { UpToMost (length (pieces_of list.now)) result }
 {
     let mut count: usize = 0;
-    let mut i: usize = 0;
-    while i < list.len() {
+    for &byte in list {
         if MOST_PIECES < count {
             return count;
         }
-        count += pieces_for(list[i]);
-        i += 1;
+        count += pieces_for(byte);
     }
     count
 }
@@ -73,79 +72,66 @@ fn write_list(list: &[u8], cells: &mut [u8])
         run: false,
     };
     let mut at: usize = 0;
-    let mut i: usize = 0;
-    while i < list.len() {
-        let byte = list[i];
+    for &byte in list {
         at = put_byte(&table, writer, byte, cells, at);
         writer = step(writer, byte);
-        i += 1;
     }
 }
 
 // The writer after a byte of the list.
+#[tactic(auto, unfolding(crate::specs::PrivateContracts::next))]
 fn step(writer: Writer, byte: u8) -> Writer
     ensures { result ≡ next writer byte }
 {
     let word = writer.word;
-    if byte == 0xF5 {
-        if writer.run {
-            return Writer {
-                word: crc::step(word, 0xA1),
+    match byte {
+        0xF5 => {
+            let before = if writer.run { word } else { crc::START };
+            Writer {
+                word: crc::step(before, 0xA1),
                 odd: true,
                 run: true,
-            };
+            }
         }
-        return Writer {
-            word: crc::step(crc::START, 0xA1),
-            odd: true,
-            run: true,
-        };
-    }
-    if byte == 0xF6 {
-        return Writer {
+        0xF6 => Writer {
             word: crc::step(word, 0xC2),
             odd: false,
             run: false,
-        };
-    }
-    if byte == 0xF7 {
-        let high = high_byte(word);
-        let low = low_byte(word);
-        return Writer {
-            word: crc::step(crc::step(word, high), low),
-            odd: low % 2 == 1,
+        },
+        0xF7 => {
+            let [high, low] = word.to_be_bytes();
+            Writer {
+                word: crc::step(crc::step(word, high), low),
+                odd: low % 2 == 1,
+                run: false,
+            }
+        }
+        _ => Writer {
+            word: crc::step(word, byte),
+            odd: byte % 2 == 1,
             run: false,
-        };
-    }
-    Writer {
-        word: crc::step(word, byte),
-        odd: byte % 2 == 1,
-        run: false,
+        },
     }
 }
 
 // Puts the cells of a byte of the list at `at`, and gives the place behind them. The table is that by which bytes are coded.
+#[tactic(auto, unfolding(crate::specs::PrivateContracts::packed_for))]
 fn put_byte(table: &[u16; 512], writer: Writer, byte: u8, cells: &mut [u8], at: usize) -> usize
     requires { (table.now ≡ cell_table) × (at + length (packed_for writer byte) ≤ length cells.old) }
     ensures { (result ≡ at + length (packed_for writer byte)) × (cells.new ≡ take at cells.old ++ (packed_for writer byte ++ drop (at + length (packed_for writer byte)) cells.old)) }
 {
-    if byte == 0xF5 {
-        put(cells, at, 0x4489);
-        return at + 2;
-    }
-    if byte == 0xF6 {
-        put(cells, at, 0x5224);
-        return at + 2;
-    }
     let odd = writer.odd;
-    if byte == 0xF7 {
-        let high = high_byte(writer.word);
-        let low = low_byte(writer.word);
-        put(cells, at, mfm::cells_by(table, odd, high));
-        put(cells, at + 2, mfm::cells_by(table, high % 2 == 1, low));
-        return at + 4;
+    match byte {
+        0xF5 => put(cells, at, 0x4489),
+        0xF6 => put(cells, at, 0x5224),
+        0xF7 => {
+            let [high, low] = writer.word.to_be_bytes();
+            put(cells, at, mfm::cells_by(table, odd, high));
+            put(cells, at + 2, mfm::cells_by(table, high % 2 == 1, low));
+            return at + 4;
+        }
+        _ => put(cells, at, mfm::cells_by(table, odd, byte)),
     }
-    put(cells, at, mfm::cells_by(table, odd, byte));
     at + 2
 }
 
@@ -154,18 +140,5 @@ fn put(cells: &mut [u8], at: usize, word: u16)
     requires { at + 2 ≤ length cells.old }
     ensures { cells.new ≡ take at cells.old ++ (two_bytes word ++ drop (at + 2) cells.old) }
 {
-    cells[at] = high_byte(word);
-    cells[at + 1] = low_byte(word);
-}
-
-fn high_byte(word: u16) -> u8
-    ensures { result ≡ word / 256 }
-{
-    (word / 256) as u8
-}
-
-fn low_byte(word: u16) -> u8
-    ensures { result ≡ word % 256 }
-{
-    (word % 256) as u8
+    cells[at..at + 2].copy_from_slice(&word.to_be_bytes());
 }

@@ -1,35 +1,11 @@
--- `cell_words::alone_map` meets its contract: each turn makes a word more. Assumes nothing.
-use Prim.Native.Nat.{◌+◌, ◌-◌, ◌*◌}
-use mathlib.Core.Path.{◌≡◌, refl, ◌∙◌}
+-- `cell_words::alone_map` meets its contract. Assumes nothing.
 use native.Mathlib.Omega.{arith}
-use lib.ListN.{length, length-set}
-use Rattle.cell_words.specs.Tests.{alone_at}
-use Rattle.cell_words.proofs.Words.{holds-none, holds_more, holds_at, holds-next}
-use borrow.Author.Rules.{rules}
+use Prim.Native.Nat.{◌*◌}
+use Rattle.cell_words.specs.Words.{Holds}
+use Rattle.cell_words.proofs.Words.{holds_at, holds-next}
 use Rattle.cell_words.proofs.alone_map.Goals as goal
 
-pub loop-w-init : goal.loop-w-init
-loop-w-init c = (search rules, search rules, search rules, refl, λ t h n. holds-none _ _)
-
-pub loop-w-preserved : goal.loop-w-preserved
-loop-w-preserved c =
-    let l = c in
-    let a = c.args in
-    let w = c.loop-w.w in
-    let b = c.loop-w-test.true in (
-      search rules,
-      search rules,
-      search rules,
-      simp length-set c.loop-w.invariant.3,
-      λ t h n.
-          let e = c.loop-w.invariant.3 in
-          let d = c.loop-w.invariant.1 in
-          holds_more (alone_at t) c.loop-w.map w _ (c.loop-w.invariant.4 t h n) (omega arith)
-          (c.alone_word.ensures t (64 * w) (holds_at t a.words.now (a.m + 1) w h (omega arith)) (holds-next t a.words.now (a.m + 1) w h (omega arith))),
-    )
-
 pub returns : goal.returns
+unfolding Holds
 returns c t h u n =
-    let l = c.loop-w in
-    let e : l.w ≡ c.args.m = omega (arith, c.loop-w-test.false, c.smaller-end.ensures.0, l.invariant.0) in
-    (l.invariant.3 ∙ n, rw (← e) (l.invariant.4 t h n))
+    (c.each_word.array_long, λ w k. c.each_word.ensures w k u t (64 * w) (holds_at t _ _ w h (omega arith)) (holds-next t _ _ w h (omega arith)))

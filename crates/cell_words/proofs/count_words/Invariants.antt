@@ -7,7 +7,4 @@ use Rattle.cell_words.specs.Words.{Holds}
 use Rattle.cell_words.proofs.count_words.Given as goal
 
 abbrev pub invariant-loop-w : goal.invariant-loop-w
-invariant-loop-w l = (l.a ≤ l.w) × (l.w ≤ l.b) × (l.found ≤ 64 * (l.w - l.a)) × ((t : ℕ → Bool) (m : ℕ) → Holds t l.map m → l.b ≤ m → l.found ≡ count t (64 * (l.w - l.a)) (64 * l.a))
-
-abbrev pub decreases-loop-w : goal.decreases-loop-w
-decreases-loop-w l = l.b - l.w
+invariant-loop-w l = (l.found ≤ 64 * (l.w - l.a)) × ((t : ℕ → Bool) (m : ℕ) → Holds t l.map m → l.b ≤ m → l.found ≡ count t (64 * (l.w - l.a)) (64 * l.a))

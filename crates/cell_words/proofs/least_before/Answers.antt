@@ -1,5 +1,5 @@
 -- `cell_words::least_before` meets its contract: the least place is looked for from the words that are left. Assumes nothing.
-use Prim.Native.Nat.{◌-◌, ◌/◌}
+use Prim.Native.Nat.{◌/◌}
 use Rattle.cell_words.proofs.Words.{holds_at}
 use Rattle.cell_words.proofs.Ranges.{first-hits, first-misses, later-hits, later-misses, nowhere}
 use borrow.Author.Rules.{rules}
@@ -11,11 +11,11 @@ returns-then-first-ne0 c = (
   λ t m h g b.
       let a = c.args in
       first-hits t a.from a.to m (search rules) g _ (holds_at t a.map.now m (a.from / 64) h (search rules)) _ _
-      c.if-first-ne0.true c.zeros_before.ensures.1 c.smaller.ensures.0,
+      c.if-first-ne0.true c.zeros_before.ensures.1 c.min.ensures,
 )
 
-pub loop-w-init : goal.loop-w-init
-loop-w-init c =
+pub loop-v-init : goal.loop-v-init
+loop-v-init c =
     let a = c.args in (
       search rules,
       search rules,
@@ -29,20 +29,20 @@ returns-then-x-ne0 c = (
   λ t m h g b.
       let l = c in
       let a = c.args in
-      let w = c.loop-w.w in
-      later-hits t a.from a.to m (search rules) g w (c.loop-w.invariant.2 t m h g) _ (holds_at t a.map.now m w h (search rules)) (search rules) _ _
-      c.if-x-ne0.true c.zeros_before-then-x-ne0.ensures.1 c.smaller-then-x-ne0.ensures.0,
+      let w = c.loop-v.v in
+      later-hits t a.from a.to m (search rules) g w (c.loop-v.invariant.2 t m h g) _ (holds_at t a.map.now m w h (search rules)) (search rules) _ _
+      c.if-x-ne0.true c.zeros_before-then-x-ne0.ensures.1 c.min-then-x-ne0.ensures,
 )
 
-pub loop-w-preserved : goal.loop-w-preserved
-loop-w-preserved c =
+pub loop-v-preserved : goal.loop-v-preserved
+loop-v-preserved c =
     let l = c in
     let a = c.args in
-    let w = c.loop-w.w in (
+    let w = c.loop-v.v in (
       search rules,
       search rules,
       λ t m h g.
-          later-misses t a.from a.to m (search rules) g w (c.loop-w.invariant.2 t m h g) _ (holds_at t a.map.now m w h (search rules)) (search rules) c.if-x-ne0.false,
+          later-misses t a.from a.to m (search rules) g w (c.loop-v.invariant.2 t m h g) _ (holds_at t a.map.now m w h (search rules)) (search rules) c.if-x-ne0.false,
     )
 
 pub returns : goal.returns
@@ -51,5 +51,5 @@ returns c = (
   λ t m h g b.
       let l = c in
       let a = c.args in
-      nowhere t a.from a.to m (search rules) g c.loop-w.w (c.loop-w.invariant.2 t m h g) (search rules),
+      nowhere t a.from a.to m (search rules) g c.loop-v.v (c.loop-v.invariant.2 t m h g) (search rules),
 )

@@ -6,9 +6,9 @@ use Rattle.basis.specs.Search.{least}
 use Rattle.cell_words.specs.Words.{Holds}
 use Rattle.cell_words.proofs.least_before.Given as goal
 
-abbrev pub invariant-loop-w : goal.invariant-loop-w
-invariant-loop-w l = (l.w ≤ 2116) × (l.from ≤ 64 * l.w)
-    × ((t : ℕ → Bool) (m : ℕ) → Holds t l.map m → l.to ≤ 64 * m → least t (64 * m - l.from) l.from ≡ least t (64 * m - 64 * l.w) (64 * l.w))
+abbrev pub invariant-loop-v : goal.invariant-loop-v
+invariant-loop-v l = (l.v ≤ 2116) × (l.from ≤ 64 * l.v)
+    × ((t : ℕ → Bool) (m : ℕ) → Holds t l.map m → l.to ≤ 64 * m → least t (64 * m - l.from) l.from ≡ least t (64 * m - 64 * l.v) (64 * l.v))
 
-abbrev pub decreases-loop-w : goal.decreases-loop-w
-decreases-loop-w l = 2116 - l.w
+abbrev pub decreases-loop-v : goal.decreases-loop-v
+decreases-loop-v l = 2116 - l.v

@@ -21,6 +21,6 @@ returns c = (
   λ t m h g b.
       let s = c in
       let a = c.args in
-      let e : c.smaller-end.result ≡ a.to = omega arith in
+      let e : c.min-end.result ≡ a.to = omega arith in
       c.least_before.ensures.1 t m h (search rules) b ∙ ap (λ (k : ℕ). least t (k - a.from) a.from) e,
 )

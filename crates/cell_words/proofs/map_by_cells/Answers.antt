@@ -1,5 +1,5 @@
 -- `cell_words::map_by_cells` meets its contract: after k cells the map is that of the places where the first k of the word stand. Assumes nothing.
-use Prim.Native.Nat.{◌+◌, ◌-◌}
+use Prim.Native.Nat.{◌+◌}
 use mathlib.Core.Path.{◌≡◌}
 use native.Mathlib.Omega.{arith}
 use Rattle.cell_words.specs.Tests.{one_at, stands_at}
@@ -7,9 +7,6 @@ use Rattle.cell_words.proofs.Words.{holds-less, holds_same}
 use Rattle.cell_words.proofs.Tests.{front_stands, front-first, front-more, front-all}
 use borrow.Author.Rules.{rules}
 use Rattle.cell_words.proofs.map_by_cells.Goals as goal
-
-pub loop-k-init : goal.loop-k-init
-loop-k-init c = (search rules, search rules, λ f bit h u first. first)
 
 pub loop-k-preserved : goal.loop-k-preserved
 loop-k-preserved c = (

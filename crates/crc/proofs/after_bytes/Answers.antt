@@ -1,18 +1,18 @@
 -- `crc::after_bytes` meets its contract: what is left of the bytes takes the word so far to the end. Assumes nothing.
-use Prim.Native.Nat.{◌-◌}
-use mathlib.Core.Path.{refl, sym, ◌∙◌}
-use Rattle.crc.proofs.Bytes.{four-turns}
-use borrow.Author.Rules.{rules}
+use Prim.Native.Nat.{◌*◌, ◌/◌}
+use mathlib.Core.Path.{◌≡◌, sym, ◌∙◌}
+use native.Mathlib.Omega.{arith}
+use lib.ListN.{length}
+use Rattle.crc.proofs.Bytes.{chunk-turn}
 use Rattle.crc.proofs.after_bytes.Goals as goal
 
-pub loop-i-init : goal.loop-i-init
-loop-i-init c = (search rules, refl)
-
-pub loop-i-preserved : goal.loop-i-preserved
-loop-i-preserved c =
-    let l = c in
-    let a = c.args in
-    (search rules, rw c.after_four-so_far.ensures (sym (four-turns c.loop-i.so_far a.bytes.now c.loop-i.i (search rules)) ∙ c.loop-i.invariant.1))
+pub loop-four-preserved : goal.loop-four-preserved
+loop-four-preserved c =
+    let l = c.loop-four in
+    rw c.after_four-so_far.ensures (sym (chunk-turn l.so_far c.args.bytes.now _ l.four-index c.as_chunks.ensures.front (omega (arith, c.loop-four-test.true, c.as_chunks.ensures.front_len))) ∙ l.invariant)
 
 pub returns : goal.returns
-returns c = c.after_rest.ensures ∙ c.loop-i.invariant.1
+returns c =
+    let l = c.loop-four in
+    let e : length c.args.bytes.now / 4 * 4 ≡ 4 * l.four-index = omega (arith, c.loop-four-test.false, c.as_chunks.ensures.front_len) in
+    c.after_rest.ensures ∙ rw (c.as_chunks.ensures.back, e) l.invariant

@@ -1,20 +1,8 @@
 -- `crc::after_four` meets its contract: each byte's part of the word is looked up by itself (Linear). Assumes nothing.
-use Prim.Native.Nat.{◌/◌, ◌%◌}
 use mathlib.Core.Path.{sym}
 use native.Mathlib.Omega.{arith}
-use lib.Bits.{xor_lt}
 use Rattle.crc.proofs.Linear.{four_bytes}
 use Rattle.crc.proofs.after_four.Goals as goal
-
-pub entry-requires : goal.entry-requires
-entry-requires c =
-    let s = c in
-    (c.requires, xor_lt 8 (c.args.word / 256) c.wide.result (omega arith) c.wide.ensures.1, omega arith)
-
-pub entry-requires-2 : goal.entry-requires-2
-entry-requires-2 c =
-    let s = c in
-    (c.requires, xor_lt 8 (c.args.word % 256) c.wide-2.result (omega arith) c.wide-2.ensures.1, omega arith)
 
 pub returns : goal.returns
 returns c =
@@ -24,9 +12,9 @@ returns c =
       c.entry-2.ensures,
       c.entry-3.ensures,
       c.entry-4.ensures,
-      c.wide.ensures.0,
-      c.wide-2.ensures.0,
-      c.wide-3.ensures.0,
-      c.wide-4.ensures.0,
+      c.from.ensures,
+      c.from-2.ensures,
+      c.from-3.ensures,
+      c.from-4.ensures,
     )
     (sym (four_bytes a.word a.a a.b a.c a.d (omega arith) (omega arith) (omega arith) (omega arith) (omega arith)))

@@ -39,4 +39,4 @@ pub returns : goal.returns
 returns c =
     let s = c in
     let e = entry-of c.args.table.now step_entry 256 (rw c.requires.0 table_is) c.args.high c.requires.1 in
-    ap (λ (x : ℕ). x / 2 ^ (16 * c.args.more) % 65536) e ∙ field_is c.args.high c.args.more c.requires.2
+    rw c.from.ensures (ap (λ (x : ℕ). x / 2 ^ (16 * c.args.more) % 65536) e) ∙ field_is c.args.high c.args.more c.requires.2

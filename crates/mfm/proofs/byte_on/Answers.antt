@@ -8,4 +8,4 @@ pub returns : goal.returns
 returns c =
     let a = c.args in
     rw (c.nibble.ensures.0, c.nibble-2.ensures.0)
-    (by_word (cell a.bytes.now a.n) (cell-lt a.bytes.now a.n) a.p _ c.sixteen_cells-cells.ensures.0)
+    (by_word (cell a.cells.bytes.now a.cells.count) (cell-lt a.cells.bytes.now a.cells.count) a.p _ c.sixteen_cells-word.ensures.0)

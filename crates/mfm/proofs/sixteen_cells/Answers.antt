@@ -1,6 +1,7 @@
 -- `mfm::sixteen_cells` meets its contract. Assumes nothing.
 use Prim.Native.Nat.{◌+◌, ◌≤◌}
 use mathlib.Core.Path.{◌∙◌}
+use borrow.Author.Rules.{rules}
 use native.Mathlib.Omega.{arith}
 use Rattle.cells.specs.CellsAndBytes.{cell}
 use Rattle.cells.proofs.InBytes.{word-in-three}
@@ -11,17 +12,16 @@ use Rattle.mfm.proofs.sixteen_cells.Goals as goal
 
 pub returns-then-k-bytes : goal.returns-then-k-bytes
 returns-then-k-bytes c =
-    let s = c in
     let a = c.args in
-    let h : a.p + 16 ≤ a.n = omega arith in (
-      rw (c.wide.ensures.0, c.wide-then-k-bytes.ensures.0, c.wide-then-k-bytes-2.ensures.0)
-          (word-in-three a.bytes.now (λ i. omega (arith, c.shared_slice_known-1.given i)) a.n a.p h),
+    let h : a.p + 16 ≤ a.cells.count = omega arith in (
+      rw (c.from.ensures, c.from-then-k-bytes.ensures, c.from-then-k-bytes-2.ensures)
+          (word-in-three a.cells.bytes.now (λ i. search rules) a.cells.count a.p h),
       omega arith,
     )
 
 pub returns : goal.returns
 returns c =
     let a = c.args in
-    let f = cell a.bytes.now a.n in
-    let e = c.word_at.ensures ∙ word-is a.bytes.now a.n 16 0 a.p (omega arith) in
-    (e, rw e (word_lt f (cell-lt a.bytes.now a.n) 16 a.p))
+    let f = cell a.cells.bytes.now a.cells.count in
+    let e = c.word.ensures ∙ word-is a.cells.bytes.now a.cells.count 16 0 a.p (omega arith) in
+    (e, rw e (word_lt f (cell-lt a.cells.bytes.now a.cells.count) 16 a.p))

@@ -1,31 +1,26 @@
 -- `mfm::write_bytes` meets its contract: after i turns the first i bytes are decoded, and the rest is as it was. Assumes nothing.
-use Prim.Native.Nat.{ℕ, ◌+◌, ◌-◌, ◌*◌, ◌/◌, ◌<◌}
+use Prim.Native.Nat.{ℕ, ◌+◌, ◌*◌, ◌/◌, ◌<◌}
 use mathlib.Core.Path.{◌≡◌, refl, ap₂, ◌∙◌}
 use native.Mathlib.Omega.{arith}
-use lib.ListN.{length, length-set}
+use lib.ListN.{length}
 use Rattle.basis.specs.Lists.{listed}
 use Rattle.basis.proofs.Lists.{listed_more}
 use Rattle.mfm.specs.Coding.{decoded_byte, decoded}
 use Rattle.mfm.proofs.Decoder.{by-nibbles}
 use Rattle.mfm.proofs.RoundTrip.{length-decoded}
-use borrow.Author.Rules.{rules}
 use Rattle.mfm.proofs.write_bytes.Goals as goal
 
 pub loop-i-init : goal.loop-i-init
 unfolding listed
-loop-i-init c = (search rules, refl, refl)
+loop-i-init c = refl
 
 pub loop-i-preserved : goal.loop-i-preserved
 loop-i-preserved c =
-    let l = c in
     let a = c.args in
     let inv = c.loop-i.invariant in
     let h : c.loop-i.i < length a.bytes.now = omega arith in
     let v = ap₂ (λ (x y : ℕ). x * 16 + y) c.nibble.ensures.0 c.nibble-in-loop-i.ensures.0 ∙ by-nibbles a.cells.now c.loop-i.i in
-    (search rules, simp length-set inv.1, listed_more (decoded_byte a.cells.now) 0 c.loop-i.i _ a.bytes.now _ inv.2 h v)
-
-pub shape_of-bytes : goal.shape_of-bytes
-shape_of-bytes c = c.loop-i.invariant.1
+    listed_more (decoded_byte a.cells.now) 0 c.loop-i.i _ a.bytes.now _ inv h v
 
 pub returns : goal.returns
 unfolding decoded
@@ -33,4 +28,4 @@ returns c =
     let l = c.loop-i in
     let a = c.args in
     let e : l.i ≡ length a.cells.now / 2 = omega arith in
-    rw (length-decoded a.cells.now, ← e) l.invariant.2
+    rw (length-decoded a.cells.now, ← e) l.invariant

@@ -1,14 +1,10 @@
 -- `mfm::write_bytes` meets its contract: after i turns the first i bytes are decoded, and the rest is as it was. Assumes nothing.
-use Prim.Native.Nat.{◌+◌, ◌-◌, ◌≤◌}
 use mathlib.Core.Path.{◌≡◌}
 use mathlib.Core.List.{◌++◌}
-use lib.ListN.{length, drop}
+use lib.ListN.{drop}
 use Rattle.basis.specs.Lists.{listed}
-use Rattle.mfm.specs.Coding.{decoded_byte, decoded}
+use Rattle.mfm.specs.Coding.{decoded_byte}
 use Rattle.mfm.proofs.write_bytes.Given as goal
 
 abbrev pub invariant-loop-i : goal.invariant-loop-i
-invariant-loop-i l = (l.i ≤ l.end) × (length l.bytes ≡ length l.initial.bytes) × (l.bytes ≡ listed (decoded_byte l.cells) l.i ++ drop l.i l.initial.bytes)
-
-abbrev pub decreases-loop-i : goal.decreases-loop-i
-decreases-loop-i l = l.end - l.i
+invariant-loop-i l = l.bytes ≡ listed (decoded_byte l.cells) l.i ++ drop l.i l.initial.bytes

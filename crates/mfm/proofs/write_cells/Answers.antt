@@ -1,6 +1,6 @@
 -- `mfm::write_cells` meets its contract: coding by the table is coding by the clock rule. Assumes nothing.
 use mathlib.Core.Path.{◌∙◌}
-use native.Mathlib.Omega.{arith}
+use borrow.Author.Rules.{rules}
 use Rattle.mfm.proofs.ByTable.{by-table}
 use Rattle.mfm.proofs.Cells.{bit-lt}
 use Rattle.mfm.proofs.write_cells.Goals as goal
@@ -10,4 +10,4 @@ returns c =
     let s = c in
     let a = c.args in
     c.write_by_table.ensures
-    ∙ rw (c.cell_table-table.ensures, by-table _ a.bytes.now (bit-lt a.before) (λ i. omega (arith, c.shared_slice_known-1.given i)))
+    ∙ rw (c.cell_table-table.ensures, by-table _ a.bytes.now (bit-lt a.before) (λ i. search rules))

@@ -1,97 +1,38 @@
 -- `track_writer::put_byte` meets its contract. Assumes nothing.
-use Prim.Native.Nat.{ℕ, ◌%◌}
-use mathlib.Core.Path.{sym, ◌∙◌, ap, ap₂}
+use Prim.Native.Nat.{ℕ, ◌/◌, ◌%◌}
+use mathlib.Core.Path.{◌≡◌, refl, sym, ◌∙◌, ap, ap₂}
 use mathlib.Core.Bool.{cond}
 use mathlib.Core.List.{◌++◌}
 use native.Mathlib.Omega.{arith}
+use borrow.Author.Rules.{rules}
 use lib.Dec.{eqb}
+use lib.ListN.{get_or}
 use Rattle.mfm.specs.Coding.{byte_cells}
 use Rattle.track_writer.specs.PrivateContracts.{two_bytes}
-use Rattle.track_writer.proofs.Laws.{odd_is, cells_in, for-5, for-6, for-7, for-other, fits-2, fits-4, once, twice}
+use Rattle.track_writer.proofs.Laws.{odd_is, cells_in, for-5, for-6, for-7, for-other, once, twice}
+use Rattle.track_writer.proofs.put_byte.Goals.{in-245, in-246, in_default}
 use Rattle.track_writer.proofs.put_byte.Goals as goal
 
-pub put-requires : goal.put-requires
-put-requires c =
+pub returns-in-247 : goal.returns-in-247
+returns-in-247 c =
     let a = c.args in
-    fits-2 a.writer a.byte a.cells.now a.at 0x4489 (for-5 _ _ c.if-byte-eq245.true) c.requires.1
-
-pub returns-then-byte-eq245 : goal.returns-then-byte-eq245
-returns-then-byte-eq245 c =
-    let b4 = c in
-    let b6 = c in
-    let a = c.args in
-    once a.writer a.byte a.cells.now a.at 0x4489 _ (for-5 _ _ c.if-byte-eq245.true) c.put.ensures
-
-pub put-requires-then-byte-eq246 : goal.put-requires-then-byte-eq246
-put-requires-then-byte-eq246 c =
-    let b4 = c in
-    let a = c.args in
-    fits-2 a.writer a.byte a.cells.now a.at 0x5224 (for-6 _ _ c.if-byte-eq245.false c.if-byte-eq246.true) c.requires.1
-
-pub returns-then-byte-eq246 : goal.returns-then-byte-eq246
-returns-then-byte-eq246 c =
-    let b4 = c in
-    let b5 = c in
-    let b7 = c in
-    let a = c.args in
-    once a.writer a.byte a.cells.now a.at 0x5224 _ (for-6 _ _ c.if-byte-eq245.false c.if-byte-eq246.true) c.put-then-byte-eq246.ensures
-
-pub put-requires-then-byte-eq247 : goal.put-requires-then-byte-eq247
-put-requires-then-byte-eq247 c =
-    let b4 = c in
-    let b5 = c in
-    let b6 = c in
-    let b8 = c in
-    let a = c.args in
-    let e = for-7 a.writer a.byte c.if-byte-eq245.false c.if-byte-eq246.false c.if-byte-eq247.true in
-    omega (arith, fits-4 a.writer a.byte a.cells.now a.at _ _ e c.requires.1)
-
-pub put-requires-then-byte-eq247-2 : goal.put-requires-then-byte-eq247-2
-put-requires-then-byte-eq247-2 c =
-    let b4 = c in
-    let b9 = c in
-    let b10 = c in
-    let b11 = c in
-    let b13 = c in
-    let a = c.args in
-    let e = for-7 a.writer a.byte c.if-byte-eq245.false c.if-byte-eq246.false c.if-byte-eq247.true in
-    let room = fits-4 a.writer a.byte a.cells.now a.at _ _ e c.requires.1 in
-    omega (arith, room, c.put-then-byte-eq247.auto.cells)
-
-pub returns-then-byte-eq247 : goal.returns-then-byte-eq247
-returns-then-byte-eq247 c =
-    let b3 = c in
-    let b7 = c in
-    let b8 = c in
-    let b10 = c in
-    let b11 = c in
-    let b12 = c in
-    let b13 = c in
-    let b14 = c in
-    let b16 = c in
-    let a = c.args in
-    let e = for-7 a.writer a.byte c.if-byte-eq245.false c.if-byte-eq246.false c.if-byte-eq247.true in
-    let x = c.cells_by.ensures ∙ cells_in c.requires.0 a.writer.odd c.high_byte-high.result (omega (arith, c.high_byte-high.type_inv)) ∙ ap (byte_cells (cond a.writer.odd 1 0)) c.high_byte-high.ensures in
-    let z = c.cells_by-then-byte-eq247.ensures ∙ cells_in c.requires.0 (eqb (c.high_byte-high.result % 2) 1) c.low_byte-low.result (omega (arith, c.low_byte-low.type_inv)) ∙ ap (λ (b : ℕ). byte_cells b c.low_byte-low.result) (odd_is _) in
-    let y = z ∙ ap₂ (λ (h l : ℕ). byte_cells (h % 2) l) c.high_byte-high.ensures c.low_byte-low.ensures in
-    twice a.writer a.byte a.cells.now a.at _ _ _ _ (e ∙ ap₂ (λ (u v : ℕ). two_bytes u ++ two_bytes v) (sym x) (sym y))
-    (fits-4 a.writer a.byte a.cells.now a.at _ _ e c.requires.1) c.put-then-byte-eq247.ensures c.put-then-byte-eq247-2.ensures
-
-pub put-requires-2 : goal.put-requires-2
-put-requires-2 c =
-    let b3 = c in
-    let b4 = c in
-    let b6 = c in
-    let a = c.args in
-    fits-2 a.writer a.byte a.cells.now a.at _ (for-other _ _ c.if-byte-eq245.false c.if-byte-eq246.false c.if-byte-eq247.false) c.requires.1
+    let w = a.writer.word in
+    let h = get_or c.to_be_bytes.result 0 0 in
+    let l = get_or c.to_be_bytes.result 1 0 in
+    let high : h ≡ w / 256 = rw c.to_be_bytes.ensures (omega arith) in
+    let low : l ≡ w % 256 = rw c.to_be_bytes.ensures refl in
+    let x = c.cells_by.ensures ∙ cells_in c.requires.0 a.writer.odd h (omega (arith, high)) ∙ ap (byte_cells (cond a.writer.odd 1 0)) high in
+    let y = c.cells_by-in-247.ensures ∙ cells_in c.requires.0 (eqb (h % 2) 1) l (omega (arith, low)) ∙ ap (λ (b : ℕ). byte_cells b l) (odd_is h) ∙ ap₂ (λ (h l : ℕ). byte_cells (h % 2) l) high low in
+    twice a.writer a.byte a.cells.now a.at _ _ _ _ (for-7 _ _ c.in-247.is ∙ ap₂ (λ (u v : ℕ). two_bytes u ++ two_bytes v) (sym x) (sym y)) c.requires.1
+    c.put-in-247.ensures c.put-in-247-2.ensures
 
 pub returns : goal.returns
 returns c =
-    let b3 = c in
-    let b5 = c in
-    let b6 = c in
-    let b7 = c in
-    let b9 = c in
     let a = c.args in
-    let e = for-other a.writer a.byte c.if-byte-eq245.false c.if-byte-eq246.false c.if-byte-eq247.false in
-    once a.writer a.byte a.cells.now a.at _ _ (e ∙ ap two_bytes (sym (c.cells_by-2.ensures ∙ cells_in c.requires.0 a.writer.odd a.byte (omega arith)))) c.put-2.ensures
+    elim c.match-byte.branch [
+      | in-245 w ↦ once a.writer a.byte a.cells.now a.at 0x4489 _ (for-5 _ _ w.in-245.is) (w.cells-is ∙ w.put.ensures)
+      | in-246 w ↦ once a.writer a.byte a.cells.now a.at 0x5224 _ (for-6 _ _ w.in-246.is) (w.cells-is ∙ w.put-in-246.ensures)
+      | in_default w ↦ once a.writer a.byte a.cells.now a.at _ _
+          (for-other _ _ (search rules) (search rules) (search rules) ∙ ap two_bytes (sym (w.cells_by-in_default.ensures ∙ cells_in c.requires.0 a.writer.odd a.byte (omega arith))))
+          (w.cells-is ∙ w.put-in_default.ensures)
+    ]

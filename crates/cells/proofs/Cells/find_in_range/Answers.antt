@@ -26,18 +26,6 @@ loop-p-init c =
       same = refl;
     }
 
-pub append_byte-cells-requires : goal.append_byte-cells-requires
-append_byte-cells-requires c = c.byte_at.ensures.1
-
-pub next_byte-at-requires : goal.next_byte-at-requires
-next_byte-at-requires c = let k = c.skips_eight.ensures c.if-skips_eight.true in (search rules, k.whole)
-
-pub overflow_add-p : goal.overflow_add-p
-overflow_add-p c = let k = c.skips_eight.ensures c.if-skips_eight.true in let e = k.enough in search rules
-
-pub loop-p-smaller-then-skips_eight : goal.loop-p-smaller-then-skips_eight
-loop-p-smaller-then-skips_eight c = let k = c.skips_eight.ensures c.if-skips_eight.true in omega (arith, k.enough)
-
 pub loop-p-preserved-then-skips_eight : goal.loop-p-preserved-then-skips_eight
 loop-p-preserved-then-skips_eight c =
     let l = c in
