@@ -1,24 +1,16 @@
 -- A word of digits, digit by digit. Assumes nothing.
 use Prim.Native.Nat.{ℕ, ◌+◌, ◌≤◌, ◌<◌}
 use mathlib.Core.Path.{◌≡◌, refl, sym, ◌∙◌}
-use mathlib.Core.Bool.{Bool, true, false, cond, ◌&&◌}
+use mathlib.Core.Bool.{true, false, cond}
 use mathlib.Core.List.{List, [], ◌∷◌}
 use native.Mathlib.Numerals.{add-one}
 use native.Mathlib.Omega.{arith}
-use borrow.Author.Tests.{leb-true, lt-ltb, le-ltb}
-use lib.Dec.{leb, ltb}
+use borrow.Author.Tests.{lt-ltb, le-ltb}
+use lib.Dec.{ltb}
 use lib.ListN.{length, get_or, drop, drop_of_length-le}
 use lib.Seq.{drop-cons}
 use Rattle.block_choice.specs.Arguments.{is_digit, with_digit, argument_from, argument_of}
-use Rattle.block_choice.specs.declared.Argument.TheVariants.{Byte, Other}
-
-pub digit-range : (byte : ℕ) → is_digit byte ≡ true → (48 ≤ byte) × (byte ≤ 57)
-digit-range byte = go (leb 48 byte) refl (leb byte 57) refl
-  where
-    go : (x : Bool) → leb 48 byte ≡ x → (y : Bool) → leb byte 57 ≡ y → (x && y) ≡ true → (48 ≤ byte) × (byte ≤ 57)
-    go true a true b e = (leb-true 48 byte a, leb-true byte 57 b)
-    go true a false b e = let z : ◌≡◌ {A = ℕ} 0 1 = cc in absurd (omega arith)
-    go false a y b e = let z : ◌≡◌ {A = ℕ} 0 1 = cc in absurd (omega arith)
+use Rattle.block_choice.specs.Arguments.Argument.{Byte, Other}
 
 pub no_word : (word : List ℕ) → length word ≡ 0 → Other ≡ argument_of word
 unfolding argument_of

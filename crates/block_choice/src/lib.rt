@@ -14,6 +14,7 @@ pub struct Choice {
 }
 
 // The choice that four words make, where the program was started with so many, its own name among them; none where they are not such numbers.
+#[tactic(auto, unfolding(crate::specs::Arguments::chosen, crate::specs::Arguments::choice_of))]
 pub fn choice_of(
     words: usize,
     first: &[u8],

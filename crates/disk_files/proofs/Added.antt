@@ -20,9 +20,9 @@ use Rattle.refusals.specs.RefusedCalls.Answer.{gives, refused}
 use Rattle.refusals.specs.declared.Refusal.{Refusal}
 use Rattle.track_file.specs.Portions.{read_answer, finish_answer, reader_through, cells_through, whole_of}
 use Rattle.track_file.specs.TrackFile.{Content, file_answer_in, file_buffer}
-use Rattle.track_file.specs.declared.Read.{Read}
-use Rattle.track_file.specs.declared.Read.TheVariants.{Cells, Refused}
-use Rattle.track_file.proofs.Whole.{finished}
+use Rattle.std.specs.Prelude.{Result, Ok}
+use Rattle.track_file.specs.declared.FileCells.{FileCells}
+use Rattle.track_file.proofs.Whole.{whole_of_answer}
 use Rattle.disk_files.specs.TrackOfFile.{FoundTrack, found, track_found, file_track, track_of_file, finding_count, track_numbers, finding_numbers}
 
 -- what a call answers and leaves of the two lists, of a track or a refusal
@@ -40,12 +40,6 @@ module _ (cells : List ℕ) (N T H : ℕ) {count : ℕ} (e : findings_answer dou
 
 module _ (tracks after : List ℕ) (at : ℕ) (findings later : List ℕ) (from : ℕ) (cells : List ℕ) where
   module _ (N T H : ℕ) where
-    -- a refused track
-    pub adds-nothing : (r : Refusal) → findings_answer double_density cells N T H 901 ≡ refused_with r → after ≡ tracks → later ≡ findings
-        → Adds (track_found cells N T H) (refused_with r) tracks after at findings later from
-    unfolding track_found found finding_count track_numbers finding_numbers
-    adds-nothing r e a l = rw e (refl, (a, l))
-
     -- an accepted one
     pub adds-track : {count : ℕ} → findings_answer double_density cells N T H 901 ≡ gives count → (array numbers : List ℕ) → length array ≡ 3604
         → numbers ≡ numbers_after double_density cells N T H array → after ≡ sets tracks at (T ∷ H ∷ count ∷ [])
@@ -59,16 +53,12 @@ module _ (tracks after : List ℕ) (at : ℕ) (findings later : List ℕ) (from 
         rw (all, k) (take_at (numbers_of fs) (drop (length (numbers_of fs)) array) (4 * length fs) (length-numbers fs)) in
         rw e (ap gives k, (a ∙ ap (λ (n : ℕ). sets tracks at (T ∷ H ∷ n ∷ [])) k, l ∙ ap (sets findings from) front))
 
-  -- a file
-  module _ {read : Read} {finish : Answer Content} (given : read_answer read ≡ finish) where
-    pub refused-file : {r : Refusal} → read ≡ Refused r → after ≡ tracks → later ≡ findings → Adds (file_track finish cells) (refused_with r) tracks after at findings later from
-    unfolding file_track finding_count track_numbers finding_numbers
-    refused-file e a l = rw (← given, e) (refl, (a, l))
-
-    pub accepted-file : (answer : Answer ℕ) {T H N : ℕ} → read ≡ Cells T H N → Adds (track_found cells N T H) answer tracks after at findings later from
-        → Adds (file_track finish cells) answer tracks after at findings later from
-    unfolding file_track
-    accepted-file answer e w = rw (← given, e) w
+  -- the track of an accepted file
+  pub accepted-file : {read : Result FileCells Refusal} {finish : Answer Content} {T H : ℕ} (answer : Answer ℕ) (file : FileCells) → read_answer read ≡ finish → read ≡ Ok file
+      → T ≡ file.track → H ≡ file.side → Adds (track_found cells file.count T H) answer tracks after at findings later from
+      → Adds (file_track finish cells) answer tracks after at findings later from
+  unfolding file_track
+  accepted-file answer file given e t h w = rw (← given, e) (rw (t, h) at w)
 
 -- 10.15: for every file and every way to cut it into portions, what is found is that of the whole file
 same-track : (given : Answer Content) (cells other : List ℕ) → ((content : Content) → given ≡ gives content → cells ≡ other) → file_track given cells ≡ file_track given other
@@ -80,7 +70,7 @@ pub whole-track : (reader : Reader) (cells buffer : List ℕ) (portions : List (
     → file_track (finish_answer reader) cells ≡ track_of_file (length buffer) (whole_of portions)
 unfolding track_of_file
 whole-track reader cells buffer portions same-reader same-cells =
-    let whole = (finished reader refl).1.whole buffer portions same-reader in
+    let whole = (whole_of_answer reader refl).whole buffer portions same-reader in
     same-track (finish_answer reader) cells (file_buffer (length buffer) (whole_of portions)) (λ content accepted. same-cells ∙ whole.1 content accepted)
     ∙ ap (λ (x : Answer Content). file_track x (file_buffer (length buffer) (whole_of portions))) whole.0
 

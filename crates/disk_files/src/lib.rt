@@ -17,6 +17,7 @@ use sectors::Track;
 // The end of a track file that came in portions: its track, as three numbers, goes to `tracks` from index `at` on, and the track's findings go
 // to `findings` from index `from` on. The answer is the number of its findings. A file that is refused adds nothing. `cells` is the buffer that
 // the file was read with.
+#[tactic(auto, unfolding(crate::specs::TrackOfFile::file_track, crate::specs::TrackOfFile::finding_count, crate::specs::TrackOfFile::track_numbers, crate::specs::TrackOfFile::finding_numbers))]
 pub fn add_file(
     reader: Reader,
     cells: &[u8],
@@ -42,6 +43,7 @@ pub fn add_file(
 }
 
 // The same of the track of an accepted file.
+#[tactic(auto, unfolding(crate::specs::TrackOfFile::track_found, crate::specs::TrackOfFile::found, crate::specs::TrackOfFile::finding_count, crate::specs::TrackOfFile::track_numbers, crate::specs::TrackOfFile::finding_numbers))]
 fn add_track(
     track: Track,
     tracks: &mut [u32],

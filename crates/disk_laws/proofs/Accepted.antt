@@ -12,7 +12,7 @@ use Rattle.basis.proofs.Bools.{and_left, and_right, or_left, or_right}
 use Rattle.disk_tracks.specs.Given.{some, tracks_in, track_at, side_at, own_at, before, kind_at, level_at, place_at, detail_at}
 use Rattle.disk_tracks.specs.Judgement.{is_outside, some_outside, is_at, some_twice, is_amiss, is_later, amiss_at, some_amiss}
 use Rattle.disk_tracks.proofs.Branches.{Accepted}
-use Rattle.disk_tracks.proofs.Some.{none-at, some-hit}
+use Rattle.disk_tracks.proofs.Some.{none-at, some_hit}
 
 pub clash : {P : Type 0} {b : Bool} → b ≡ true → b ≡ false → P
 clash {P} {b} e g = let z : ◌≡◌ {A = ℕ} 0 1 = cc in absurd (omega arith)
@@ -97,7 +97,7 @@ module _ {tracks findings : List ℕ} (ok : Accepted tracks findings) where
       let at_i = at_place tracks H T i a in
       let at_j = at_place tracks H T j b in
       let none = none-at (λ j. some (is_at tracks (side_at tracks j) (track_at tracks j)) j) (tracks_in tracks) j l ok.once in
-      let here = some-hit (is_at tracks (side_at tracks j) (track_at tracks j)) j i h
+      let here = some_hit (is_at tracks (side_at tracks j) (track_at tracks j)) j i h
       (place-at tracks _ _ i (at_i.0 ∙ sym at_j.0) (at_i.1 ∙ sym at_j.1)) in
       clash here none
 

@@ -9,7 +9,7 @@ use lib.Dec.{eqb}
 use Rattle.basis.proofs.Bools.{and_left, and_right}
 use Rattle.disk_tracks.specs.Given.{some, tracks_in, own_at, before, kind_at}
 use Rattle.disk_tracks.specs.Judgement.{is_at}
-use Rattle.disk_tracks.proofs.Some.{some-hit}
+use Rattle.disk_tracks.proofs.Some.{some_hit}
 use Rattle.disk_page.specs.Ranges.{has_tnf}
 use Rattle.disk_laws.specs.LastLine.{GivenTnf}
 use Rattle.disk_laws.proofs.Accepted.{clash, at_place, place-at}
@@ -43,6 +43,6 @@ module _ (tracks findings : List ℕ) (H T : ℕ) where
   pub given-tnf : GivenTnf tracks findings H T → has_tnf tracks findings H T ≡ true
   unfolding has_tnf
   given-tnf g =
-      let here = some-hit (λ k. eqb (kind_at findings (before tracks g.i + k)) 4) (own_at tracks g.i) g.k g.own (eq-eqb _ _ g.kind) in
-      some-hit (λ i. is_at tracks H T i && some (λ k. eqb (kind_at findings (before tracks i + k)) 4) (own_at tracks i)) (tracks_in tracks) g.i g.within
+      let here = some_hit (λ k. eqb (kind_at findings (before tracks g.i + k)) 4) (own_at tracks g.i) g.k g.own (eq-eqb _ _ g.kind) in
+      some_hit (λ i. is_at tracks H T i && some (λ k. eqb (kind_at findings (before tracks i + k)) 4) (own_at tracks i)) (tracks_in tracks) g.i g.within
       (rw (place-at tracks H T g.i g.side g.track, here))

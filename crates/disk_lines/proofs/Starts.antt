@@ -11,10 +11,10 @@ use Rattle.disk_lines.specs.EntryLines.{start_of}
 
 module _ {after : List ℕ} (before : List ℕ) (H T U : ℕ) {a b s : ℕ} (is-a : a ≡ digit (T / 10)) (is_b : b ≡ digit T) (is-s : s ≡ digit H) where
   -- a range
-  pub wrote-range : {c d : ℕ} → T < U → c ≡ digit (U / 10) → d ≡ digit U → after ≡ out_after (84 ∷ a ∷ b ∷ 45 ∷ c ∷ d ∷ 32 ∷ 72 ∷ s ∷ 32 ∷ []) before
+  pub wrote_range : {c d : ℕ} → T < U → c ≡ digit (U / 10) → d ≡ digit U → after ≡ out_after (84 ∷ a ∷ b ∷ 45 ∷ c ∷ d ∷ 32 ∷ 72 ∷ s ∷ 32 ∷ []) before
       → Wrote before 0 (start_of H T U) 10 after 10
   unfolding start_of bytes_of two_digits
-  wrote-range {c} {d} h is_c is-d w =
+  wrote_range {c} {d} h is_c is-d w =
       let made : start_of H T U ≡ 84 ∷ a ∷ b ∷ 45 ∷ c ∷ d ∷ 32 ∷ 72 ∷ s ∷ 32 ∷ [] = rw (lt-ltb T U h, is-a, is_b, is_c, is-d, is-s) in
       rw made (wrote-front 10 (omega arith) refl w)
 

@@ -2,7 +2,7 @@
 use Prim.Native.Nat.{ℕ, zero, suc, ◌+◌, ◌-◌, ◌≤◌, min}
 use mathlib.Core.Path.{◌≡◌, refl, sym, ap, ◌∙◌}
 use mathlib.Core.List.{List, [], ◌∷◌, ◌++◌, append-nil}
-use native.Mathlib.Nat.{le_refl, min-eq_left, min-eq_right, lt_of_not-le}
+use native.Mathlib.Nat.{le_refl, min-eq_left, min-eq_right, min-le_right, lt_of_not-le}
 use native.Mathlib.Decide.{dec_le}
 use native.Mathlib.Omega.{arith}
 use borrow.Rule.Slice.PartMut.{mid_of, post_of, put_mid}
@@ -41,10 +41,11 @@ part-is made [] (suc from) h = absurd (omega arith)
 part-is made (x ∷ out) (suc from) h = ap (λ (l : List ℕ). x ∷ l) (part-is made out from (omega arith)) ∙ sym (sets-later x out from made)
 
 -- what a call on the part from place `at` on, or on the empty part behind the end, leaves of the buffer
-pub part-wrote : {from next : ℕ} {part : List ℕ} (out made : List ℕ) (at most : ℕ) → from ≡ min at (length out) → from ≤ length out
+pub part-wrote : {from next : ℕ} {part : List ℕ} (out made : List ℕ) (at most : ℕ) → from ≡ min at (length out)
     → part ≡ out_after made (mid_of from (length out - from) out) → length made ≤ most → next ≡ at + length made
     → Wrote out at made most (put_mid from (length out - from) out part) next
-part-wrote {from} {next} {part} out made at most f within p few n =
+part-wrote {from} {next} {part} out made at most f p few n =
+    let within : from ≤ length out = omega (arith, f, min-le_right at (length out)) in
     let l : length (drop from out) ≡ length out - from = length-drop from out in
     let mid : mid_of from (length out - from) out ≡ drop from out = take_all (length out - from) (drop from out) (omega arith) in
     let post : post_of from (length out - from) out ≡ [] = drop_of_length-le (drop from out) {i = length out - from} (omega arith) in

@@ -20,7 +20,7 @@ pub fn entry_line(
     ensures { Wrote out.old 0 (entry_line side first last kind level place detail) 80 out.new result }
 {
     let next = write_start(out, side, first, last);
-    let from = basis::smaller(next, out.len());
+    let from = next.min(out.len());
     let length = lines::finding_line(&mut out[from..], kind, level, place, detail);
     next + length
 }
@@ -43,6 +43,7 @@ fn write_start(out: &mut [u8], side: u32, first: u32, last: u32) -> usize
 }
 
 // The last decimal digit of a number, as a character.
+#[tactic(auto, unfolding(lines::specs::Lines::digit))]
 fn digit(n: u32) -> u8
     ensures { result ≡ digit_of n }
 {

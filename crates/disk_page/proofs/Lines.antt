@@ -1,19 +1,16 @@
 -- The lines of entries, written one after the other. Assumes nothing.
 use Prim.Native.Nat.{ℕ, ◌+◌, ◌≤◌}
-use mathlib.Core.Path.{◌≡◌, refl, subst}
+use mathlib.Core.Path.{◌≡◌, refl}
 use mathlib.Core.Bool.{true, false}
 use mathlib.Core.List.{List, [], ◌∷◌, ◌++◌, append_assoc, append-nil}
-use native.Mathlib.Omega.{arith}
 use borrow.Author.Tests.{eq-eqb, ne_eqb}
 use Rattle.basis.specs.Lists.{joined}
 use Rattle.basis.proofs.Joined.{joined-more, joined-none}
-use Rattle.lines.specs.Lines.{bytes_of}
 use Rattle.lines.specs.Writing.{Wrote}
 use Rattle.lines.proofs.Writing.{◌then◌, none, wrote-few}
 use Rattle.disk_tracks.specs.Given.{kind_at}
-use Rattle.disk_page.specs.PrivateContracts.{far}
-use Rattle.disk_page.specs.Ranges.{goes_on, last_of, is_single_sided}
-use Rattle.disk_page.specs.Page.{Entry, entry, entry_of, side_entries, page_entries, line_of, entry_lines, page_of}
+use Rattle.disk_page.specs.Ranges.{goes_on, last_of}
+use Rattle.disk_page.specs.Page.{Entry, entry, entry_of, line_of, entry_lines}
 
 pub lines-append : (es fs : List Entry) → entry_lines (es ++ fs) ≡ entry_lines es ++ entry_lines fs
 unfolding entry_lines
@@ -28,11 +25,6 @@ lines_none f l at most = rw (joined-none f) (none l at most)
 pub lines_more : {a b c : List ℕ} {at j k m n p : ℕ} (f : ℕ → List Entry) (i : ℕ) → Wrote a at (entry_lines (joined f i)) m b j → Wrote b j (entry_lines (f i)) n c k
     → m + n ≤ p → Wrote a at (entry_lines (joined f (i + 1))) p c k
 lines_more f i first second h = rw (joined-more f i, lines-append (joined f i) (f i)) (wrote-few h (first then second))
-
--- the entries of two sides
-pub lines-both : {a b c : List ℕ} {at j k m n : ℕ} (es fs : List Entry) → Wrote a at (entry_lines es) m b j → Wrote b j (entry_lines fs) n c k
-    → Wrote a at (entry_lines (es ++ fs)) (m + n) c k
-lines-both es fs first second = rw (lines-append es fs) (first then second)
 
 pub no_lines : (l : List ℕ) (at most : ℕ) → Wrote l at (entry_lines []) most l at
 unfolding entry_lines
@@ -57,18 +49,3 @@ pub wrote-no-more : (l : List ℕ) (at : ℕ) (tracks findings : List ℕ) (H T 
     → Wrote l at (entry_lines (entry_of tracks findings H T j)) 80 l at
 unfolding entry_of
 wrote-no-more l at tracks findings H T j h g = rw (eq-eqb _ _ h, g) (no_lines l at 80)
-
--- entries that are the same have the same lines
-pub same_entries : {a b : List ℕ} {at next most : ℕ} {es fs : List Entry} → es ≡ fs → Wrote a at (entry_lines es) most b next → Wrote a at (entry_lines fs) most b next
-same_entries {a} {b} {at} {next} {most} e w = subst (λ (es : List Entry). Wrote a at (entry_lines es) most b next) e w
-
--- the page, with and without its last line
-module _ {a b c : List ℕ} {j k m n : ℕ} (tracks findings : List ℕ) (first : Wrote a 0 (entry_lines (side_entries tracks findings 0)) m b j)
-    (second : Wrote b j (entry_lines (side_entries tracks findings 1)) n c k) (h : m + n + 13 ≤ far) where
-  pub page-without : is_single_sided tracks findings ≡ false → Wrote a 0 (page_of tracks findings) far c k
-  unfolding page_of page_entries
-  page-without e = rw (e, append-nil) (wrote-few (omega arith) (lines-both _ _ first second))
-
-  pub page-with : {d : List ℕ} {end : ℕ} → is_single_sided tracks findings ≡ true → Wrote c k (bytes_of "single-sided\n") 13 d end → Wrote a 0 (page_of tracks findings) far d end
-  unfolding page_of page_entries
-  page-with e w = rw e (wrote-few h (lines-both _ _ first second then w))

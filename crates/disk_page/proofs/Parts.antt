@@ -1,42 +1,13 @@
 -- The parts of the page, and that they make it up. Assumes nothing.
-use Prim.Native.Nat.{ℕ, zero, suc, ◌+◌, ◌*◌, ◌/◌, ◌%◌, ◌<◌, ◌≤◌}
+use Prim.Native.Nat.{ℕ, zero, suc, ◌+◌, ◌*◌, ◌/◌, ◌%◌, ◌<◌}
 use mathlib.Core.Path.{◌≡◌, refl, sym, ap, ◌∙◌}
-use mathlib.Core.Bool.{true, false}
-use mathlib.Core.List.{List, [], ◌++◌, append_assoc, append-nil}
+use mathlib.Core.List.{List, ◌++◌, append_assoc, append-nil}
 use native.Mathlib.Omega.{arith}
-use borrow.Author.Tests.{lt-ltb, le-ltb, eq-eqb, ne_eqb}
+use borrow.Author.Tests.{lt-ltb}
 use Rattle.basis.specs.Lists.{joined}
-use Rattle.lines.specs.Lines.{bytes_of}
-use Rattle.lines.specs.Writing.{Wrote}
-use Rattle.lines.proofs.Writing.{none, wrote-few}
-use Rattle.disk_page.specs.PrivateContracts.{far}
-use Rattle.disk_page.specs.Ranges.{is_single_sided}
 use Rattle.disk_page.specs.Page.{Entry, track_entries, side_entries, page_entries, entry_lines, page_of}
 use Rattle.disk_page.specs.Parts.{part_of}
 use Rattle.disk_page.proofs.Lines.{lines-append}
-
--- a law for each branch
-module _ (tracks findings : List ℕ) {part : ℕ} where
-  pub track-part : {a b : List ℕ} {most next : ℕ} → part < 168 → Wrote a 0 (entry_lines (track_entries tracks findings (part / 84) (part % 84))) most b next → most ≤ far
-      → Wrote a 0 (part_of tracks findings part) far b next
-  unfolding part_of
-  track-part h w m = rw (lt-ltb part 168 h) (wrote-few m w)
-
-  pub no_part : 168 < part → (a : List ℕ) → Wrote a 0 (part_of tracks findings part) far a 0
-  unfolding part_of
-  no_part h a = rw (le-ltb part 168 (omega arith), ne_eqb part 168 (λ e. omega arith)) (none a 0 far)
-
-  last-part : 168 ≤ part → part ≤ 168 → part ≡ 168
-  last-part h g = omega arith
-
-  pub last_line : {a b : List ℕ} {next : ℕ} → 168 ≤ part → part ≤ 168 → is_single_sided tracks findings ≡ true → Wrote a 0 (bytes_of "single-sided\n") 13 b next
-      → Wrote a 0 (part_of tracks findings part) far b next
-  unfolding part_of
-  last_line h g e w = rw (last-part h g, e) (wrote-few (omega arith) w)
-
-  pub no-last-line : 168 ≤ part → part ≤ 168 → is_single_sided tracks findings ≡ false → (a : List ℕ) → Wrote a 0 (part_of tracks findings part) far a 0
-  unfolding part_of
-  no-last-line h g e a = rw (last-part h g, e) (none a 0 far)
 
 -- lists joined, and then more of them
 joined-further : {A : Type 0} (f : ℕ → List A) (m n : ℕ) → joined f (m + n) ≡ joined f m ++ joined (λ k. f (m + k)) n

@@ -1,18 +1,18 @@
 -- The judgement of tracks and findings, a law for each branch, and what is known of those that are accepted. Assumes nothing.
-use Prim.Native.Nat.{ℕ, ◌%◌, ◌<◌, ◌≤◌}
+use Prim.Native.Nat.{ℕ, ◌%◌, ◌≤◌}
 use mathlib.Core.Path.{◌≡◌, refl}
 use mathlib.Core.Bool.{Bool, true, false, cond, not, ◌&&◌, ◌||◌}
 use mathlib.Core.List.{List}
 use native.Mathlib.Omega.{arith}
-use borrow.Author.Tests.{lt-ltb, le-ltb, ltb-false, eqb-true}
+use borrow.Author.Tests.{ltb-false, eqb-true}
 use lib.Dec.{eqb, ltb}
 use lib.ListN.{length}
 use Rattle.basis.proofs.Bools.{and_left, and_right}
 use Rattle.refusals.specs.RefusedCalls.{refused_with}
 use Rattle.refusals.specs.RefusedCalls.Answer.{gives}
 use Rattle.refusals.specs.declared.Refusal.TheVariants.{TrackOrSide, TrackGivenTwice, TooManyTracks, NotTheirFindings}
-use Rattle.disk_tracks.specs.Given.{some, tracks_in, track_at, own_at, before, findings_in}
-use Rattle.disk_tracks.specs.Judgement.{some_outside, some_twice, add_up, amiss_at, some_amiss, judged}
+use Rattle.disk_tracks.specs.Given.{tracks_in, before, findings_in}
+use Rattle.disk_tracks.specs.Judgement.{some_outside, some_twice, add_up, some_amiss, judged}
 
 -- what it means that they add up
 pub record AddedUp (tracks findings : List ℕ) : Type 0 where
@@ -33,38 +33,6 @@ module _ (tracks findings : List ℕ) where
         findings_whole = eqb-true _ _ (and_right a b ab);
         sum = eqb-true _ _ (and_right (a && b) c e);
       }
-
-  -- the findings of one track, whose place and number the loop carries
-  pub of-track : {start own : ℕ} {r : Bool} (i : ℕ) → start ≡ before tracks i → own ≡ own_at tracks i → r ≡ some (amiss_at (track_at tracks i) findings start) own
-      → some (amiss_at (track_at tracks i) findings (before tracks i)) (own_at tracks i) ≡ r
-  of-track i s o e = rw (← s, ← o, e)
-
-  pub judged-22 : 168 < tracks_in tracks → refused_with TooManyTracks ≡ judged tracks findings
-  unfolding judged
-  judged-22 h = rw (lt-ltb 168 (tracks_in tracks) h)
-
-  module _ (few : tracks_in tracks ≤ 168) where
-    pub judged-1 : some_outside tracks ≡ true → refused_with TrackOrSide ≡ judged tracks findings
-    unfolding judged
-    judged-1 e = rw (le-ltb 168 (tracks_in tracks) few, e)
-
-    module _ (inside : some_outside tracks ≡ false) where
-      pub judged-21 : some_twice tracks ≡ true → refused_with TrackGivenTwice ≡ judged tracks findings
-      unfolding judged
-      judged-21 e = rw (le-ltb 168 (tracks_in tracks) few, inside, e)
-
-      module _ (once : some_twice tracks ≡ false) where
-        pub judged-25 : add_up tracks findings ≡ false → refused_with NotTheirFindings ≡ judged tracks findings
-        unfolding judged
-        judged-25 e = rw (le-ltb 168 (tracks_in tracks) few, inside, once, e)
-
-        pub judged-25-amiss : add_up tracks findings ≡ true → some_amiss tracks findings ≡ true → refused_with NotTheirFindings ≡ judged tracks findings
-        unfolding judged
-        judged-25-amiss e g = rw (le-ltb 168 (tracks_in tracks) few, inside, once, e, g)
-
-        pub judged-accepted : add_up tracks findings ≡ true → some_amiss tracks findings ≡ false → gives (findings_in findings) ≡ judged tracks findings
-        unfolding judged
-        judged-accepted e g = rw (le-ltb 168 (tracks_in tracks) few, inside, once, e, g)
 
 -- what is known of tracks and findings that are accepted
 pub record Accepted (tracks findings : List ℕ) : Type 0 where

@@ -1,4 +1,4 @@
 pub mod Some
+pub mod Chunks
 pub mod Sums
-pub mod Findings
 pub mod Branches

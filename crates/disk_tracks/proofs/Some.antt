@@ -1,10 +1,7 @@
 -- What `some` means, and a turn of a loop that looks for it. Assumes nothing.
-use Prim.Native.Nat.{ℕ, zero, suc, ◌+◌, ◌<◌, ◌≤◌}
-use mathlib.Core.Path.{◌≡◌, refl, sym}
-use mathlib.Core.Bool.{Bool, true, false, ◌||◌}
+use Rattle.std.proofs.Common.{ℕ, zero, suc, ◌+◌, ◌<◌, ◌≡◌, Bool, true, false, ◌||◌, refl, arith}
 use native.Mathlib.Decide.{ℕ_discrete}
 use native.Mathlib.Numerals.{add-one}
-use native.Mathlib.Omega.{arith}
 use Rattle.basis.proofs.Bools.{or_left, or_right}
 use Rattle.disk_tracks.specs.Given.{some}
 
@@ -14,10 +11,10 @@ or-true false = refl
 
 module _ (test : ℕ → Bool) where
   -- one that passes
-  pub some-hit : (n i : ℕ) → i < n → test i ≡ true → some test n ≡ true
+  pub some_hit : (n i : ℕ) → i < n → test i ≡ true → some test n ≡ true
   unfolding some
-  some-hit zero i h e = absurd (omega arith)
-  some-hit (suc n) i h e = go (ℕ_discrete i n) (some-hit n i)
+  some_hit zero i h e = absurd (omega arith)
+  some_hit (suc n) i h e = go (ℕ_discrete i n) (some_hit n i)
     where
       go : Dec (i ≡ n) → (i < n → test i ≡ true → some test n ≡ true) → (some test n || test n) ≡ true
       go (yes s) before = rw (← s, e) (or-true (some test i))
@@ -33,20 +30,7 @@ module _ (test : ℕ → Bool) where
       go (yes s) before = rw s (or_right (some test n) (test n) e)
       go (no s) before = before (omega arith) (or_left (some test n) (test n) e)
 
-  -- i places of n are looked at, and none passed
-  pub record Looked (n i : ℕ) : Type 0 where
-    pub within : i ≤ n
-    pub none : some test i ≡ false
-
-  pub look-first : (n : ℕ) → Looked n 0
+  -- none of the first ones passes, nor does the next
+  pub none_more : (i : ℕ) → some test i ≡ false → test i ≡ false → some test (i + 1) ≡ false
   unfolding some
-  look-first n = record { within = omega arith; none = refl }
-
-  pub look-on : {n i : ℕ} → Looked n i → i < n → test i ≡ false → Looked n (i + 1)
-  unfolding some
-  look-on {n} {i} l h e = record { within = omega arith; none = rw (add-one i, l.none) e }
-
-  pub look-end : {n i : ℕ} → Looked n i → n ≤ i → false ≡ some test n
-  look-end {n} {i} l h =
-      let e : i ≡ n = omega (arith, l.within) in
-      rw e at (sym l.none)
+  none_more i before e = rw (add-one i, before) e

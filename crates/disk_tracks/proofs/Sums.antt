@@ -1,5 +1,5 @@
 -- How many findings the first tracks have. Assumes nothing.
-use Prim.Native.Nat.{ℕ, zero, suc, ◌+◌, ◌-◌, ◌*◌, ◌<◌, ◌≤◌}
+use Prim.Native.Nat.{ℕ, zero, suc, ◌+◌, ◌-◌, ◌<◌, ◌≤◌}
 use mathlib.Core.Path.{◌≡◌, refl}
 use mathlib.Core.List.{List}
 use native.Mathlib.Numerals.{add-one}
@@ -26,20 +26,3 @@ module _ (tracks : List ℕ) where
   -- the findings of track i stand among those of the first n
   pub own-within : (i n : ℕ) → i < n → before tracks i + own_at tracks i ≤ before tracks n
   own-within i n h = omega (arith, before_more i, before-grows (i + 1) n (omega arith))
-
-  -- the sum after i tracks, each of less than 2^32 findings
-  pub record Summed (n i all : ℕ) : Type 0 where
-    pub within : i ≤ n
-    pub sum : all ≡ before tracks i
-    pub few : all ≤ 0x1_0000_0000 * i
-
-  pub sum_first : (n : ℕ) → Summed n 0 0
-  unfolding before
-  sum_first n = record { within = omega arith; sum = refl; few = omega arith }
-
-  pub sum-on : {n i all own : ℕ} → Summed n i all → i < n → own ≡ own_at tracks i → own < 0x1_0000_0000 → Summed n (i + 1) (all + own)
-  sum-on {n} {i} {all} {own} s h e b =
-      record { within = omega arith; sum = omega (arith, before_more i, s.sum); few = omega (arith, s.few) }
-
-  pub sum-end : {n i all : ℕ} → Summed n i all → n ≤ i → all ≡ before tracks n
-  sum-end {n} {i} {all} s h = let e : i ≡ n = omega (arith, s.within) in rw e at s.sum

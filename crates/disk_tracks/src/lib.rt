@@ -1,7 +1,7 @@
 // The tracks of a disk and their findings, as they are handed over for its page, and whether they are accepted: section 16 of the specification.
 #![tactic(auto)]
 
-ghost use Rattle.std.specs.Prelude.{◌≡◌, true, not, ◌&&◌, ◌+◌, ◌*◌, ◌/◌, ◌<◌, ◌≤◌, eqb, length};
+ghost use Rattle.std.specs.Prelude.{◌≡◌, true, ◌+◌, ◌*◌, ◌<◌, ◌≤◌, length};
 ghost use Rattle.refusals.specs.RefusedCalls.{answer_of};
 ghost use Rattle.disk_tracks.specs.Given.{some, before, tracks_in, findings_in};
 ghost use Rattle.disk_tracks.specs.Judgement.{is_outside, some_outside, is_at, some_twice, add_up, is_amiss, is_later, amiss_at, some_amiss, judged};
@@ -10,6 +10,7 @@ use refusals::Refusal;
 
 // How many findings the tracks have, or why they are refused. A track is three numbers: track, side, how many findings; a finding is four: kind,
 // level, place, detail. The findings stand in the order of the tracks.
+#[tactic(auto, unfolding(crate::specs::Judgement::judged))]
 pub fn judge_tracks(tracks: &[u32], findings: &[u32]) -> Result<usize, Refusal>
     ensures { answer_of result ≡ judged tracks.now findings.now }
 {
@@ -22,10 +23,7 @@ pub fn judge_tracks(tracks: &[u32], findings: &[u32]) -> Result<usize, Refusal>
     if some_twice(tracks) {
         return Err(Refusal::TrackGivenTwice);
     }
-    if !add_up(tracks, findings) {
-        return Err(Refusal::NotTheirFindings);
-    }
-    if some_amiss(tracks, findings) {
+    if !add_up(tracks, findings) || some_amiss(tracks, findings) {
         return Err(Refusal::NotTheirFindings);
     }
     Ok(findings.len() / 4)
@@ -35,18 +33,16 @@ pub fn judge_tracks(tracks: &[u32], findings: &[u32]) -> Result<usize, Refusal>
 fn some_outside(tracks: &[u32]) -> bool
     ensures { result ≡ some_outside tracks.now }
 {
-    let count = tracks.len() / 3;
-    let mut i: usize = 0;
-    while i < count {
-        if is_outside(tracks[3 * i], tracks[3 * i + 1]) {
+    for [track, side, _] in tracks.as_chunks::<3>().0 {
+        if is_outside(*track, *side) {
             return true;
         }
-        i += 1;
     }
     false
 }
 
 // A track above 83, or a side above 1.
+#[tactic(auto, unfolding(crate::specs::Judgement::is_outside))]
 fn is_outside(track: u32, side: u32) -> bool
     ensures { result ≡ is_outside track side }
 {
@@ -57,13 +53,10 @@ fn is_outside(track: u32, side: u32) -> bool
 fn some_twice(tracks: &[u32]) -> bool
     ensures { result ≡ some_twice tracks.now }
 {
-    let count = tracks.len() / 3;
-    let mut i: usize = 0;
-    while i < count {
-        if is_before(tracks, i, tracks[3 * i + 1], tracks[3 * i]) {
+    for (i, [track, side, _]) in tracks.as_chunks::<3>().0.iter().enumerate() {
+        if is_before(tracks, i, *side, *track) {
             return true;
         }
-        i += 1;
     }
     false
 }
@@ -73,24 +66,16 @@ fn is_before(tracks: &[u32], end: usize, side: u32, track: u32) -> bool
     requires { 3 * end ≤ length tracks.now }
     ensures { result ≡ some (is_at tracks.now side track) end }
 {
-    let mut i: usize = 0;
-    while i < end {
-        if is_same(tracks[3 * i + 1], side, tracks[3 * i], track) {
+    for [earlier_track, earlier_side, _] in tracks[..3 * end].as_chunks::<3>().0 {
+        if (*earlier_side, *earlier_track) == (side, track) {
             return true;
         }
-        i += 1;
     }
     false
 }
 
-// Two sides and two tracks are the same.
-fn is_same(a: u32, b: u32, c: u32, d: u32) -> bool
-    ensures { result ≡ (eqb a b && eqb c d) }
-{
-    (a == b) & (c == d)
-}
-
 // Whether the lists have whole tracks and findings, and as many findings as the tracks say.
+#[tactic(auto, unfolding(crate::specs::Judgement::add_up))]
 fn add_up(tracks: &[u32], findings: &[u32]) -> bool
     requires { tracks_in tracks.now ≤ 168 }
     ensures { result ≡ add_up tracks.now findings.now }
@@ -103,20 +88,11 @@ fn sum(tracks: &[u32]) -> usize
     requires { tracks_in tracks.now ≤ 168 }
     ensures { result ≡ before tracks.now (tracks_in tracks.now) }
 {
-    let count = tracks.len() / 3;
     let mut all: usize = 0;
-    let mut i: usize = 0;
-    while i < count {
-        all += wide(tracks[3 * i + 2]);
-        i += 1;
+    for [_, _, own] in tracks.as_chunks::<3>().0 {
+        all += *own as usize;
     }
     all
-}
-
-fn wide(n: u32) -> usize
-    ensures { (result ≡ n) × (result < 0x1_0000_0000) }
-{
-    n as usize
 }
 
 // Whether some finding is none that its track can have at its place in the list.
@@ -124,16 +100,13 @@ fn some_amiss(tracks: &[u32], findings: &[u32]) -> bool
     requires { add_up tracks.now findings.now ≡ true }
     ensures { result ≡ some_amiss tracks.now findings.now }
 {
-    let count = tracks.len() / 3;
     let mut start: usize = 0;
-    let mut i: usize = 0;
-    while i < count {
-        let own = wide(tracks[3 * i + 2]);
-        if track_amiss(tracks[3 * i], findings, start, own) {
+    for [track, _, own] in tracks.as_chunks::<3>().0 {
+        let own = *own as usize;
+        if track_amiss(*track, findings, start, own) {
             return true;
         }
         start += own;
-        i += 1;
     }
     false
 }
@@ -143,17 +116,16 @@ fn track_amiss(track: u32, findings: &[u32], start: usize, own: usize) -> bool
     requires { start + own ≤ findings_in findings.now }
     ensures { result ≡ some (amiss_at track findings.now start) own }
 {
-    let mut k: usize = 0;
-    while k < own {
+    for k in 0..own {
         if is_amiss_at(track, findings, start, k) {
             return true;
         }
-        k += 1;
     }
     false
 }
 
 // The same for one finding.
+#[tactic(auto, unfolding(crate::specs::Judgement::amiss_at))]
 fn is_amiss_at(track: u32, findings: &[u32], start: usize, k: usize) -> bool
     requires { start + k < findings_in findings.now }
     ensures { result ≡ amiss_at track findings.now start k }
@@ -176,6 +148,7 @@ fn is_amiss_at(track: u32, findings: &[u32], start: usize, k: usize) -> bool
 }
 
 // A kind outside 1 to 21, or TNF on another track or with other numbers than it has.
+#[tactic(auto, unfolding(crate::specs::Judgement::is_amiss))]
 fn is_amiss(track: u32, kind: u32, level: u32, place: u32, detail: u32) -> bool
     ensures { result ≡ is_amiss track kind level place detail }
 {
@@ -185,6 +158,7 @@ fn is_amiss(track: u32, kind: u32, level: u32, place: u32, detail: u32) -> bool
 }
 
 // Whether a finding stands after an earlier one: by kind, then place.
+#[tactic(auto, unfolding(crate::specs::Judgement::is_later))]
 fn is_later(earlier_kind: u32, earlier_place: u32, kind: u32, place: u32) -> bool
     ensures { result ≡ is_later earlier_kind earlier_place kind place }
 {

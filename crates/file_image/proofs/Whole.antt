@@ -9,8 +9,8 @@ use Rattle.refusals.specs.declared.Refusal.{Refusal}
 use Rattle.sector_image.specs.Image.{image_answer, image_after}
 use Rattle.track_file.specs.Portions.{read_answer, reader_through, cells_through, whole_of, WholeFile}
 use Rattle.track_file.specs.TrackFile.{Content, file_buffer}
-use Rattle.track_file.specs.declared.Read.{Read}
-use Rattle.track_file.specs.declared.Read.TheVariants.{Cells, Refused}
+use Rattle.track_file.specs.declared.FileCells.{FileCells}
+use Rattle.std.specs.Prelude.{Result, Ok, Err}
 use Rattle.file_reader.specs.declared.Reader.{Reader}
 use Rattle.file_image.specs.ImageOfFile.{image_given, image_bytes, file_image_answer, file_image, WholeImage}
 
@@ -18,18 +18,6 @@ use Rattle.file_image.specs.ImageOfFile.{image_given, image_bytes, file_image_an
 abbrev pub Told : Answer Content → (cells before after : List ℕ) → Answer ℕ → Type 0
 Told given cells before after answer =
     (answer ≡ image_given given cells (length before)) × (after ≡ buffer_after (image_given given cells (length before)) (image_bytes given cells) before)
-
-module _ (cells before after : List ℕ) (answer : Answer ℕ) (read : Read) where
-  pub told-cells : (track side count : ℕ) → read ≡ Cells track side count
-      → (answer ≡ image_answer cells count track side (length before)) × (after ≡ image_after cells count track side before)
-      → Told (read_answer read) cells before after answer
-  unfolding image_given image_bytes
-  told-cells track side count e told = rw e told
-
-  pub told-refusal : (refusal : Refusal) → read ≡ Refused refusal → answer ≡ refused_with refusal → after ≡ before
-      → Told (read_answer read) cells before after answer
-  unfolding image_given image_bytes buffer_after
-  told-refusal refusal e is same = rw e (is, same)
 
 -- the image of a file depends on its cells only where it is accepted
 same-image : (given : Answer Content) (cells other : List ℕ) (room : ℕ) → ((content : Content) → given ≡ gives content → cells ≡ other)

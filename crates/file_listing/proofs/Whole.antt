@@ -13,25 +13,14 @@ use Rattle.refusals.specs.RefusedCalls.Answer.{gives, refused}
 use Rattle.refusals.specs.declared.Refusal.{Refusal}
 use Rattle.track_file.specs.Portions.{start_of, start_cells, reader_after, cells_after, read_answer, reader_through, cells_through, whole_of, WholeFile}
 use Rattle.track_file.specs.TrackFile.{Content, file_buffer}
-use Rattle.track_file.specs.declared.Read.{Read}
-use Rattle.track_file.specs.declared.Read.TheVariants.{Cells, Refused}
+use Rattle.track_file.specs.declared.FileCells.{FileCells}
+use Rattle.std.specs.Prelude.{Result, Ok, Err}
 use Rattle.file_reader.specs.declared.Reader.{Reader}
 use Rattle.track_file.proofs.Portions.{in-one-portion}
 
 -- what a writer answers and leaves, of the bytes `made`
 abbrev pub Told : (made before after : List ℕ) → ℕ → Type 0
 Told made before after r = (r ≡ length made) × ((r ≤ 65536) × (after ≡ out_after made before))
-
-module _ (before after : List ℕ) (r : ℕ) (cells : List ℕ) (read : Read) where
-  pub told-cells : (track side count : ℕ) → read ≡ Cells track side count → Told (listing_of cells count track side) before after r
-      → Told (printed_file (read_answer read) cells) before after r
-  unfolding printed_file
-  told-cells track side count e told = rw e told
-
-  pub told-refusal : (refusal : Refusal) (number : ℕ) → read ≡ Refused refusal → number ≡ number_of refusal → number < 0x1_0000_0000
-      → (r ≡ length (refused_line number)) × (after ≡ out_after (refused_line number) before) → Told (printed_file (read_answer read) cells) before after r
-  unfolding printed_file
-  told-refusal refusal number e is fits line = rw (e, ← is) (line.0, (omega (arith, line.0, refused-few number fits), line.1))
 
 -- what is printed of a file depends on its cells only where it is accepted
 same-printed : (answer : Answer Content) (cells other : List ℕ)

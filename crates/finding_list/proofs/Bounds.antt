@@ -7,8 +7,8 @@ use native.Mathlib.Decide.{dec_le}
 use native.Mathlib.Nat.{lt_of_not-le}
 use native.Mathlib.Omega.{arith}
 use borrow.Author.Tests.{leb-true}
-use lib.ListN.{length, get_or, take, replicate, length-append, length-replicate, get_or-eq_default}
-use lib.Seq.{length-take-le, take-take, take_at}
+use lib.ListN.{length, get_or, take, replicate, get_or-eq_default}
+use lib.Seq.{take-take, take_at}
 use Rattle.cells.specs.CellsAndBytes.{cell}
 use Rattle.cells.proofs.Places.{cell-lt}
 use Rattle.cells.proofs.Words.{word_lt}
@@ -19,8 +19,7 @@ use Rattle.finding_rules.specs.declared.Row.{Row}
 use Rattle.basis.specs.Lists.{joined}
 use Rattle.finding_list.specs.Findings.{row_at, kinds, of_kind}
 use Rattle.finding_list.proofs.MostFindings.{few_findings}
-use Rattle.finding_list.proofs.Others.{length-kept}
-use Rattle.finding_list.specs.PrivateContracts.{BoundedSector, BoundedTrack, Within, Narrow, sectors_in}
+use Rattle.finding_list.specs.PrivateContracts.{BoundedSector, BoundedTrack, Within, Narrow}
 use Rattle.mfm.specs.Coding.{byte_on, data_cell}
 use Rattle.layouts.specs.Layouts.{layout_of}
 use Rattle.layouts.specs.declared.Density.{Density}
@@ -105,28 +104,23 @@ within-sector layout sound bytes n i long = go (dec_le (length (sectors_of layou
         rw s.made (within-record layout sound (cell bytes n) n _ long (omega (arith, s.below)))
 
 -- the sectors of a track, as the struct keeps them
-module _ (layout : Layout) (bytes : List ℕ) (n : ℕ) (ss : Sectors) (are : ss ≡ kept (sectors_of layout bytes n)) (few : length (sectors_of layout bytes n) ≤ 64) where
-  pub sectors-kept : sectors_in ss ≡ sectors_of layout bytes n
-  unfolding kept
-  sectors-kept =
-      let xs = sectors_of layout bytes n in
-      rw (are, take-take (length xs) 64 (xs ++ replicate 64 no_sector) few) (take_at xs (replicate 64 no_sector) (length xs) refl)
+pub sectors-kept : (layout : Layout) (bytes : List ℕ) (n : ℕ) (ss : Sectors) → ss ≡ kept (sectors_of layout bytes n) → length (sectors_of layout bytes n) ≤ 64
+    → take ss.count ss.all ≡ sectors_of layout bytes n
+unfolding kept
+sectors-kept layout bytes n ss are few =
+    let xs = sectors_of layout bytes n in
+    rw (are, take-take (length xs) 64 (xs ++ replicate 64 no_sector) few) (take_at xs (replicate 64 no_sector) (length xs) refl)
 
-  pub sectors-on : Sound layout → 20000 ≤ n → n ≤ 131072 → BoundedTrack n ss
-  unfolding kept
-  sectors-on sound long short =
-      record {
-        few = rw are record { few = few; long = full };
-        near = λ i. rw sectors-kept (near-sector layout sound bytes n i short);
-        within = λ i. rw sectors-kept (within-sector layout sound bytes n i long);
-        long = long;
-        short = short;
-      }
-    where
-      full : length (take 64 (sectors_of layout bytes n ++ replicate 64 no_sector)) ≡ 64
-      full =
-          let xs = sectors_of layout bytes n in
-          length-take-le 64 (xs ++ replicate 64 no_sector) (omega (arith, length-append xs (replicate 64 no_sector), length-replicate 64 no_sector))
+pub sectors-on : (layout : Layout) → Sound layout → (bytes : List ℕ) (n : ℕ) → length (sectors_of layout bytes n) ≤ 64 → 20000 ≤ n → n ≤ 131072
+    → BoundedTrack n (sectors_of layout bytes n)
+sectors-on layout sound bytes n few long short =
+    record {
+      few = few;
+      near = λ i. near-sector layout sound bytes n i short;
+      within = λ i. within-sector layout sound bytes n i long;
+      long = long;
+      short = short;
+    }
 
 -- rows whose places and details are numbers of 32 bits
 abbrev AllNarrow : List Row → Type 0
@@ -208,7 +202,5 @@ row-narrow layout sound f N T ss h l k i near =
     k
 
 -- a track has no more findings than there is room for
-pub few-kept : (density : Density) (bytes : List ℕ) (n track : ℕ) (ss : Sectors) → BoundedTrack n ss → length (joined (of_kind (layout_of density) (cell bytes n) n track (sectors_in ss)) kinds) ≤ 901
-few-kept density bytes n track ss b =
-    let size : length (sectors_in ss) ≤ 64 = omega (arith, length-kept ss b.few, b.few.few) in
-    few_findings (layout_of density) (sound density) (cell bytes n) n track (sectors_in ss) size
+pub few-kept : (density : Density) (bytes : List ℕ) (n track : ℕ) (ss : List Sector) → BoundedTrack n ss → length (joined (of_kind (layout_of density) (cell bytes n) n track ss) kinds) ≤ 901
+few-kept density bytes n track ss b = few_findings (layout_of density) (sound density) (cell bytes n) n track ss b.few

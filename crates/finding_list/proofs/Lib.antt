@@ -8,3 +8,4 @@ pub mod Others
 pub mod Outcome
 pub mod SingleDensity
 pub mod Apart
+pub mod Adding

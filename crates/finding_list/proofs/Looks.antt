@@ -1,20 +1,21 @@
 -- How often each kind looks, and its rows as the code takes them. A kind is given by its index, from 0. Assumes nothing.
 use Prim.Native.Nat.{ℕ, zero, suc, ◌-◌, ◌<◌, ◌≤◌}
 use mathlib.Core.Path.{◌≡◌, refl, sym, ap, ◌∙◌}
+use mathlib.Core.Bool.{Bool}
 use mathlib.Core.List.{List, [], ◌∷◌}
 use native.Mathlib.Decide.{dec_le}
 use native.Mathlib.Nat.{lt_of_not-le}
 use native.Mathlib.Omega.{arith}
 use borrow.Author.Tests.{lt-ltb, le-ltb, le-leb, lt-leb}
-use lib.ListN.{length, get_or}
+use lib.ListN.{length, get_or, take}
+use Rattle.std.specs.List.{list_any}
 use Rattle.basis.specs.Lists.{joined}
 use Rattle.cell_patterns.specs.Cells.{gaps_of}
-use Rattle.finding_rules.specs.Rules.{no_row, nth, track_rows, id_rows, data_rows, sector_rows, gap_rows, rows}
+use Rattle.finding_rules.specs.Rules.{no_row, nth, same_number, track_rows, id_rows, data_rows, sector_rows, gap_rows, rows}
 use Rattle.finding_rules.specs.declared.Row.{Row}
 use Rattle.finding_rules.proofs.Rows.{length-on-sector, row-track, row-dsn, row-sector, row-gaps}
 use Rattle.finding_list.specs.Findings.{looks, row_at, found_by, found_at, of_kind}
-use Rattle.finding_list.specs.PrivateContracts.{duplicate_at}
-use Rattle.finding_list.specs.declared.Finding.{Finding}
+use Rattle.finding_list.proofs.Others.{some_is_any}
 use Rattle.layouts.specs.declared.Layout.{Layout}
 use Rattle.sector_records.specs.declared.Sector.{Sector}
 
@@ -79,16 +80,9 @@ module _ (layout : Layout) (f : ℕ → ℕ) (N T : ℕ) (ss : List Sector) (k i
           ap (λ (row : Row). row.place) (row-sector layout f N T ss i k a l)
           ∙ place_at (nth ss i).place (sector_rows layout f N T ss (nth ss i)) (all-at (nth ss i)) (k - 6) (omega (arith, length-on-sector layout f N T ss i k))
 
--- DSN finds what its rows find
-module _ (layout : Layout) (f : ℕ → ℕ) (N T : ℕ) (ss : List Sector) where
-  found-twice : (i : ℕ) → duplicate_at ss i ≡ found_at layout f N T ss 5 i
-  unfolding duplicate_at found_at row_at
-  found-twice i = ap (found_by 5) (sym (row-dsn layout f N T ss i 5 refl))
-
-  same-joined : (g h : ℕ → List Finding) → ((i : ℕ) → g i ≡ h i) → (n : ℕ) → joined g n ≡ joined h n
-  unfolding joined
-  same-joined g h e zero = refl
-  same-joined g h e (suc n) = rw (same-joined g h e n, e n)
-
-  pub twice-kind : (k : ℕ) → k ≡ 5 → joined (duplicate_at ss) (length ss) ≡ of_kind layout f N T ss k
-  twice-kind k e = rw e (same-joined (duplicate_at ss) (found_at layout f N T ss 5) found-twice (length ss) ∙ sector-kind layout f N T ss 5 (omega arith) (omega arith))
+-- the row of DSN at sector i, where the earlier sectors are searched
+module _ (layout : Layout) (f : ℕ → ℕ) (N T : ℕ) (ss : List Sector) (i : ℕ) where
+  pub row-duplicate : (twice : Bool) → twice ≡ list_any (same_number (nth ss i)) (take i ss)
+      → record { holds = twice; place = (nth ss i).place; detail = (nth ss i).number } ≡ row_at layout f N T ss 5 i
+  unfolding row_at
+  row-duplicate twice e = rw (row-dsn layout f N T ss i 5 refl, e, some_is_any (same_number (nth ss i)) (take i ss))

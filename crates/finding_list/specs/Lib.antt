@@ -1,3 +1,4 @@
 pub mod Findings
 pub mod Calls
 pub mod PrivateContracts
+pub mod SurveyContracts

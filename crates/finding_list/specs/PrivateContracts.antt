@@ -1,22 +1,18 @@
 -- What the contracts of private functions need: what they ask of sectors and rows, and findings added to a list of numbers. Assumes
 -- nothing.
-use Rattle.std.specs.Prelude.{ℕ, ◌+◌, ◌*◌, ◌/◌, ◌≤◌, ◌<◌, ◌≡◌, true, false, List, ◌++◌, length, take, drop, replicate}
+use Rattle.std.specs.Prelude.{ℕ, ◌+◌, ◌*◌, ◌/◌, ◌≤◌, ◌<◌, ◌≡◌, true, false, List, ◌++◌, length, get_or, take, drop, replicate}
 use Rattle.basis.specs.Lists.{joined}
 use Rattle.cells.specs.CellsAndBytes.{cell}
-use Rattle.cell_words.specs.Words.{Holds}
+use Rattle.cell_words.specs.Words.{mask}
 use Rattle.layouts.specs.declared.Layout.{Layout}
 use Rattle.sector_records.specs.Marks.{word_mark_at}
 use Rattle.sector_records.specs.Sectors.{has_data}
-use Rattle.finding_rules.specs.Rules.{nth, dsn, some_sector, starts_in_data}
+use Rattle.finding_rules.specs.Rules.{nth, some_sector, starts_in_data}
 use Rattle.finding_rules.specs.declared.Row.{Row}
 use Rattle.finding_list.specs.Calls.{numbers_of, most_findings}
-use Rattle.finding_list.specs.Findings.{found_by, of_kind}
+use Rattle.finding_list.specs.Findings.{found_at, of_kind}
 use Rattle.finding_list.specs.declared.Finding.{Finding}
 use Rattle.sector_records.specs.declared.Sector.{Sector}
-
--- what DSN finds at sector i
-unfoldable pub duplicate_at : List Sector → ℕ → List Finding
-duplicate_at ss i = found_by 5 (dsn (take i ss) (nth ss i))
 
 -- the bounds of a record's numbers
 pub record BoundedSector (s : Sector) : Type 0 where
@@ -52,9 +48,9 @@ pub record BoundedTrack (n : ℕ) (ss : List Sector) : Type 0 where
 abbrev pub AllApart : ℕ → List Sector → Type 0
 AllApart n ss = (i : ℕ) → i < length ss → some_sector (starts_in_data n (nth ss i)) ss ≡ false
 
--- words that say of each place of a track, and of those past its end, whether a sync stands there
+-- words that say of each place of a track, and of those past its end, whether a sync stands there: `Holds`, written out, as a ghost field asks
 abbrev pub SyncMap : Layout → List ℕ → ℕ → List ℕ → Type 0
-SyncMap layout bytes n syncs = Holds (word_mark_at (cell bytes n) layout.sync) syncs (n / 64 + 64)
+SyncMap layout bytes n syncs = (w : ℕ) → w < n / 64 + 64 → get_or syncs w 0 ≡ mask (word_mark_at (cell bytes n) layout.sync) 64 (64 * w)
 
 -- a row whose place and detail are numbers of 32 bits
 pub record Narrow (row : Row) : Type 0 where
@@ -76,3 +72,8 @@ pub record Added (before : List ℕ) (at : ℕ) (xs : List Finding) (after : Lis
 -- a list of numbers, zeros at first, with the findings of the kinds before k: `at` findings in all
 abbrev pub Listed : Layout → List ℕ → (N T : ℕ) → List Sector → (k : ℕ) → List ℕ → (at : ℕ) → Type 0
 Listed layout bytes N T ss k numbers at = Added (replicate 3604 0) 0 (joined (of_kind layout (cell bytes N) N T ss) k) numbers at
+
+-- the same, and with those of kind k at the sectors before i
+abbrev pub Looked : Layout → List ℕ → (N T : ℕ) → List Sector → (k i : ℕ) → List ℕ → (at : ℕ) → Type 0
+Looked layout bytes N T ss k i numbers at =
+    Added (replicate 3604 0) 0 (joined (of_kind layout (cell bytes N) N T ss) k ++ joined (found_at layout (cell bytes N) N T ss k) i) numbers at

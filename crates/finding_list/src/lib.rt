@@ -2,20 +2,21 @@
 // its index, from 0.
 #![tactic(auto)]
 
+mod facts;
+
 ghost use Rattle.std.specs.Prelude.{◌≡◌, true, false, ℕ, ◌<◌, ◌≤◌, length, get_or, replicate};
-ghost use Rattle.basis.specs.Lists.{joined};
-ghost use Rattle.cells.specs.CellsAndBytes.{cell};
-ghost use Rattle.cell_patterns.specs.Cells.{GapsFound};
-ghost use Rattle.finding_rules.specs.Rules.{no_row, nth, starts_in_data, some_sector, sector_rows};
-ghost use Rattle.finding_list.specs.Findings.{found_by, findings_of};
+ghost use Rattle.std.specs.List.{list_any};
+ghost use Rattle.finding_rules.specs.Rules.{same_number, starts_in_data, some_sector};
+ghost use Rattle.finding_list.specs.Findings.{kinds, found_by, findings_of};
 ghost use Rattle.finding_list.specs.Calls.{survey_answer, sectors_given, sectors_found, array_after};
 ghost use Rattle.refusals.specs.RefusedCalls.{answer_by};
 ghost use Rattle.layouts.specs.Layouts.{layout_of};
 ghost use Rattle.sector_records.specs.Sectors.{sectors_of};
-ghost use Rattle.finding_list.specs.PrivateContracts.{BoundedTrack, Within, Clear, SyncMap, AllApart, Narrow, Added, Room, Listed};
+ghost use Rattle.finding_list.specs.PrivateContracts.{BoundedTrack, Within, Clear, AllApart, Narrow, Added, Room};
+ghost use Rattle.finding_list.specs.SurveyContracts.{ListedBefore, sector_row};
 
-use cell_patterns::Gaps;
 use cell_words::WORDS;
+use facts::Surveyed;
 use finding_rules::Row;
 use layouts::{Density, layout_of};
 use refusals::Refusal;
@@ -57,7 +58,7 @@ pub fn survey(
     let mut syncs = [0u64; WORDS];
     let listed = track.sectors_with_maps(density, &mut words, &mut syncs)?;
     let sectors = &listed.all[..listed.count];
-    let survey = Survey {
+    let survey = Surveyed {
         density,
         track,
         sectors,
@@ -91,28 +92,12 @@ const DATA_RULES: usize = 6;
 
 const OVERWRITTEN: usize = 11;
 
-// What the rules look at: an accepted track, its sectors, the map of its syncs, and what was counted on its cells; and whether the sectors
-// are known to lie apart. The functions of the kinds add to the list what they find, after the `at` findings that are in it, and give how
-// many there are then.
-#[derive(Clone, Copy)]
-struct Survey<'a> {
-    density: Density,
-    track: Track<'a>,
-    sectors: &'a [Sector],
-    syncs: &'a [u64; WORDS],
-    gaps: Gaps,
-    apart: bool,
-    ghost bounded: { BoundedTrack track.cells.count sectors.now },
-    ghost sync_map: { SyncMap (layout_of density) track.cells.bytes.now track.cells.count syncs.now },
-    ghost gaps_found: { GapsFound (layout_of density) (cell track.cells.bytes.now track.cells.count) track.cells.count gaps },
-    ghost lie_apart: { apart ≡ true → AllApart track.cells.count sectors.now },
-}
-
-impl<'a> Survey<'a> {
+// The functions of the kinds add to the list what they find, after the `at` findings that are in it, and give how many there are then.
+impl<'a> Surveyed<'a> {
     // All kinds; the list holds none yet.
     fn all_kinds(&self, numbers: &mut [u32; NUMBERS]) -> usize
         requires { numbers.old ≡ replicate 3604 0 }
-        ensures { Listed (layout_of self.now.density) self.now.track.cells.bytes.now self.now.track.cells.count self.now.track.track self.now.sectors.now 21 numbers.new result }
+        ensures { ListedBefore self.now 21 numbers.new result }
     {
         let track = self.track_kinds(numbers);
         let duplicates = self.duplicates(numbers, track);
@@ -123,19 +108,14 @@ impl<'a> Survey<'a> {
     // The kinds on the track's numbers.
     fn track_kinds(&self, numbers: &mut [u32; NUMBERS]) -> usize
         requires { numbers.old ≡ replicate 3604 0 }
-        ensures { Listed (layout_of self.now.density) self.now.track.cells.bytes.now self.now.track.cells.count self.now.track.track self.now.sectors.now 5 numbers.new result }
+        ensures { ListedBefore self.now 5 numbers.new result }
     {
+        let layout = layout_of(self.density);
         let cells = self.track.cells.count as u32;
         let sectors = self.sectors.len() as u32;
         let mut to = 0;
         for k in 0..TRACK_RULES {
-            let row = finding_rules::track_rule(
-                layout_of(self.density),
-                k,
-                cells,
-                sectors,
-                self.track.track,
-            );
+            let row = finding_rules::track_rule(layout, k, cells, sectors, self.track.track);
             to = put(numbers, to, k, row);
         }
         to
@@ -143,15 +123,13 @@ impl<'a> Survey<'a> {
 
     // DSN: a sector with the number of an earlier one.
     fn duplicates(&self, numbers: &mut [u32; NUMBERS], at: usize) -> usize
-        requires { Listed (layout_of self.now.density) self.now.track.cells.bytes.now self.now.track.cells.count self.now.track.track self.now.sectors.now 5 numbers.old at }
-        ensures { Listed (layout_of self.now.density) self.now.track.cells.bytes.now self.now.track.cells.count self.now.track.track self.now.sectors.now 6 numbers.new result }
+        requires { ListedBefore self.now 5 numbers.old at }
+        ensures { ListedBefore self.now 6 numbers.new result }
     {
         let mut to = at;
         for (i, s) in self.sectors.iter().enumerate() {
             let row = Row {
-                holds: self.sectors[..i]
-                    .iter()
-                    .any(|earlier| earlier.number == s.number),
+                holds: has_number(&self.sectors[..i], *s),
                 place: s.place as usize,
                 detail: s.number as usize,
             };
@@ -162,8 +140,8 @@ impl<'a> Survey<'a> {
 
     // The kinds on each sector by itself, 7 to 19: kind after kind, and in each sector after sector.
     fn sector_kinds(&self, numbers: &mut [u32; NUMBERS], at: usize) -> usize
-        requires { Listed (layout_of self.now.density) self.now.track.cells.bytes.now self.now.track.cells.count self.now.track.track self.now.sectors.now 6 numbers.old at }
-        ensures { Listed (layout_of self.now.density) self.now.track.cells.bytes.now self.now.track.cells.count self.now.track.track self.now.sectors.now 19 numbers.new result }
+        requires { ListedBefore self.now 6 numbers.old at }
+        ensures { ListedBefore self.now 19 numbers.new result }
     {
         let mut to = at;
         for k in 0..SECTOR_RULES {
@@ -177,7 +155,7 @@ impl<'a> Survey<'a> {
     // The row of a kind on sectors at one of the sectors, k being its place among these kinds.
     fn sector_rule(&self, k: usize, s: Sector) -> Row
         requires { (k < 13) × Within self.now.track.cells.count s × (self.now.apart ≡ true → some_sector (starts_in_data self.now.track.cells.count s) self.now.sectors.now ≡ false) }
-        ensures { result ≡ get_or (sector_rows (layout_of self.now.density) (cell self.now.track.cells.bytes.now self.now.track.cells.count) self.now.track.cells.count self.now.track.track self.now.sectors.now s) k no_row }
+        ensures { result ≡ sector_row self.now s k }
     {
         if k < DATA_RULES {
             return finding_rules::id_rule(layout_of(self.density), k, self.track.track, s);
@@ -210,18 +188,13 @@ impl<'a> Survey<'a> {
         requires { self.now.apart ≡ true → some_sector (starts_in_data self.now.track.cells.count s) self.now.sectors.now ≡ false }
         ensures { result ≡ some_sector (starts_in_data self.now.track.cells.count s) self.now.sectors.now }
     {
-        let n = self.track.cells.count as u32;
-        !self.apart
-            && self
-                .sectors
-                .iter()
-                .any(|other| finding_rules::starts_in_data(n, s, *other))
+        !self.apart && starts_in_some(self.track.cells.count as u32, s, self.sectors)
     }
 
     // The kinds on the gaps.
     fn gap_kinds(&self, numbers: &mut [u32; NUMBERS], at: usize) -> usize
-        requires { Listed (layout_of self.now.density) self.now.track.cells.bytes.now self.now.track.cells.count self.now.track.track self.now.sectors.now 19 numbers.old at }
-        ensures { Listed (layout_of self.now.density) self.now.track.cells.bytes.now self.now.track.cells.count self.now.track.track self.now.sectors.now 21 numbers.new result }
+        requires { ListedBefore self.now 19 numbers.old at }
+        ensures { ListedBefore self.now 21 numbers.new result }
     {
         let mut to = at;
         for k in 0..GAP_RULES {
@@ -234,6 +207,23 @@ impl<'a> Survey<'a> {
         }
         to
     }
+}
+
+// Has one of these sectors the number of s?
+#[tactic(auto, unfolding(finding_rules::specs::Rules::same_number))]
+fn has_number(sectors: &[Sector], s: Sector) -> bool
+    ensures { result ≡ list_any (same_number s) sectors.now }
+{
+    sectors.iter().any(|other| other.number == s.number)
+}
+
+// Does s start in the data of one of the sectors?
+fn starts_in_some(n: u32, s: Sector, sectors: &[Sector]) -> bool
+    ensures { result ≡ list_any (starts_in_data n s) sectors.now }
+{
+    sectors
+        .iter()
+        .any(|other| finding_rules::starts_in_data(n, s, *other))
 }
 
 // Do the sectors lie one behind the other, each with its data, and all before the track's end? Then none starts in the data of another.

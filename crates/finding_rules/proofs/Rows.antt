@@ -1,19 +1,15 @@
 -- The table of findings, part by part, as the code takes it. A kind is given by its index, from 0. Assumes nothing.
 use Prim.Native.Nat.{ℕ, ◌+◌, ◌-◌, ◌<◌, ◌≤◌}
-use mathlib.Core.Path.{◌≡◌, refl, sym, ◌∙◌}
+use mathlib.Core.Path.{◌≡◌, refl, ◌∙◌}
 use mathlib.Core.List.{List, [], ◌∷◌, ◌++◌}
 use native.Mathlib.Omega.{arith}
-use lib.ListN.{length, get_or, take, get_or-eq_default, get_or-append}
+use lib.ListN.{length, get_or, take, get_or-append}
 use lib.Seq.{get_or-append-add}
 use Rattle.cell_patterns.specs.Cells.{gaps_of, syncs_inside}
 use Rattle.finding_rules.specs.Rules.{no_row, nth, dsn, sws, sid, track_rows, id_rows, data_rows, sector_rows, gap_rows, rows}
 use Rattle.finding_rules.specs.declared.Row.{Row}
 use Rattle.layouts.specs.declared.Layout.{Layout}
 use Rattle.sector_records.specs.declared.Sector.{Sector}
-
--- a group has no more rows than it lists
-pub no-row : (group : List Row) (k : ℕ) → length group ≤ k → no_row ≡ get_or group k no_row
-no-row group k h = sym (get_or-eq_default group no_row h)
 
 -- a row of two groups, one after the other
 before : (first second : List Row) (k : ℕ) → k < length first → get_or (first ++ second) k no_row ≡ get_or first k no_row

@@ -2,7 +2,7 @@
 // counted on the cells. A kind is given by its place in its group, from 0.
 #![tactic(auto)]
 
-ghost use Rattle.std.specs.Prelude.{◌≡◌, ◌-◌, get_or};
+ghost use Rattle.std.specs.Prelude.{◌≡◌, get_or};
 ghost use Rattle.finding_rules.specs.Rules.{track_rows, id_rows, data_rows, gap_rows, no_row, is_in_data, starts_in_data};
 
 use cell_patterns::Gaps;
@@ -10,12 +10,19 @@ use layouts::Layout;
 use sector_records::Sector;
 
 // A row of the table: whether the rule holds, and if so at which place and with which detail.
-#[derive(Clone, Copy)]
+#[derive(Clone, Copy, Debug)]
 pub struct Row {
     pub holds: bool,
     pub place: usize,
     pub detail: usize,
 }
+
+// A row that finds nothing, for numbers that are no kind.
+const NOTHING: Row = Row {
+    holds: false,
+    place: 0,
+    detail: 0,
+};
 
 // The last track of a usual disk, and the first after it.
 const LAST_USUAL_TRACK: u32 = 79;
@@ -45,6 +52,7 @@ const DELETED_DATA_MARK: u8 = 0xF8;
 const LONG_RUN: usize = 1000;
 
 // Kinds 1 to 5, on the numbers of the track.
+#[tactic(auto, unfolding(crate::specs::Rules::track_rows))]
 pub fn track_rule(layout: Layout, k: usize, n: u32, sectors: u32, track: u32) -> Row
     ensures { result ≡ get_or (track_rows layout n sectors track) k no_row }
 {
@@ -79,11 +87,12 @@ pub fn track_rule(layout: Layout, k: usize, n: u32, sectors: u32, track: u32) ->
             place: 0,
             detail: sectors as usize,
         },
-        _ => nothing(),
+        _ => NOTHING,
     }
 }
 
 // Kinds 7 to 12, on a sector's ID and the marks.
+#[tactic(auto, unfolding(crate::specs::Rules::id_rows))]
 pub fn id_rule(layout: Layout, k: usize, track: u32, s: Sector) -> Row
     ensures { result ≡ get_or (id_rows layout track s) k no_row }
 {
@@ -92,45 +101,46 @@ pub fn id_rule(layout: Layout, k: usize, track: u32, s: Sector) -> Row
         0 => Row {
             holds: (FIRST_INVALID_NUMBER <= s.number) & (s.number <= LAST_INVALID_NUMBER),
             place: s.place as usize,
-            detail: s.number as usize,
+            detail: usize::from(s.number),
         },
         // ITN
         1 => Row {
-            holds: (s.track as u32) != track,
+            holds: u32::from(s.track) != track,
             place: s.place as usize,
-            detail: s.track as usize,
+            detail: usize::from(s.track),
         },
         // IIF
         2 => Row {
             holds: (LAST_ID_TRACK < s.track)
                 | ((LAST_ID_SIDE < s.side) | (LAST_SIZE_CODE < s.size_code)),
             place: s.place as usize,
-            detail: s.side as usize,
+            detail: usize::from(s.side),
         },
         // SSZ
         3 => Row {
             holds: (s.size_code != layout.size_code) & (s.size_code != layout.other_size_code),
             place: s.place as usize,
-            detail: s.size_code as usize,
+            detail: usize::from(s.size_code),
         },
         // NSI
         4 => Row {
             holds: s.mark != ID_MARK,
             place: s.place as usize,
-            detail: s.mark as usize,
+            detail: usize::from(s.mark),
         },
         // NSD
         5 => Row {
             holds: (s.data_mark != 0)
                 & ((s.data_mark != DELETED_DATA_MARK) & (s.data_mark != DATA_MARK)),
             place: s.place as usize,
-            detail: s.data_mark as usize,
+            detail: usize::from(s.data_mark),
         },
-        _ => nothing(),
+        _ => NOTHING,
     }
 }
 
 // Kinds 13 to 17, on a sector's checks and its data, on a track of n cells.
+#[tactic(auto, unfolding(crate::specs::Rules::data_rows))]
 pub fn data_rule(k: usize, n: u32, s: Sector) -> Row
     ensures { result ≡ get_or (data_rows n s) k no_row }
 {
@@ -139,37 +149,38 @@ pub fn data_rule(k: usize, n: u32, s: Sector) -> Row
         0 => Row {
             holds: !s.id_check_good,
             place: s.place as usize,
-            detail: s.number as usize,
+            detail: usize::from(s.number),
         },
         // SND
         1 => Row {
             holds: s.id_check_good & (s.data_mark == 0),
             place: s.place as usize,
-            detail: s.number as usize,
+            detail: usize::from(s.number),
         },
         // SBD
         2 => Row {
             holds: (s.data_mark != 0) & !s.data_check_good,
             place: s.place as usize,
-            detail: s.number as usize,
+            detail: usize::from(s.number),
         },
         // DOI
         3 => Row {
             holds: (s.data_mark != 0) & ((s.data_place < n) & (n < s.data_end)),
             place: s.place as usize,
-            detail: less(s.data_end, n),
+            detail: s.data_end.saturating_sub(n) as usize,
         },
         // DBI
         4 => Row {
             holds: (s.data_mark != 0) & (n <= s.data_place),
             place: s.place as usize,
-            detail: less(s.data_place, n),
+            detail: s.data_place.saturating_sub(n) as usize,
         },
-        _ => nothing(),
+        _ => NOTHING,
     }
 }
 
 // Kinds 20 and 21, on the gaps of the track.
+#[tactic(auto, unfolding(crate::specs::Rules::gap_rows))]
 pub fn gap_rule(k: usize, gaps: Gaps) -> Row
     ensures { result ≡ get_or (gap_rows gaps) k no_row }
 {
@@ -186,11 +197,12 @@ pub fn gap_rule(k: usize, gaps: Gaps) -> Row
             place: gaps.start,
             detail: gaps.longest,
         },
-        _ => nothing(),
+        _ => NOTHING,
     }
 }
 
 // SWS: does the sector s start in the data of e, on a track of n cells?
+#[tactic(auto, unfolding(crate::specs::Rules::starts_in_data))]
 pub fn starts_in_data(n: u32, s: Sector, e: Sector) -> bool
     ensures { result ≡ starts_in_data n s e }
 {
@@ -204,21 +216,4 @@ fn is_in_data(x: usize, e: Sector) -> bool
     ensures { result ≡ is_in_data x e }
 {
     ((e.data_place as usize) <= x) & (x < (e.data_end as usize))
-}
-
-fn nothing() -> Row
-    ensures { result ≡ no_row }
-{
-    Row {
-        holds: false,
-        place: 0,
-        detail: 0,
-    }
-}
-
-// How much more a is than b, 0 where it is less.
-fn less(a: u32, b: u32) -> usize
-    ensures { result ≡ a - b }
-{
-    if b <= a { (a - b) as usize } else { 0 }
 }

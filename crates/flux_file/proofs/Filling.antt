@@ -17,7 +17,8 @@ use Rattle.refusals.specs.RefusedCalls.Answer.{gives, refused}
 use Rattle.refusals.specs.declared.Refusal.TheVariants.{TooManyTimings, NotATrackFile as NoTrackFile}
 use Rattle.separation.specs.Separation.{cells_of, separation}
 use Rattle.taken_timings.specs.Timings.{taken_after, taken_cells}
-use Rattle.taken_timings.specs.declared.TakenTimings.{TakenTimings}
+use Rattle.std.specs.Prelude.{Result}
+use Rattle.taken_timings.specs.declared.Taken.{Taken}
 use Rattle.taken_timings.proofs.Taking.{cells_over, took_with, taken-answer}
 use Rattle.taken_timings.proofs.TimingCells.{never, zeros, accepted, timings-filled}
 use Rattle.file_reader.specs.Bytes.{number_after}
@@ -32,7 +33,7 @@ use Rattle.flux_file.specs.Portions.{reader_after, cells_after, finish_answer}
 use Rattle.flux_file.proofs.Staged.{ends, ends-stopped, ends-no-file, length-numbers, next-timing, timings-whole, timings-not-whole}
 
 -- the bytes of the timings
-timings-cells : (place : Place) (k : ℕ) (taken : TakenTimings) (ys buffer : List ℕ) → length ys ≡ 4 * suc k
+timings-cells : (place : Place) (k : ℕ) (taken : Result Taken ℕ) (ys buffer : List ℕ) → length ys ≡ 4 * suc k
     → cells_after (Timings place (suc k) Empty taken) ys buffer ≡ cells_over taken (numbers (suc k) ys) buffer
 unfolding cells_after reader_after_byte cells_after_byte number_after in_timing in_timing_cells numbers
 timings-cells place k taken [] buffer e = let z : ⊥ = omega arith in absurd z

@@ -1,12 +1,12 @@
 -- Bytes one after another: a turn of the walk over a portion, a portion cut in two, and portions joined. Assumes
 -- nothing.
-use Prim.Native.Nat.{ℕ, ◌+◌, ◌-◌, ◌≤◌, ◌<◌}
+use Prim.Native.Nat.{ℕ, zero, suc, ◌+◌, ◌-◌, ◌*◌, ◌≤◌, ◌<◌}
 use mathlib.Core.Path.{◌≡◌, refl, sym, ◌∙◌, ap}
 use mathlib.Core.List.{List, [], ◌∷◌, ◌++◌, append-nil}
-use native.Mathlib.Numerals.{add-one}
 use native.Mathlib.Omega.{arith}
-use lib.ListN.{length, get_or, drop, drop_of_length-le}
-use lib.Seq.{drop-cons}
+use lib.ListN.{length, get_or, take, drop, length-drop}
+use lib.Seq.{drop-drop, get_or-take}
+use Rattle.core.specs.Simd.{first_chunks}
 use Rattle.basis.specs.Bytes.{four_bytes}
 use Rattle.taken_timings.specs.Timings.{taken_after, taken_cells}
 use Rattle.file_reader.specs.Bytes.{number_after}
@@ -14,9 +14,9 @@ use Rattle.flux_reader.specs.Bytes.{in_timing, in_timing_cells, reader_after_byt
 use Rattle.track_file.specs.Portions.{start_cells, whole_of}
 use Rattle.flux_file.specs.Portions.{start_of, reader_after, cells_after, reader_after_all, cells_after_all, reader_through, cells_through}
 use Rattle.file_reader.specs.declared.Place.{Place}
-use Rattle.file_reader.specs.declared.Number.{Number}
 use Rattle.file_reader.specs.declared.Number.TheVariants.{Empty}
-use Rattle.taken_timings.specs.declared.TakenTimings.{TakenTimings}
+use Rattle.std.specs.Prelude.{Result}
+use Rattle.taken_timings.specs.declared.Taken.{Taken}
 use Rattle.flux_reader.specs.declared.FluxReader.{FluxReader}
 use Rattle.flux_reader.specs.declared.FluxReader.TheVariants.{Timings}
 use Rattle.flux_reader.proofs.Sections.{more-timings}
@@ -59,101 +59,69 @@ unfolding reader_after_all cells_after_all whole_of
 in-one-portion buffer file started fed =
     (rw (← started.0) fed.0, (rw (← started.0, ← started.1) fed.1, append-nil file))
 
--- the bytes of a portion from `from` to i are fed
-pub record Fed (portion cells₀ : List ℕ) (reader₀ : FluxReader) (from : ℕ) (cells : List ℕ) (reader : FluxReader) (i : ℕ) : Type 0 where
-  pub on : from ≤ i
-  pub within : i ≤ length portion
-  pub long : length cells ≡ length cells₀
-  pub to_reader : reader_after reader (drop i portion) ≡ reader_after reader₀ (drop from portion)
-  pub to_cells : cells_after reader (drop i portion) cells ≡ cells_after reader₀ (drop from portion) cells₀
+-- the bytes of a portion before `rest` are fed
+pub record Fed (portion cells₀ : List ℕ) (reader₀ : FluxReader) (rest cells : List ℕ) (reader : FluxReader) : Type 0 where
+  pub to_reader : reader_after reader rest ≡ reader_after reader₀ portion
+  pub to_cells : cells_after reader rest cells ≡ cells_after reader₀ portion cells₀
 
-pub none-fed : (portion cells : List ℕ) (reader : FluxReader) (from : ℕ) → from ≤ length portion → Fed portion cells reader from cells reader from
-none-fed portion cells reader from h = record { on = omega arith; within = h; long = refl; to_reader = refl; to_cells = refl }
-
--- the same, as the contract of a part of the walk says it
-abbrev Said : List ℕ → List ℕ → FluxReader → ℕ → List ℕ → FluxReader → ℕ → Type 0
-Said portion cells₀ reader₀ from cells reader i =
-    (from ≤ i) × ((i ≤ length portion)
-    × ((reader_after reader (drop i portion) ≡ reader_after reader₀ (drop from portion))
-    × (cells_after reader (drop i portion) cells ≡ cells_after reader₀ (drop from portion) cells₀)))
-
-module _ {portion cells₀ : List ℕ} {reader₀ : FluxReader} {from : ℕ} {cells : List ℕ} {reader : FluxReader} {i : ℕ} where
-  pub as_said : {told : FluxReader} → told ≡ reader₀ → Fed portion cells₀ reader₀ from cells reader i → Said portion cells₀ told from cells reader i
-  as_said e fed = rw e (fed.on, (fed.within, (fed.to_reader, fed.to_cells)))
-
-  pub from-said : Said portion cells₀ reader₀ from cells reader i → length cells ≡ length cells₀ → Fed portion cells₀ reader₀ from cells reader i
-  from-said s l = record { on = s.0; within = s.1.0; long = l; to_reader = s.1.1.0; to_cells = s.1.1.1 }
-
--- the byte at i, and the four from i on
-byte_at : (portion : List ℕ) (i j : ℕ) → j ≡ i + 1 → j ≤ length portion → drop i portion ≡ get_or portion i 0 ∷ drop j portion
-byte_at portion i j e h = let k : i < length portion = omega arith in rw (e, add-one, drop-cons portion i 0)
-
-four-at : (portion : List ℕ) (i : ℕ) → i + 4 ≤ length portion
-    → drop i portion ≡ get_or portion i 0 ∷ get_or portion (i + 1) 0 ∷ get_or portion (i + 2) 0 ∷ get_or portion (i + 3) 0 ∷ drop (i + 4) portion
-four-at portion i h =
-    byte_at portion i (i + 1) refl (omega arith)
-    ∙ ap (λ (x : List ℕ). get_or portion i 0 ∷ x)
-    (byte_at portion (i + 1) (i + 2) (omega arith) (omega arith)
-    ∙ ap (λ (x : List ℕ). get_or portion (i + 1) 0 ∷ x)
-    (byte_at portion (i + 2) (i + 3) (omega arith) (omega arith)
-    ∙ ap (λ (x : List ℕ). get_or portion (i + 2) 0 ∷ x) (byte_at portion (i + 3) (i + 4) (omega arith) h)))
-
--- the reader before a timing
-pub at-timing : {told : FluxReader} {place : Place} {left : ℕ} {number : Number} {taken : TakenTimings} → told ≡ Timings place left number taken → number ≡ Empty
-    → told ≡ Timings place left Empty taken
-at-timing e none = rw (e, none)
-
-module _ {portion cells₀ : List ℕ} {reader₀ : FluxReader} {from : ℕ} where
-  module _ {cells : List ℕ} {reader : FluxReader} {i : ℕ} (fed : Fed portion cells₀ reader₀ from cells reader i) where
-    pub one-more-fed : i < length portion → {next : FluxReader} {after : List ℕ}
-        → (next ≡ reader_after_byte reader (get_or portion i 0)) × (after ≡ cells_after_byte reader (get_or portion i 0) cells) → length after ≡ length cells
-        → Fed portion cells₀ reader₀ from after next (i + 1)
-    unfolding reader_after cells_after
-    one-more-fed h e l =
-        let n = fed.on in
-        let rest = byte_at portion i (i + 1) refl (omega arith) in
-        record {
-          on = omega arith;
-          within = omega arith;
-          long = l ∙ fed.long;
-          to_reader = rw e.0 (ap (reader_after reader) (sym rest) ∙ fed.to_reader);
-          to_cells = rw (e.0, e.1) (ap (λ (x : List ℕ). cells_after reader x cells) (sym rest) ∙ fed.to_cells);
-        }
-
-    pub more-fed : {after : List ℕ} {next : FluxReader} {j : ℕ} → Fed portion cells reader i after next j → Fed portion cells₀ reader₀ from after next j
-    more-fed more =
-        let n = fed.on in
-        let m = more.on in
-        record {
-          on = omega arith;
-          within = more.within;
-          long = more.long ∙ fed.long;
-          to_reader = more.to_reader ∙ fed.to_reader;
-          to_cells = more.to_cells ∙ fed.to_cells;
-        }
-
-    pub all-fed : length portion ≤ i
-        → (reader ≡ reader_after reader₀ (drop from portion)) × (cells ≡ cells_after reader₀ (drop from portion) cells₀)
-    unfolding reader_after cells_after
-    all-fed h =
-        let rest = drop_of_length-le portion h in
-        (ap (reader_after reader) (sym rest) ∙ fed.to_reader, ap (λ (x : List ℕ). cells_after reader x cells) (sym rest) ∙ fed.to_cells)
-
-  -- a whole timing that is not the last
-  pub timing-fed : {cells : List ℕ} {place : Place} {left : ℕ} {taken : TakenTimings} {i : ℕ}
-      → Fed portion cells₀ reader₀ from cells (Timings place left Empty taken) i → i + 4 ≤ length portion → 1 < left
-      → {t : ℕ} → t ≡ four_bytes (get_or portion i 0) (get_or portion (i + 1) 0) (get_or portion (i + 2) 0) (get_or portion (i + 3) 0)
-      → {next : TakenTimings} {after : List ℕ} → (next ≡ taken_after taken t) × (after ≡ taken_cells taken t cells) → length after ≡ length cells
-      → Fed portion cells₀ reader₀ from after (Timings place (left - 1) Empty next) (i + 4)
-  unfolding reader_after cells_after reader_after_byte cells_after_byte number_after in_timing in_timing_cells
-  timing-fed {cells} {place} {left} {taken} {i} fed h some {t} number {next} {after} e l =
-      let n = fed.on in
-      let rest = four-at portion i h in
-      let step = more-timings place left next some in
+module _ {portion cells₀ : List ℕ} {reader₀ : FluxReader} {rest cells : List ℕ} {reader : FluxReader} (fed : Fed portion cells₀ reader₀ rest cells reader) where
+  -- a byte more
+  pub byte-fed : {byte : ℕ} {behind : List ℕ} → rest ≡ byte ∷ behind → {next : FluxReader} {after : List ℕ}
+      → next ≡ reader_after_byte reader byte → after ≡ cells_after_byte reader byte cells → Fed portion cells₀ reader₀ behind after next
+  unfolding reader_after cells_after
+  byte-fed is e f =
       record {
-        on = omega arith;
-        within = h;
-        long = l ∙ fed.long;
-        to_reader = rw (step, e.0, number) (ap (reader_after (Timings place left Empty taken)) (sym rest) ∙ fed.to_reader);
-        to_cells = rw (step, e.0, e.1, number) (ap (λ (x : List ℕ). cells_after (Timings place left Empty taken) x cells) (sym rest) ∙ fed.to_cells);
+        to_reader = rw e (ap (reader_after reader) (sym is) ∙ fed.to_reader);
+        to_cells = rw (e, f) (ap (λ (x : List ℕ). cells_after reader x cells) (sym is) ∙ fed.to_cells);
       }
+
+  -- some bytes more
+  pub more-fed : {behind : List ℕ} {next : FluxReader} {after : List ℕ} → reader_after next behind ≡ reader_after reader rest
+      → cells_after next behind after ≡ cells_after reader rest cells → Fed portion cells₀ reader₀ behind after next
+  more-fed e f = record { to_reader = e ∙ fed.to_reader; to_cells = f ∙ fed.to_cells }
+
+-- all of them
+pub all-fed : {portion cells₀ : List ℕ} {reader₀ : FluxReader} {rest cells : List ℕ} {reader : FluxReader} → Fed portion cells₀ reader₀ rest cells reader
+    → length rest ≡ 0 → (reader ≡ reader_after reader₀ portion) × (cells ≡ cells_after reader₀ portion cells₀)
+unfolding reader_after cells_after
+all-fed {rest = []} fed e = (fed.to_reader, fed.to_cells)
+all-fed {rest = byte ∷ behind} fed e = let z : ⊥ = omega arith in absurd z
+
+-- the four bytes of a timing that is whole
+four-front : (bytes : List ℕ) → 4 ≤ length bytes
+    → bytes ≡ get_or (take 4 bytes) 0 0 ∷ get_or (take 4 bytes) 1 0 ∷ get_or (take 4 bytes) 2 0 ∷ get_or (take 4 bytes) 3 0 ∷ drop 4 bytes
+four-front [] h = let z : ⊥ = omega arith in absurd z
+four-front (a ∷ []) h = let z : ⊥ = omega arith in absurd z
+four-front (a ∷ b ∷ []) h = let z : ⊥ = omega arith in absurd z
+four-front (a ∷ b ∷ c ∷ []) h = let z : ⊥ = omega arith in absurd z
+four-front (a ∷ b ∷ c ∷ d ∷ rest) h = refl
+
+-- timing i of those that a portion has whole
+chunk-at : (k i : ℕ) (bytes : List ℕ) → i < k → get_or (first_chunks 4 k bytes) i [] ≡ take 4 (drop (4 * i) bytes)
+chunk-at zero i bytes h = let z : ⊥ = omega arith in absurd z
+chunk-at (suc k) zero bytes h = refl
+chunk-at (suc k) (suc i) bytes h =
+    let n : 4 + 4 * i ≡ 4 * suc i = omega arith in
+    chunk-at k i (drop 4 bytes) (omega arith) ∙ ap (take 4) (drop-drop (4 * i) 4 bytes ∙ ap (λ (m : ℕ). drop m bytes) n)
+
+-- a whole timing that is not the last, as timing i of those that the portion has whole, of which the first `end` are taken
+pub timing-fed : {portion cells₀ : List ℕ} {reader₀ : FluxReader} {cells : List ℕ} {place : Place} {left : ℕ} {taken : Result Taken ℕ} {i : ℕ} (k end : ℕ)
+    → Fed portion cells₀ reader₀ (drop (4 * i) portion) cells (Timings place left Empty taken) → i < end → end ≤ k → 4 * k ≤ length portion → 1 < left → {fewer : ℕ} → fewer ≡ left - 1
+    → {chunk : List ℕ} → chunk ≡ get_or (take end (first_chunks 4 k portion)) i []
+    → {t : ℕ} → t ≡ four_bytes (get_or chunk 0 0) (get_or chunk 1 0) (get_or chunk 2 0) (get_or chunk 3 0)
+    → {next : Result Taken ℕ} {after : List ℕ} → next ≡ taken_after taken t → after ≡ taken_cells taken t cells
+    → Fed portion cells₀ reader₀ (drop (4 * (i + 1)) portion) after (Timings place fewer Empty next)
+unfolding reader_after cells_after reader_after_byte cells_after_byte number_after in_timing in_timing_cells
+timing-fed {portion} {cells = cells} {place} {left} {taken} {i} k end fed h m l some less {chunk} is {t} number {next} {after} e f =
+    let here = drop (4 * i) portion in
+    let n : 4 * i + 4 ≡ 4 * (i + 1) = omega arith in
+    let rest : here ≡ get_or chunk 0 0 ∷ get_or chunk 1 0 ∷ get_or chunk 2 0 ∷ get_or chunk 3 0 ∷ drop (4 * (i + 1)) portion =
+    four-front here (omega (arith, length-drop (4 * i) portion))
+    ∙ ap (λ (x : List ℕ). get_or x 0 0 ∷ get_or x 1 0 ∷ get_or x 2 0 ∷ get_or x 3 0 ∷ drop 4 here)
+    (sym (is ∙ get_or-take end (first_chunks 4 k portion) i [] h ∙ chunk-at k i portion (omega arith)))
+    ∙ ap (λ (x : List ℕ). get_or chunk 0 0 ∷ get_or chunk 1 0 ∷ get_or chunk 2 0 ∷ get_or chunk 3 0 ∷ x) (drop-drop 4 (4 * i) portion ∙ ap (λ (m : ℕ). drop m portion) n) in
+    let step = more-timings place left next some in
+    record {
+      to_reader = rw (less, step, e, number) (ap (reader_after (Timings place left Empty taken)) (sym rest) ∙ fed.to_reader);
+      to_cells = rw (less, step, e, f, number) (ap (λ (x : List ℕ). cells_after (Timings place left Empty taken) x cells) (sym rest) ∙ fed.to_cells);
+    }

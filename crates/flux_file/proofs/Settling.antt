@@ -11,7 +11,7 @@ use Rattle.flux_file.specs.FluxFile.{refused_at_once, flux_answer_in}
 use Rattle.track_file.specs.Portions.{whole_of}
 use Rattle.flux_file.specs.Portions.{start_of, reader_after, reader_through, is_stopped, finish_answer, AtOnce}
 use Rattle.flux_reader.specs.declared.FluxReader.{FluxReader}
-use Rattle.flux_reader.specs.declared.FluxReader.TheVariants.{Stopped}
+use Rattle.flux_reader.specs.declared.FluxReader.TheVariants.{PlaceCount, Track, Side, CellCount, FluxCount, Timings, AllTimings, NotATrackFile, Stopped}
 use Rattle.flux_file.proofs.Endings.{reader-stays}
 use Rattle.flux_file.proofs.Portions.{reader-cut, reader-joined}
 use Rattle.flux_file.proofs.Whole.{whole-answer}
@@ -25,27 +25,29 @@ same_answer room file refusal is rest =
     let still : reader_after start (file ++ rest) ≡ reader_after start file = reader-cut start file rest ∙ ap (λ (s : FluxReader). reader_after s rest) is ∙ reader-stays refusal rest ∙ sym is in
     sym (whole-answer room (file ++ rest)) ∙ ap finish_answer still ∙ whole-answer room file
 
--- all that `stopped` promises
+differ : {X : Type 0} → false ≡ true → X
+differ t = let z : ◌≡◌ {A = ℕ} 0 1 = cc in let y : ⊥ = omega arith in absurd y
+
+-- whether the refusal is given is what the bytes so far say
 exactly-at-once : (reader : FluxReader) {answer : Bool} → answer ≡ is_stopped reader → (buffer : List ℕ) (portions : List (List ℕ)) → reader ≡ reader_through buffer portions
     → answer ≡ (ltb (length buffer) 16384 || refused_at_once (whole_of portions))
 exactly-at-once reader e buffer portions is =
     e ∙ ap is_stopped (is ∙ reader-joined (start_of (length buffer)) portions) ∙ from_start (length buffer) (whole_of portions)
 
-pub is-stopped : (reader : FluxReader) {refusal : Refusal} → reader ≡ Stopped refusal → (true ≡ is_stopped reader) × AtOnce reader true
+-- all that `stopped` promises
+settled-after : (reader : FluxReader) → is_stopped reader ≡ true → (buffer : List ℕ) (portions : List (List ℕ)) → reader ≡ reader_through buffer portions
+    → (rest : List ℕ) → flux_answer_in (length buffer) (whole_of portions ++ rest) ≡ flux_answer_in (length buffer) (whole_of portions)
 unfolding is_stopped
-is-stopped reader {refusal} e =
-    let yes = ap is_stopped (sym e) in (
-      yes,
-      record {
-        exactly = exactly-at-once reader yes;
-        settled = λ t buffer portions is rest.
-            same_answer (length buffer) (whole_of portions) refusal (sym (reader-joined (start_of (length buffer)) portions) ∙ sym is ∙ e) rest;
-      },
-    )
+settled-after (Stopped refusal) e buffer portions through rest =
+    same_answer (length buffer) (whole_of portions) refusal (sym (reader-joined (start_of (length buffer)) portions) ∙ sym through) rest
+settled-after (PlaceCount number) e buffer portions through rest = differ e
+settled-after Track e buffer portions through rest = differ e
+settled-after (Side track) e buffer portions through rest = differ e
+settled-after (CellCount place number) e buffer portions through rest = differ e
+settled-after (FluxCount place number) e buffer portions through rest = differ e
+settled-after (Timings place left number taken) e buffer portions through rest = differ e
+settled-after (AllTimings place taken) e buffer portions through rest = differ e
+settled-after NotATrackFile e buffer portions through rest = differ e
 
-pub not_stopped : (reader : FluxReader) → false ≡ is_stopped reader → (false ≡ is_stopped reader) × AtOnce reader false
-not_stopped reader is-not =
-    (is-not, record { exactly = exactly-at-once reader is-not; settled = λ t buffer portions is rest. absurd (differ t) })
-  where
-    differ : false ≡ true → ⊥
-    differ t = let z : ◌≡◌ {A = ℕ} 0 1 = cc in omega arith
+pub at_once : (reader : FluxReader) {answer : Bool} → answer ≡ is_stopped reader → AtOnce reader answer
+at_once reader is = record { exactly = exactly-at-once reader is; settled = λ t. settled-after reader (sym is ∙ t) }

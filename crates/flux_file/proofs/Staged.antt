@@ -1,6 +1,6 @@
 -- What the bytes of a file give, taken one by one, section after section. Assumes nothing.
 use Prim.Native.Nat.{ℕ, zero, suc, ◌+◌, ◌-◌, ◌*◌, ◌≤◌}
-use mathlib.Core.Path.{◌≡◌, refl, sym, ◌∙◌, ap, subst}
+use mathlib.Core.Path.{◌≡◌, refl, sym, ◌∙◌, ap}
 use mathlib.Core.Bool.{Bool, true, false, cond}
 use mathlib.Core.List.{List, [], ◌∷◌}
 use native.Mathlib.Omega.{arith}
@@ -10,7 +10,7 @@ use lib.Dec.{eqb, ltb}
 use lib.IntN.{pos}
 use lib.ListN.{length, drop}
 use Rattle.refusals.specs.RefusedCalls.{Answer, refused_with}
-use Rattle.refusals.specs.RefusedCalls.Answer.{gives, refused}
+use Rattle.refusals.specs.RefusedCalls.Answer.{refused}
 use Rattle.refusals.specs.declared.Refusal.{Refusal}
 use Rattle.refusals.specs.declared.Refusal.TheVariants.{TooManyTimings, NotATrackFile as NoTrackFile}
 use Rattle.separation.specs.Separation.{separation}
@@ -23,7 +23,8 @@ use Rattle.flux_reader.specs.Bytes.{after_cell_count, after_flux_count, after_ti
 use Rattle.flux_file.specs.Portions.{reader_after, finish_answer}
 use Rattle.file_reader.specs.declared.Place.{Place}
 use Rattle.file_reader.specs.declared.Number.TheVariants.{Empty}
-use Rattle.taken_timings.specs.declared.TakenTimings.{TakenTimings}
+use Rattle.std.specs.Prelude.{Result}
+use Rattle.taken_timings.specs.declared.Taken.{Taken}
 use Rattle.flux_reader.specs.declared.FluxReader.{FluxReader}
 use Rattle.flux_reader.specs.declared.FluxReader.TheVariants.{CellCount, FluxCount, Timings, AllTimings, NotATrackFile, Stopped}
 use Rattle.flux_reader.proofs.Sections.{more-timings, last-timing}
@@ -72,12 +73,12 @@ module _ (place : Place) where
   at_place answer = placed place.track place.side (some_cells answer)
 
   -- one timing more, of two at least
-  pub next-timing : (k : ℕ) (taken : TakenTimings) → after_timing place (suc (suc k)) taken ≡ Timings place (suc k) Empty taken
+  pub next-timing : (k : ℕ) (taken : Result Taken ℕ) → after_timing place (suc (suc k)) taken ≡ Timings place (suc k) Empty taken
   next-timing k taken =
       let l : suc (suc k) - 1 ≡ suc k = omega arith in
       sym (more-timings place (suc (suc k)) taken (omega arith)) ∙ ap (λ (n : ℕ). Timings place n Empty taken) l
 
-  pub timings-whole : (k : ℕ) (taken : TakenTimings) (ys : List ℕ) → length ys ≡ 4 * suc k
+  pub timings-whole : (k : ℕ) (taken : Result Taken ℕ) (ys : List ℕ) → length ys ≡ 4 * suc k
       → reader_after (Timings place (suc k) Empty taken) ys ≡ AllTimings place (taken_over taken (numbers (suc k) ys))
   unfolding reader_after reader_after_byte number_after in_timing numbers
   timings-whole k taken [] e = let z : ⊥ = omega arith in absurd z
@@ -91,7 +92,7 @@ module _ (place : Place) where
       ∙ timings-whole k (taken_after taken (four_bytes a b c d)) ys (omega arith)
 
   -- too few bytes, or too many
-  pub timings-not-whole : (k : ℕ) (taken : TakenTimings) (ys : List ℕ) → (length ys ≡ 4 * suc k → ⊥) → ends (Timings place (suc k) Empty taken) ys ≡ short
+  pub timings-not-whole : (k : ℕ) (taken : Result Taken ℕ) (ys : List ℕ) → (length ys ≡ 4 * suc k → ⊥) → ends (Timings place (suc k) Empty taken) ys ≡ short
   unfolding reader_after reader_after_byte number_after in_timing finish_answer
   timings-not-whole k taken [] f = refl
   timings-not-whole k taken (a ∷ []) f = refl

@@ -12,7 +12,8 @@ use Rattle.basis.specs.Bytes.{four_bytes, number}
 use Rattle.refusals.specs.declared.Refusal.{Refusal}
 use Rattle.refusals.specs.declared.Refusal.TheVariants.{TooManyTimings, NoRoom, NotATrackFile as NoTrackFile}
 use Rattle.taken_timings.specs.Timings.{taken_after}
-use Rattle.taken_timings.specs.declared.TakenTimings.{TakenTimings}
+use Rattle.std.specs.Prelude.{Result}
+use Rattle.taken_timings.specs.declared.Taken.{Taken}
 use Rattle.taken_timings.proofs.Taking.{took_with}
 use Rattle.file_reader.specs.Bytes.{number_after}
 use Rattle.file_reader.specs.declared.Place.{Place}
@@ -54,13 +55,13 @@ no-cell-count cs h =
     rw (lt-leb 4 (length cs) h, lt-leb 4 (length (drop 4 cs)) k)
 
 module _ (place : Place) where
-  stops-all-timings : (taken : TakenTimings) (bytes : List ℕ) → stops (AllTimings place taken) bytes ≡ false
+  stops-all-timings : (taken : Result Taken ℕ) (bytes : List ℕ) → stops (AllTimings place taken) bytes ≡ false
   unfolding is_stopped reader_after reader_after_byte
   stops-all-timings taken [] = refl
   stops-all-timings taken (byte ∷ bytes) = stops-no-file bytes
 
   -- among the timings no refusal is given at once
-  stops-timings : (left : ℕ) (n : Number) (taken : TakenTimings) (bytes : List ℕ) → stops (Timings place left n taken) bytes ≡ false
+  stops-timings : (left : ℕ) (n : Number) (taken : Result Taken ℕ) (bytes : List ℕ) → stops (Timings place left n taken) bytes ≡ false
   unfolding is_stopped reader_after reader_after_byte number_after in_timing after_timing
   stops-timings left n taken [] = refl
   stops-timings left Empty taken (byte ∷ bytes) = stops-timings left (One byte) taken bytes
@@ -69,7 +70,7 @@ module _ (place : Place) where
   stops-timings left (Three a b c) taken (byte ∷ bytes) =
       go (ltb 1 left) (taken_after taken (four_bytes a b c byte)) (stops-timings (left - 1) Empty (taken_after taken (four_bytes a b c byte)) bytes)
     where
-      go : (x : Bool) (after : TakenTimings) → stops (Timings place (left - 1) Empty after) bytes ≡ false
+      go : (x : Bool) (after : Result Taken ℕ) → stops (Timings place (left - 1) Empty after) bytes ≡ false
           → stops (cond x (Timings place (left - 1) Empty after) (AllTimings place after)) bytes ≡ false
       go true after e = e
       go false after e = stops-all-timings after bytes

@@ -2,18 +2,17 @@
 // cells that the separator makes of its timings go to a buffer that the caller lends to each call.
 #![tactic(auto)]
 
-ghost use Rattle.std.specs.Prelude.{◌≡◌, ◌≤◌, length, drop};
-ghost use Rattle.refusals.specs.RefusedCalls.{answer_of};
+ghost use Rattle.std.specs.Prelude.{◌≡◌, ◌≤◌, length};
 ghost use Rattle.track_file.specs.Portions.{start_cells, read_answer};
-ghost use Rattle.flux_file.specs.FluxFile.{some_cells, placed};
 ghost use Rattle.flux_file.specs.Portions.{start_of, reader_after, cells_after, is_stopped, AtOnce, finish_answer, WholeFluxFile};
 
-use file_reader::{Number, Place};
+use file_reader::Number;
 use flux_reader::FluxReader;
 use refusals::Refusal;
 use track_file::FileCells;
 
 // The beginning, before any byte: the cell buffer is cleared, or refused where it has too little room (rule 18.8).
+#[tactic(auto, unfolding(crate::specs::Portions::start_of, track_file::specs::Portions::start_cells), using(track_file::proofs::Endings::cleared_whole))]
 pub fn start(cells: &mut [u8]) -> FluxReader
     ensures reader { result ≡ start_of (length cells.old) }
     ensures buffer { cells.new ≡ start_cells cells.old }
@@ -32,17 +31,18 @@ pub fn feed(reader: FluxReader, portion: &[u8], cells: &mut [u8]) -> FluxReader
     ensures buffer { cells.new ≡ cells_after reader portion.now cells.old }
 {
     let mut at = reader;
-    let mut i: usize = 0;
-    while i < portion.len() {
-        at = flux_reader::feed_byte(at, portion[i], cells);
-        let fed = feed_timings(at, portion, i + 1, cells);
+    let mut rest = portion;
+    while let Some((byte, behind)) = rest.split_first() {
+        at = flux_reader::feed_byte(at, *byte, cells);
+        let fed = feed_timings(at, behind, cells);
         at = fed.reader;
-        i = fed.to;
+        rest = fed.rest;
     }
     at
 }
 
 // Whether a refusal is given at once, so that no more of the file need be read (rule 18.10).
+#[tactic(auto, unfolding(crate::specs::Portions::is_stopped), using(crate::proofs::Settling::at_once))]
 pub fn stopped(reader: FluxReader) -> bool
     ensures answer { result ≡ is_stopped reader }
     ensures file { AtOnce reader result }
@@ -54,82 +54,58 @@ pub fn stopped(reader: FluxReader) -> bool
 }
 
 // The end of the file: what it gives (rule 18.10). It writes nothing: the cells stand in the buffer that the portions were fed with.
+#[tactic(auto, unfolding(crate::specs::Portions::finish_answer, crate::specs::FluxFile::placed, crate::specs::FluxFile::some_cells), using(crate::proofs::Whole::whole_of_answer))]
 pub fn finish(reader: FluxReader) -> Result<FileCells, Refusal>
     ensures answer { read_answer result ≡ finish_answer reader }
     ensures file { WholeFluxFile reader (read_answer result) }
 {
-    given(reader)
-}
-
-// What the end of the file gives. A file that ends anywhere else is short.
-fn given(reader: FluxReader) -> Result<FileCells, Refusal>
-    ensures { read_answer result ≡ finish_answer reader }
-{
     match reader {
         FluxReader::AllTimings(place, taken) => {
-            given_cells(place, taken_timings::count_taken(taken))
+            let count = taken_timings::count_taken(taken)?;
+            // A track file without cells has no meaning.
+            if count == 0 {
+                return Err(Refusal::CellCount(0));
+            }
+            Ok(FileCells {
+                track: place.track,
+                side: place.side,
+                count,
+            })
         }
         FluxReader::Stopped(refusal) => Err(refusal),
+        // A file that ends anywhere else is short.
         _ => Err(Refusal::NotATrackFile),
     }
 }
 
-// What so many cells give. A track file without cells has no meaning, so none are refused.
-fn given_cells(place: Place, counted: Result<usize, Refusal>) -> Result<FileCells, Refusal>
-    ensures { read_answer result ≡ placed place.track place.side (some_cells (answer_of counted)) }
-{
-    let count = counted?;
-    if count == 0 {
-        return Err(Refusal::CellCount(0));
-    }
-    Ok(FileCells {
-        track: place.track,
-        side: place.side,
-        count,
-    })
-}
-
-// How far a portion is fed, and the reader there.
+// What is left of a portion, and the reader there.
 #[derive(Clone, Copy)]
-struct FedTo {
+struct Fed<'a> {
     reader: FluxReader,
-    to: usize,
+    rest: &'a [u8],
 }
 
-// Where a timing begins at byte `from` of a portion: as many as the portion has whole, without the file's last, after which the reader
-// stands elsewhere. Each is taken at once: a reader made anew for each of its bytes took most of the time.
-fn feed_timings(reader: FluxReader, portion: &[u8], from: usize, cells: &mut [u8]) -> FedTo
-    requires { from ≤ length portion.now }
-    ensures on { from ≤ result.to }
-    ensures within { result.to ≤ length portion.now }
-    ensures reader { reader_after result.reader (drop result.to portion.now) ≡ reader_after reader (drop from portion.now) }
-    ensures buffer { cells_after result.reader (drop result.to portion.now) cells.new ≡ cells_after reader (drop from portion.now) cells.old }
+// Where a timing begins at the front of a portion: as many as the portion has whole, without the file's last, after which the reader stands
+// elsewhere. Each is taken at once: a reader made anew for each of its bytes took most of the time.
+fn feed_timings<'a>(reader: FluxReader, portion: &'a [u8], cells: &mut [u8]) -> Fed<'a>
+    ensures rest { length result.rest.now ≤ length portion.now }
+    ensures reader { reader_after result.reader result.rest.now ≡ reader_after reader portion.now }
+    ensures buffer { cells_after result.reader result.rest.now cells.new ≡ cells_after reader portion.now cells.old }
 {
-    let FluxReader::Timings(place, count, number, timings) = reader else {
-        return FedTo { reader, to: from };
+    let FluxReader::Timings(place, left, Number::Empty, timings) = reader else {
+        return Fed {
+            reader,
+            rest: portion,
+        };
     };
-    let Number::Empty = number else {
-        return FedTo { reader, to: from };
-    };
+    let (whole, _) = portion.as_chunks::<4>();
+    let end = (left.saturating_sub(1) as usize).min(whole.len());
     let mut taken = timings;
-    let mut left = count;
-    let mut i = from;
-    while 4 <= portion.len() - i {
-        if left <= 1 {
-            break;
-        }
-        let timing = u32::from_le_bytes([
-            portion[i],
-            portion[i + 1],
-            portion[i + 2],
-            portion[i + 3],
-        ]);
-        taken = taken_timings::take_timing(taken, timing, cells);
-        left -= 1;
-        i += 4;
+    for timing in &whole[..end] {
+        taken = taken_timings::take_timing(taken, u32::from_le_bytes(*timing), cells);
     }
-    FedTo {
-        reader: FluxReader::Timings(place, left, Number::Empty, taken),
-        to: i,
+    Fed {
+        reader: FluxReader::Timings(place, left - end as u32, Number::Empty, taken),
+        rest: &portion[4 * end..],
     }
 }

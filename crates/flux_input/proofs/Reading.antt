@@ -1,5 +1,5 @@
 -- One read and many: what the reads of a loop lead to, from what each leads to. Assumes nothing.
-use Prim.Native.Nat.{ℕ, zero, suc, ◌+◌, ◌-◌, ◌<◌, ◌≤◌, min}
+use Prim.Native.Nat.{ℕ, zero, suc, ◌+◌, min}
 use mathlib.Core.Path.{◌≡◌, refl, sym, ◌∙◌, ap, subst}
 use mathlib.Core.Bool.{Bool, true, false, cond}
 use mathlib.Core.List.{List, [], ◌∷◌, ◌++◌}
@@ -104,14 +104,14 @@ portions-then read [] = refl
 portions-then read (earlier ∷ reads) =
     ap (λ (xs : List (List ℕ)). bytes_read earlier.got earlier.portion ∷ xs) (portions-then read reads)
 
--- in the loop: the reads so far, with the turns that are left
+-- in the loop: the reads so far, one in each turn
 pub record Reading (first : FluxReader) (before : List ℕ) (reader : FluxReader) (cells : List ℕ) (turns : ℕ) : Type 0 where
   pub reads : List OneRead
   pub leads : Leads (Open first) reads (Open reader)
   pub cells_are : cells ≡ cells_after_all first (portions_of reads) before
-  pub turns_are : turns + length reads ≡ 18446744073709551615
+  pub turns_are : length reads ≡ turns
 
-pub no_reads : (first : FluxReader) (before : List ℕ) → Reading first before first before 18446744073709551615
+pub no_reads : (first : FluxReader) (before : List ℕ) → Reading first before first before 0
 unfolding portions_of cells_after_all
 no_reads first before = record { reads = []; leads = none; cells_are = refl; turns_are = refl }
 
@@ -135,8 +135,8 @@ module _ {first : FluxReader} {before : List ℕ} {reader : FluxReader} {cells :
         ∙ ap (λ (xs : List (List ℕ)). cells_after_all first xs before) (sym (portions-then read reading.reads))
 
     -- the input goes on
-    pub one-read : 0 < turns → {at : FluxReader} → next ≡ Open at → Reading first before at after (turns - 1)
-    one-read h goes =
+    pub one-read : {at : FluxReader} → next ≡ Open at → Reading first before at after (turns + 1)
+    one-read goes =
         let n = length-append reading.reads (read ∷ []) in
         let m = reading.turns_are in
         record { reads = reads; leads = rw goes at leads-on; cells_are = cells-on; turns_are = omega arith }
@@ -152,7 +152,7 @@ module _ {first : FluxReader} {before : List ℕ} {reader : FluxReader} {cells :
     pub failed-read : next ≡ Failed → ReadThrough first before Failed after
     failed-read is = last-read is (λ at e. let z : ◌≡◌ {A = ℕ} 0 1 = cc in omega arith)
 
-  pub no-turns : turns ≡ 0 → ReadThrough first before (Open reader) cells
+  pub no-turns : turns ≡ 18446744073709551615 → ReadThrough first before (Open reader) cells
   no-turns e =
       let m = reading.turns_are in
       record { reads = reading.reads; all = record { leads = reading.leads; to_end = λ at same. omega arith }; cells_are = reading.cells_are }

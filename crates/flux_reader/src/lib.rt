@@ -2,7 +2,7 @@
 #![tactic(auto)]
 
 ghost use Rattle.std.specs.Prelude.{◌≡◌};
-ghost use Rattle.flux_reader.specs.Bytes.{after_place_count, after_cell_count, after_flux_count, after_timing, in_place_count, in_cell_count, in_flux_count, in_timing, in_timing_cells, reader_after_byte, cells_after_byte};
+ghost use Rattle.flux_reader.specs.Bytes.{after_place_count, after_cell_count, after_flux_count, after_timing, reader_after_byte, cells_after_byte};
 
 use file_reader::{Extended, Number, Place};
 use refusals::Refusal;
@@ -29,28 +29,36 @@ pub enum FluxReader {
 const MOST_TIMINGS: u32 = 65_536;
 
 // A byte more of the file.
+#[tactic(auto, unfolding(crate::specs::Bytes::reader_after_byte, crate::specs::Bytes::cells_after_byte, crate::specs::Bytes::in_place_count, crate::specs::Bytes::in_cell_count, crate::specs::Bytes::in_flux_count, crate::specs::Bytes::in_timing, crate::specs::Bytes::in_timing_cells))]
 pub fn feed_byte(reader: FluxReader, byte: u8, cells: &mut [u8]) -> FluxReader
     ensures reader { result ≡ reader_after_byte reader byte }
     ensures buffer { cells.new ≡ cells_after_byte reader byte cells.old }
 {
     match reader {
-        FluxReader::PlaceCount(number) => in_place_count(file_reader::extend(number, byte)),
+        FluxReader::PlaceCount(number) => match file_reader::extend(number, byte) {
+            Extended::Part(part) => FluxReader::PlaceCount(part),
+            Extended::Whole(count) => after_place_count(count),
+        },
         FluxReader::Track => FluxReader::Side(byte),
-        FluxReader::Side(track) => FluxReader::CellCount(
-            Place {
-                track: track,
-                side: byte,
-            },
-            Number::Empty,
-        ),
-        FluxReader::CellCount(place, number) => {
-            in_cell_count(place, file_reader::extend(number, byte))
+        FluxReader::Side(track) => {
+            FluxReader::CellCount(Place { track, side: byte }, Number::Empty)
         }
-        FluxReader::FluxCount(place, number) => {
-            in_flux_count(place, file_reader::extend(number, byte))
-        }
+        FluxReader::CellCount(place, number) => match file_reader::extend(number, byte) {
+            Extended::Part(part) => FluxReader::CellCount(place, part),
+            Extended::Whole(count) => after_cell_count(place, count),
+        },
+        FluxReader::FluxCount(place, number) => match file_reader::extend(number, byte) {
+            Extended::Part(part) => FluxReader::FluxCount(place, part),
+            Extended::Whole(count) => after_flux_count(place, count),
+        },
         FluxReader::Timings(place, left, number, taken) => {
-            in_timing(place, left, taken, file_reader::extend(number, byte), cells)
+            match file_reader::extend(number, byte) {
+                Extended::Part(part) => FluxReader::Timings(place, left, part, taken),
+                Extended::Whole(timing) => {
+                    let next = taken_timings::take_timing(taken, timing, cells);
+                    after_timing(place, left, next)
+                }
+            }
         }
         FluxReader::AllTimings(_, _) => FluxReader::NotATrackFile,
         FluxReader::NotATrackFile => FluxReader::NotATrackFile,
@@ -58,54 +66,8 @@ pub fn feed_byte(reader: FluxReader, byte: u8, cells: &mut [u8]) -> FluxReader
     }
 }
 
-// The reader after a byte of each count, and after a byte of a timing.
-fn in_place_count(extended: Extended) -> FluxReader
-    ensures { result ≡ in_place_count extended }
-{
-    match extended {
-        Extended::Part(part) => FluxReader::PlaceCount(part),
-        Extended::Whole(count) => after_place_count(count),
-    }
-}
-
-fn in_cell_count(place: Place, extended: Extended) -> FluxReader
-    ensures { result ≡ in_cell_count place extended }
-{
-    match extended {
-        Extended::Part(part) => FluxReader::CellCount(place, part),
-        Extended::Whole(count) => after_cell_count(place, count),
-    }
-}
-
-fn in_flux_count(place: Place, extended: Extended) -> FluxReader
-    ensures { result ≡ in_flux_count place extended }
-{
-    match extended {
-        Extended::Part(part) => FluxReader::FluxCount(place, part),
-        Extended::Whole(count) => after_flux_count(place, count),
-    }
-}
-
-fn in_timing(
-    place: Place,
-    left: u32,
-    taken: Result<Taken, usize>,
-    extended: Extended,
-    cells: &mut [u8],
-) -> FluxReader
-    ensures reader { result ≡ in_timing place left taken extended }
-    ensures buffer { cells.new ≡ in_timing_cells taken extended cells.old }
-{
-    match extended {
-        Extended::Part(part) => FluxReader::Timings(place, left, part, taken),
-        Extended::Whole(timing) => {
-            let next = taken_timings::take_timing(taken, timing, cells);
-            after_timing(place, left, next)
-        }
-    }
-}
-
 // After the place count, which has to be 2.
+#[tactic(auto, unfolding(crate::specs::Bytes::after_place_count))]
 fn after_place_count(count: u32) -> FluxReader
     ensures { result ≡ after_place_count count }
 {
@@ -117,6 +79,7 @@ fn after_place_count(count: u32) -> FluxReader
 }
 
 // After the cell count, which has to be 0: a file with cells needs no conversion.
+#[tactic(auto, unfolding(crate::specs::Bytes::after_cell_count))]
 fn after_cell_count(place: Place, count: u32) -> FluxReader
     ensures { result ≡ after_cell_count place count }
 {
@@ -128,6 +91,7 @@ fn after_cell_count(place: Place, count: u32) -> FluxReader
 }
 
 // After the flux count.
+#[tactic(auto, unfolding(crate::specs::Bytes::after_flux_count))]
 fn after_flux_count(place: Place, timings: u32) -> FluxReader
     ensures { result ≡ after_flux_count place timings }
 {
@@ -141,6 +105,7 @@ fn after_flux_count(place: Place, timings: u32) -> FluxReader
 }
 
 // After a timing, with the timings taken, where `left` were to come with it.
+#[tactic(auto, unfolding(crate::specs::Bytes::after_timing))]
 fn after_timing(place: Place, left: u32, taken: Result<Taken, usize>) -> FluxReader
     ensures { result ≡ after_timing place left taken }
 {

@@ -2,6 +2,7 @@
 use Prim.Native.Nat.{ℕ, ◌+◌, ◌≤◌, ◌<◌}
 use mathlib.Core.Path.{◌≡◌, refl, sym, ◌∙◌, ap, subst}
 use mathlib.Core.List.{List, [], ◌++◌}
+use mathlib.Core.Logic.{◌⊎◌, inl, inr}
 use native.Mathlib.Omega.{arith}
 use borrow.Author.Tests.{le-ltb}
 use lib.ListN.{length, take, drop, length-append}
@@ -95,13 +96,10 @@ module _ (buffer : List ℕ) (long : length buffer ≡ 16384) {first : FluxReade
   nothing : (out : List ℕ) → AtFront [] 0 out
   nothing out = record { within = omega arith; count_is = refl; front_is = refl }
 
-  pub still_open : (out : List ℕ) {reader : FluxReader} → input ≡ Open reader → ConvertedInput 0 out
+  pub not_ended : (out : List ℕ) → ((reader : FluxReader) × (input ≡ Open reader)) ⊎ (input ≡ Failed) → ConvertedInput 0 out
   unfolding output_of_input
-  still_open out e = converted [] (rw e) (nothing out)
-
-  pub read-failed : (out : List ℕ) → input ≡ Failed → ConvertedInput 0 out
-  unfolding output_of_input
-  read-failed out e = converted [] (rw e) (nothing out)
+  not_ended out (inl (reader, e)) = converted [] (rw e) (nothing out)
+  not_ended out (inr e) = converted [] (rw e) (nothing out)
 
   module _ (before : List ℕ) (room : length before ≡ 65536) {reader : FluxReader} (ended : input ≡ Ended reader) (answer : Result ℕ Refusal) {made : List ℕ}
       (whole : WholeConversion reader cells (answer_of answer) before made) where
@@ -118,7 +116,7 @@ module _ (buffer : List ℕ) (long : length buffer ≡ 16384) {first : FluxReade
     unfolding output_of_input
     of-file = rw ended
 
-    pub has-file : {n : ℕ} → answer ≡ Count n → length made ≡ 65536 → ConvertedInput n made
+    pub has-file : {n : ℕ} → answer ≡ Ok n → length made ≡ 65536 → ConvertedInput n made
     unfolding buffer_after
     has-file {n} e same =
         let given = rw e at told in
@@ -133,7 +131,7 @@ module _ (buffer : List ℕ) (long : length buffer ≡ 16384) {first : FluxReade
               ∙ take_at (new_file file) (drop (length (new_file file)) before) (length (new_file file)) refl;
         }
 
-    pub is-refused : {refusal : Refusal} {number n : ℕ} {out : List ℕ} → answer ≡ Refused refusal → number ≡ number_of refusal → number < 0x1_0000_0000
+    pub is-refused : {refusal : Refusal} {number n : ℕ} {out : List ℕ} → answer ≡ Err refusal → number ≡ number_of refusal → number < 0x1_0000_0000
         → (n ≡ length (refused_line number)) × (out ≡ out_after (refused_line number) made) → length made ≡ 65536 → length out ≡ length made → ConvertedInput n out
     is-refused {refusal} {number} {n} {out} e is fits line same after =
         let given = rw e at told in

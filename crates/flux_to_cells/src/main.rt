@@ -4,39 +4,38 @@
 // read to its end, nothing is known of the file: it says so on standard error, and writes no file.
 #![tactic(auto)]
 
-ghost use Rattle.std.specs.Prelude.{◌≡◌, length};
+ghost use Rattle.system_calls.specs.Counts.{written_count};
 ghost use Rattle.flux_to_cells.specs.OutputOfInput.{ConvertedInput};
 
 use flux_input::Input;
-use refusals::Refusal;
 use std::io::Read;
 
-// Reads the input, by way of `buffer`, and then puts what is to be written at the front of `buffer`; the answer is the number of its bytes. It
-// is 0 where the input cannot be read to its end: there is nothing to write then.
-fn convert_input<R: Read>(from: &mut R, cells: &mut [u8], buffer: &mut [u8]) -> usize
-    requires { (length cells.old ≡ 16384) × (length buffer.old ≡ 65536) }
-    ensures { ConvertedInput result buffer.new }
+// Reads the input, by way of `buffer`, and then puts what is to be written at the front of `buffer`; the answer is the number of its bytes.
+// There is none where the input cannot be read to its end: there is nothing to write then.
+fn convert_input<R: Read>(
+    from: &mut R,
+    cells: &mut [u8; track_file::ROOM],
+    buffer: &mut [u8; 65536],
+) -> Option<usize>
+    ensures { ConvertedInput (written_count result) buffer.new }
 {
     let start = flux_file::start(cells);
-    let input = flux_input::read_all(from, start, buffer, cells);
-    match input {
+    match flux_input::read_all(from, start, buffer, cells) {
         Input::Ended(reader) => match flux_conversion::convert(reader, cells, buffer) {
-            Ok(count) => count,
-            Err(refusal) => lines::refused_line(buffer, refusal.number()),
+            Ok(count) => Some(count),
+            Err(refusal) => Some(lines::refused_line(buffer, refusal.number())),
         },
-        Input::Open(_) | Input::Failed => 0,
+        Input::Open(_) | Input::Failed => None,
     }
 }
 
 fn main(rt: HostRuntime) {
     let mut cells = [0u8; track_file::ROOM];
     let mut buffer = system_calls::large_buffer();
-    let count = convert_input(&mut rt.stdin(), &mut cells, &mut buffer);
-    if count == 0 {
-        let _ = rt
+    let _ = match convert_input(&mut rt.stdin(), &mut cells, &mut buffer) {
+        Some(count) => rt.stdout().write_all(&buffer[..count]),
+        None => rt
             .stderr()
-            .write_all(b"flux_to_cells: the input cannot be read to its end\n");
-        return;
-    }
-    let _ = rt.stdout().write_all(&buffer[..count]);
+            .write_all(b"flux_to_cells: the input cannot be read to its end\n"),
+    };
 }

@@ -1,22 +1,22 @@
 -- Laws of the counts: a loop that counts one timing a turn makes them, and they add up to the number of timings (`counts-sum`).
 -- Assumes nothing.
 use Prim.Native.Nat.{ℕ, zero, suc, ◌+◌, ◌≤◌, ◌<◌}
-use mathlib.Core.Path.{◌≡◌, refl, sym, ◌∙◌}
+use mathlib.Core.Path.{◌≡◌, refl, sym}
 use mathlib.Core.Bool.{Bool, true, false, cond}
 use mathlib.Core.List.{List, [], ◌∷◌, ◌++◌}
 use native.Mathlib.Nat.{zero-add}
 use native.Mathlib.Numerals.{add-one}
 use native.Mathlib.Decide.{ℕ_discrete}
 use native.Mathlib.Omega.{arith}
-use borrow.Author.Tests.{eq-eqb, ne_eqb, lt-ltb, le-ltb}
+use borrow.Author.Tests.{eq-eqb, ne_eqb}
 use lib.Dec.{eqb}
 use lib.ListN.{length, get_or, set, drop, replicate, get_or-replicate, drop_of_length-le}
 use lib.Seq.{drop-cons, get_or-set_same, get_or-set_other}
 use Rattle.basis.specs.Lists.{listed}
 use Rattle.basis.proofs.Lists.{is-listed}
-use Rattle.refusals.specs.RefusedCalls.{Answer}
 use Rattle.refusals.specs.RefusedCalls.Answer.{gives, refused}
-use Rattle.flux_timings.specs.Timings.{first_out, timings_judged}
+use Rattle.flux_timings.specs.Timings.{timings_judged}
+use Rattle.flux_timings.proofs.Judging.{judged_refused, judged_good}
 use Rattle.histogram.specs.Histogram.{bin_of, count_of, counts_of, sum_of, counting, counts_after, sum_after}
 
 bin-lt : (t : ℕ) → bin_of t < 256
@@ -126,31 +126,22 @@ counts-sum [] = sum-none (count_of []) (λ i. refl) 256
 counts-sum (t ∷ ts) =
     omega (arith, sum_both (adds (bin_of t)) (count_of ts) (count_of (t ∷ ts)) (λ i. refl) 256, sum-adds (bin_of t) 256 (bin-lt t), counts-sum ts)
 
--- what the call promises of its answer and of its counts
-abbrev pub Promised : Answer ℕ → List ℕ → List ℕ → Type 0
-Promised answer counts ts = (answer ≡ counting ts) × ((counts ≡ counts_after (counting ts) ts) × (sum_of counts ≡ sum_after (counting ts) ts))
+-- the counts of a call, and their sum, by its judgement of the timings
+module _ (ts : List ℕ) where
+  module _ {number value : ℕ} (bad : refused number value ≡ timings_judged ts (gives (tt {0}))) where
+    pub refused_counts : replicate 256 0 ≡ counts_after (counting ts) ts
+    unfolding counts_after
+    refused_counts = rw (← (judged_refused ts (gives (length ts)) bad))
 
-module _ (ts : List ℕ) (answer : Answer ℕ) (counts : List ℕ) where
-  refuses : (number value : ℕ) → counting ts ≡ refused number value → answer ≡ refused number value → counts ≡ replicate 256 0 → Promised answer counts ts
-  unfolding counts_after sum_after
-  refuses number value j e z = (e ∙ sym j, (rw (j, z), rw (j, z) (sum_zeros 256)))
+    pub refused_sum : sum_of (replicate 256 0) ≡ sum_after (counting ts) ts
+    unfolding sum_after
+    refused_sum = rw (← (judged_refused ts (gives (length ts)) bad)) (sum_zeros 256)
 
-  pub refuses-none : length ts ≡ 0 → answer ≡ refused 6 0 → counts ≡ replicate 256 0 → Promised answer counts ts
-  unfolding timings_judged
-  refuses-none h = refuses 6 0 (rw (eq-eqb (length ts) 0 h))
+  module _ (good : gives (tt {0}) ≡ timings_judged ts (gives (tt {0}))) {counts : List ℕ} (made : counts ≡ counts_of ts) where
+    pub given_counts : counts ≡ counts_after (counting ts) ts
+    unfolding counts_after
+    given_counts = rw (← (judged_good ts (gives (length ts)) good)) made
 
-  module _ (some : length ts ≡ 0 → ⊥) where
-    pub refuses-too-many : 65536 < length ts → answer ≡ refused 7 (length ts) → counts ≡ replicate 256 0 → Promised answer counts ts
-    unfolding timings_judged
-    refuses-too-many h = refuses 7 (length ts) (rw (ne_eqb (length ts) 0 some, lt-ltb 65536 (length ts) h))
-
-    module _ (few : length ts ≤ 65536) where
-      pub refuses-out : first_out ts < length ts → answer ≡ refused 8 (first_out ts) → counts ≡ replicate 256 0 → Promised answer counts ts
-      unfolding timings_judged
-      refuses-out h = refuses 8 (first_out ts) (rw (ne_eqb (length ts) 0 some, le-ltb 65536 (length ts) few, lt-ltb (first_out ts) (length ts) h))
-
-      pub accepts : length ts ≤ first_out ts → answer ≡ gives (length ts) → counts ≡ counts_of ts → Promised answer counts ts
-      unfolding timings_judged counts_after sum_after
-      accepts h e z =
-          let j : counting ts ≡ gives (length ts) = rw (ne_eqb (length ts) 0 some, le-ltb 65536 (length ts) few, le-ltb (first_out ts) (length ts) h) in
-          (e ∙ sym j, (rw (j, z), rw (j, z) (counts-sum ts)))
+    pub given_sum : sum_of counts ≡ sum_after (counting ts) ts
+    unfolding sum_after
+    given_sum = rw (← (judged_good ts (gives (length ts)) good), made) (counts-sum ts)

@@ -37,6 +37,7 @@ fn counts_of(timings: &[u32]) -> [u32; 256]
 }
 
 // Histogram: how many timings are 0 to 99 ns, 100 to 199 ns, and so on; the last count is of all from 25,500 ns up.
+#[tactic(auto, using(flux_timings::proofs::Judging::judged_refused, flux_timings::proofs::Judging::judged_good, flux_timings::proofs::Judging::judged_few, crate::proofs::Counts::refused_counts, crate::proofs::Counts::refused_sum, crate::proofs::Counts::given_counts, crate::proofs::Counts::given_sum))]
 pub fn histogram_of(timings: &[u32]) -> Result<Histogram, Refusal>
     ensures answer { answer_by (λ h. h.timings) result ≡ counting timings.now }
     ensures counts { counts_given result ≡ counts_after (counting timings.now) timings.now }

@@ -15,38 +15,20 @@ use Rattle.revolution_portions.specs.Portions.Calls.{none as no_call, more as on
 use Rattle.basis.specs.Bytes.{AreBytes}
 use Rattle.reader_as_number.specs.Numbers.{held_number, held_from, number_of_parts, number_of_reader, reader_of_number, NumberCalls, AllByNumber}
 use Rattle.reader_as_number.specs.Numbers.NumberCalls.{none, more}
-use Rattle.revolution_values.specs.declared.Held.{Held}
-use Rattle.revolution_values.specs.declared.Held.TheVariants.{Nothing, High}
+use Rattle.std.specs.Prelude.{Option, Some, None}
 use Rattle.revolution_portions.specs.declared.RevolutionReader.{RevolutionReader}
 use Rattle.revolution_values.specs.declared.Unfinished.{Unfinished}
 use Rattle.revolution_portions.proofs.Judging.{usable-few, is-left}
 use Rattle.revolution_portions.proofs.History.{as-it-is, behind-calls}
 
--- each branch of the code
-pub none-held : (n : ℕ) → n ≡ 0 → Nothing ≡ held_from n
-none-held n e = rw (eq-eqb n 0 e)
-
-pub one-held : (n : ℕ) → (n ≡ 0 → ⊥) → High (n - 1) ≡ held_from n
-one-held n e = rw (ne_eqb n 0 e)
-
-pub parts_from : (n : ℕ) {held : Held} → held ≡ held_from (n % 257)
-    → record { unfinished = record { held = held; zeros = n / 257 % 8 }; timings = n / 257 / 8 } ≡ reader_of_number n
-unfolding reader_of_number
-parts_from n e = rw e
-
-pub parts-number : (reader : RevolutionReader) {used : RevolutionReader} → used ≡ usable_reader reader → {held : ℕ} → held ≡ held_number used.unfinished.held
-    → held + 257 * (used.unfinished.zeros + 8 * used.timings) ≡ number_of_reader reader
-unfolding number_of_reader
-parts-number reader {used} u h = ap (λ (n : ℕ). n + 257 * (used.unfinished.zeros + 8 * used.timings)) h ∙ ap number_of_parts u
-
 -- what is held is a byte
-abbrev pub HeldByte : Held → Type 0
-HeldByte Nothing = Unit
-HeldByte (High high) = high < 256
+abbrev pub HeldByte : Option ℕ → Type 0
+HeldByte None = Unit
+HeldByte (Some high) = high < 256
 
-held_back : (held : Held) → HeldByte held → (held_from (held_number held) ≡ held) × (held_number held < 257)
-held_back Nothing h = (refl, omega arith)
-held_back (High high) h =
+held_back : (held : Option ℕ) → HeldByte held → (held_from (held_number held) ≡ held) × (held_number held < 257)
+held_back None h = (refl, omega arith)
+held_back (Some high) h =
     let e : high + 1 - 1 ≡ high = omega arith in
     (rw (ne_eqb (high + 1) 0 (λ z. omega (arith, z)), e), omega arith)
 
@@ -84,9 +66,9 @@ unfolding unfinished_after unfinished_after_value
 held_after u [] h b = h
 held_after u (byte ∷ bytes) h b = held_after (unfinished_after_byte u.held u.zeros byte) bytes (one u.held) b.1
   where
-    one : (held : Held) → HeldByte (unfinished_after_byte held u.zeros byte).held
-    one Nothing = b.0
-    one (High high) = tt
+    one : (held : Option ℕ) → HeldByte (unfinished_after_byte held u.zeros byte).held
+    one None = b.0
+    one (Some high) = tt
 
 -- the reader that calls leave is used as it is
 left-as-is : {reader : RevolutionReader} {bytes given : List ℕ} → Calls reader bytes given → usable_reader reader ≡ reader

@@ -8,6 +8,7 @@ use revolution_portions::RevolutionReader;
 use revolution_values::Unfinished;
 
 // The number of a reader; that of one which no call leaves is a fresh reader's.
+#[tactic(auto, unfolding(crate::specs::Numbers::number_of_reader))]
 pub fn number_of_reader(reader: RevolutionReader) -> u32
     ensures { result ≡ number_of_reader reader }
 {
@@ -16,6 +17,7 @@ pub fn number_of_reader(reader: RevolutionReader) -> u32
 }
 
 // The reader of a number.
+#[tactic(auto, unfolding(crate::specs::Numbers::reader_of_number))]
 pub fn reader_of_number(number: u32) -> RevolutionReader
     ensures { result ≡ reader_of_number number }
 {

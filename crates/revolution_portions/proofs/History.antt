@@ -79,11 +79,15 @@ unfolding unfinished_after timings_ending first_out
 behind-calls none = record { few_zeros = omega arith; few_timings = omega arith; unfinished_is = refl; given_is = refl; all_in = refl }
 behind-calls (more portion room count calls answer) = then-behind (behind-calls calls) portion room count answer
 
--- all that a call promises, from what it answers and leaves
-abbrev pub Promised : (reader : RevolutionReader) (portion list : List ℕ) → Answer ℕ → RevolutionReader → List ℕ → Type 0
-Promised reader portion list answer next after =
-    (answer ≡ portion_answer reader portion (length list))
-    × ((next ≡ portion_reader reader portion (length list)) × ((after ≡ portion_list reader portion list) × AllTimings reader portion answer after))
+-- all that a call promises, from what it gave and what it left
+abbrev pub Promised : (reader : RevolutionReader) (portion before : List ℕ) → Answer ℕ → RevolutionReader → List ℕ → Type 0
+Promised reader portion before gave next after =
+    record {
+      answer : gave ≡ portion_answer reader portion (length before);
+      state : next ≡ portion_reader reader portion (length before);
+      list : after ≡ portion_list reader portion before;
+      all : AllTimings reader portion gave after;
+    }
 
 module _ (reader : RevolutionReader) (portion list : List ℕ) {answer : Answer ℕ} (is : answer ≡ portion_answer reader portion (length list)) {next : RevolutionReader} {after : List ℕ}
     (left : next ≡ reader_left answer reader portion) (kept : after ≡ buffer_after answer (portion_timings reader portion) list) where
@@ -100,13 +104,13 @@ module _ (reader : RevolutionReader) (portion list : List ℕ) {answer : Answer 
       }
 
   pub promised : Promised reader portion list answer next after
-  promised = (
-    is,
-    (
-      left ∙ ap (λ (a : Answer ℕ). reader_left a reader portion) is,
-      (kept ∙ ap (λ (a : Answer ℕ). buffer_after a (portion_timings reader portion) list) is, all),
-    ),
-  )
+  promised =
+      record {
+        answer = is;
+        state = left ∙ ap (λ (a : Answer ℕ). reader_left a reader portion) is;
+        list = kept ∙ ap (λ (a : Answer ℕ). buffer_after a (portion_timings reader portion) list) is;
+        all = all;
+      }
 
 -- a refused call, and an accepted one
 pub promised-refused : (reader : RevolutionReader) (portion list : List ℕ) {number value : ℕ} → refused number value ≡ portion_answer reader portion (length list)

@@ -25,8 +25,7 @@ use Rattle.revolution_values.specs.Values.{unfinished_after_value, timings_of_va
 use Rattle.revolution_portions.specs.Timings.{timings_in}
 use Rattle.revolution_portions.specs.Portions.{is_left_by_calls, usable_reader, portion_timings, portion_answer, reader_left, portion_reader, Calls}
 use Rattle.revolution_portions.specs.Portions.Calls.{none, more}
-use Rattle.revolution_values.specs.declared.Held.{Held}
-use Rattle.revolution_values.specs.declared.Held.TheVariants.{Nothing, High}
+use Rattle.std.specs.Prelude.{Option, Some, None}
 use Rattle.revolution_portions.specs.declared.RevolutionReader.{RevolutionReader}
 use Rattle.revolution_values.specs.declared.Unfinished.{Unfinished}
 use Rattle.revolution_portions.proofs.History.{behind-calls}
@@ -89,10 +88,10 @@ after-zeros (suc z) n a b =
     rw (← e, ← add-zero n) (one_more (between z) n (omega arith) (0 ∷ 0 ∷ []) (omega arith) (omega arith) (after-zeros z n (omega arith) b))
 
 -- and then the byte that is held
-after-held : (held : Held) (z n : ℕ) → z ≤ 7 → n ≤ 65536 → LeftByCalls (record { unfinished = record { held = held; zeros = z }; timings = n })
+after-held : (held : Option ℕ) (z n : ℕ) → z ≤ 7 → n ≤ 65536 → LeftByCalls (record { unfinished = record { held = held; zeros = z }; timings = n })
 unfolding unfinished_after timings_ending first_out
-after-held Nothing z n a b = after-zeros z n a b
-after-held (High byte) z n a b = rw (← add-zero n) (one_more (between z) n a (byte ∷ []) (omega arith) (omega arith) (after-zeros z n a b))
+after-held None z n a b = after-zeros z n a b
+after-held (Some byte) z n a b = rw (← add-zero n) (one_more (between z) n a (byte ∷ []) (omega arith) (omega arith) (after-zeros z n a b))
 
 -- each state of which `is_left_by_calls` is true is left by calls
 pub left-by-calls : (reader : RevolutionReader) → is_left_by_calls reader ≡ true → LeftByCalls reader

@@ -14,8 +14,7 @@ use Rattle.flux_timings.specs.Timings.{in_range}
 use Rattle.flux_timings.specs.Timings.{first_out}
 use Rattle.revolution_values.specs.Values.{unfinished_after_value, unfinished_after_byte, timings_of_value, timings_of_byte, unfinished_after, timings_ending, between}
 use Rattle.revolution_portions.specs.Timings.{values_of, timings_from, timings_in}
-use Rattle.revolution_values.specs.declared.Held.{Held}
-use Rattle.revolution_values.specs.declared.Held.TheVariants.{Nothing, High}
+use Rattle.std.specs.Prelude.{Option, Some, None}
 use Rattle.revolution_values.specs.declared.Unfinished.{Unfinished}
 use Rattle.revolution_values.proofs.Passing.{zero-ends, zero-leaves, other-ends, other-leaves, one-timing, zeros-few}
 
@@ -123,29 +122,29 @@ unfolding unfinished_after
 zeros-stay-few u [] h = h
 zeros-stay-few u (byte ∷ bytes) h = zeros-stay-few (unfinished_after_byte u.held u.zeros byte) bytes (one_byte u.held)
   where
-    one_byte : (held : Held) → (unfinished_after_byte held u.zeros byte).zeros ≤ 7
-    one_byte Nothing = h
-    one_byte (High high) = zeros-few u.zeros (256 * high + byte)
+    one_byte : (held : Option ℕ) → (unfinished_after_byte held u.zeros byte).zeros ≤ 7
+    one_byte None = h
+    one_byte (Some high) = zeros-few u.zeros (256 * high + byte)
 
 -- no more timings end than values do: at most one with each two bytes, the one that is held among them
-abbrev bytes_held : Held → ℕ
-bytes_held Nothing = 0
-bytes_held (High high) = 1
+abbrev bytes_held : Option ℕ → ℕ
+bytes_held None = 0
+bytes_held (Some high) = 1
 
 nothing-held-after : (zeros value : ℕ) → bytes_held (unfinished_after_value zeros value).held ≡ 0
 unfolding unfinished_after_value
-nothing-held-after zeros value = refl
+nothing-held-after _ value = refl
 
 ending-few-held : (u : Unfinished) (bytes : List ℕ) → 2 * length (timings_ending u bytes) ≤ length bytes + bytes_held u.held
 unfolding timings_ending
 ending-few-held u [] = omega arith
 ending-few-held u (byte ∷ bytes) = go u.held (ending-few-held (unfinished_after_byte u.held u.zeros byte) bytes)
   where
-    go : (held : Held)
+    go : (held : Option ℕ)
         → 2 * length (timings_ending (unfinished_after_byte held u.zeros byte) bytes) ≤ length bytes + bytes_held (unfinished_after_byte held u.zeros byte).held
         → 2 * length (timings_of_byte held u.zeros byte ++ timings_ending (unfinished_after_byte held u.zeros byte) bytes) ≤ suc (length bytes) + bytes_held held
-    go Nothing h = omega (arith, h)
-    go (High high) h =
+    go None h = omega (arith, h)
+    go (Some high) h =
         let v = 256 * high + byte in
         let n : bytes_held (unfinished_after_value u.zeros v).held ≡ 0 = nothing-held-after u.zeros v in
         omega (arith, h, n, one-timing u.zeros v, length-append (timings_of_value u.zeros v) (timings_ending (unfinished_after_value u.zeros v) bytes))
@@ -153,6 +152,6 @@ ending-few-held u (byte ∷ bytes) = go u.held (ending-few-held (unfinished_afte
 pub ending-few : (u : Unfinished) (bytes : List ℕ) → 2 * length (timings_ending u bytes) ≤ length bytes + 1
 ending-few u bytes = go u.held (ending-few-held u bytes)
   where
-    go : (held : Held) → 2 * length (timings_ending u bytes) ≤ length bytes + bytes_held held → 2 * length (timings_ending u bytes) ≤ length bytes + 1
-    go Nothing h = omega arith
-    go (High high) h = h
+    go : (held : Option ℕ) → 2 * length (timings_ending u bytes) ≤ length bytes + bytes_held held → 2 * length (timings_ending u bytes) ≤ length bytes + 1
+    go None h = omega arith
+    go (Some high) h = h

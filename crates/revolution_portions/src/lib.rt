@@ -7,10 +7,9 @@
 ghost use Rattle.std.specs.Prelude.{◌≡◌, ◌≤◌, length};
 ghost use Rattle.refusals.specs.RefusedCalls.{answer_of};
 ghost use Rattle.revolution_portions.specs.Portions.{fresh_reader, usable_reader, portion_answer, portion_reader, portion_list, AllTimings};
-ghost use Rattle.revolution_portions.specs.PrivateContracts.{LookedOver};
 
 use refusals::Refusal;
-use revolution_values::{Passed, Unfinished};
+use revolution_values::Unfinished;
 
 // Where the reading of a revolution's values stands (rule 12.16): the timing that has not ended, and how many have.
 #[derive(Clone, Copy, Debug)]
@@ -34,8 +33,11 @@ impl RevolutionReader {
     }
 
     // A fresh state in the place of one that calls cannot leave (rule 12.19).
+    #[tactic(auto, unfolding(crate::specs::Portions::usable_reader, crate::specs::Portions::is_left_by_calls))]
     pub fn usable(self) -> Self
-        ensures { result ≡ usable_reader self }
+        ensures is { result ≡ usable_reader self }
+        ensures few_zeros { result.unfinished.zeros ≤ 7 }
+        ensures few_timings { result.timings ≤ 65536 }
     {
         if revolution_values::MOST_ZEROS < self.unfinished.zeros {
             return RevolutionReader::new();
@@ -55,10 +57,12 @@ impl RevolutionReader {
     {
         let reader = self.usable();
         let before = reader.timings as usize;
-        let seen = look(reader.unfinished, portion);
+        // Only counted and judged: an empty list keeps no timing.
+        let seen = revolution_values::pass(reader.unfinished, portion, &mut []);
         let count = seen.count;
-        if flux_timings::MOST_TIMINGS < before + count {
-            return Err(Refusal::TooManyTimings(before + count));
+        let all = before + count;
+        if flux_timings::MOST_TIMINGS < all {
+            return Err(Refusal::TooManyTimings(all));
         }
         if let Some(out) = seen.out {
             return Err(Refusal::TimingOutOfRange(before + out));
@@ -69,17 +73,8 @@ impl RevolutionReader {
         revolution_values::pass(reader.unfinished, portion, timings);
         *self = RevolutionReader {
             unfinished: seen.unfinished,
-            timings: (before + count) as u32,
+            timings: all as u32,
         };
         Ok(count)
     }
-}
-
-// What a pass over a portion finds. The timings are not kept: there is a list for one, since a pass stores them as far as a list reaches.
-fn look(unfinished: Unfinished, portion: &[u8]) -> Passed
-    requires { unfinished.zeros ≤ 7 }
-    ensures { LookedOver unfinished portion.now result.unfinished result.count result.out }
-{
-    let mut unused = [0u32; 1];
-    revolution_values::pass(unfinished, portion, &mut unused)
 }

@@ -6,7 +6,8 @@ use mathlib.Core.List.{List, [], ◌∷◌}
 use native.Mathlib.Decide.{dec_le}
 use native.Mathlib.Nat.{add-zero, lt_of_not-le, min-eq_left, min-eq_right}
 use native.Mathlib.Omega.{arith}
-use borrow.Author.Tests.{not-true, eqb-false, ne_eqb, le-leb}
+use Rattle.std.specs.Prelude.{Option, Some, None}
+use borrow.Author.Tests.{not-true, eqb-false, ne_eqb, le-leb, le-ltb}
 use lib.Dec.{eqb}
 use lib.ListN.{length, set, get_or, drop, take, length-set, length-drop}
 use lib.Seq.{sets, set_out, take_all}
@@ -18,22 +19,24 @@ use Rattle.revolution_values.specs.PrivateContracts.{first_out_after, PassedOver
 use Rattle.revolution_values.specs.declared.Unfinished.{Unfinished}
 use Rattle.revolution_values.proofs.Passing.{other-ends, other-leaves, two-more}
 
--- the look for a 0: at byte i, where none stands before
-module _ (bytes : List ℕ) (i : ℕ) (h : 2 ≤ length bytes - i) (before : no_zeros (drop i bytes) ≡ no_zeros bytes) where
-  pub other-value : (256 * get_or bytes i 0 + get_or bytes (i + 1) 0 ≡ 0 → ⊥) → no_zeros (drop (i + 2) bytes) ≡ no_zeros bytes
+-- the look for a 0: after i values, none of which is one
+module _ (bytes : List ℕ) (i : ℕ) (h : i < length bytes / 2) (before : no_zeros (drop (2 * i) bytes) ≡ no_zeros bytes) where
+  pub other-value : (get_or bytes (2 * i + 1) 0 ≡ 0 → get_or bytes (2 * i) 0 ≡ 0 → ⊥) → no_zeros (drop (2 * (i + 1)) bytes) ≡ no_zeros bytes
   unfolding no_zeros
   other-value some =
-      let n : eqb (256 * get_or bytes i 0 + get_or bytes (i + 1) 0) 0 ≡ false = ne_eqb (256 * get_or bytes i 0 + get_or bytes (i + 1) 0) 0 some in
-      let s : no_zeros (drop i bytes) ≡ no_zeros (drop (i + 2) bytes) = rw (two-more bytes i h, n) in
-      sym s ∙ before
+      let v = 256 * get_or bytes (2 * i) 0 + get_or bytes (2 * i + 1) 0 in
+      let n : eqb v 0 ≡ false = ne_eqb v 0 (λ e. some (omega arith) (omega arith)) in
+      let j : 2 * (i + 1) ≡ 2 * i + 2 = omega arith in
+      let s : no_zeros (drop (2 * i) bytes) ≡ no_zeros (drop (2 * i + 2) bytes) = rw (two-more bytes (2 * i) (omega arith), n) in
+      rw j (sym s ∙ before)
 
-  pub zero-value : get_or bytes (i + 1) 0 ≡ 0 → get_or bytes i 0 ≡ 0 → false ≡ no_zeros bytes
+  pub zero-value : get_or bytes (2 * i + 1) 0 ≡ 0 → get_or bytes (2 * i) 0 ≡ 0 → false ≡ no_zeros bytes
   unfolding no_zeros
-  zero-value low high = let s : false ≡ no_zeros (drop i bytes) = rw (two-more bytes i h, high, low) in s ∙ before
+  zero-value low high = let s : false ≡ no_zeros (drop (2 * i) bytes) = rw (two-more bytes (2 * i) (omega arith), high, low) in s ∙ before
 
-pub no-value-left : (portion : List ℕ) (i : ℕ) → length portion - i < 2 → i ≤ length portion → no_zeros (drop i portion) ≡ true
+pub no-value-left : (values : List ℕ) (i : ℕ) → i ≡ length values / 2 → no_zeros (drop (2 * i) values) ≡ true
 unfolding no_zeros
-no-value-left portion i h w = go (drop i portion) (omega (arith, length-drop i portion))
+no-value-left values i h = go (drop (2 * i) values) (omega (arith, length-drop (2 * i) values))
   where
     go : (l : List ℕ) → length l < 2 → no_zeros l ≡ true
     go [] s = refl
@@ -84,24 +87,21 @@ all_end (suc k) (high ∷ low ∷ bytes) a b small e =
       all_in = ap first_out t ∙ one-more-in (25 * (65536 * 0 + v)) (timings_ending (between 0) bytes) (small-in-range v some (omega arith)) ∙ ap suc rest.all_in;
     }
 
--- so such values are passed over at once, after `count` timings of which `out` is the first out of range
-module _ (count out : ℕ) (bytes list : List ℕ) (small : (i : ℕ) → get_or bytes i 0 < 256) (none : no_zeros bytes ≡ true) where
-  pub passed-at-once : {next : Unfinished} {first : ℕ} {after : List ℕ} → next ≡ unfinished_after (between 0) (drop (2 * (length bytes / 2)) bytes)
-      → first ≡ cond (eqb out count) (count + length bytes / 2) out → after ≡ sets list count (timings_ending (between 0) bytes)
-      → PassedOver (between 0) count out bytes list next (count + length bytes / 2) first after
+-- so such values are passed over at once, after `count` timings of which `out` is the first out of range, where one is
+module _ (count : ℕ) (out : Option ℕ) (bytes list : List ℕ) (small : (i : ℕ) → get_or bytes i 0 < 256) (none : no_zeros bytes ≡ true) where
+  out-kept : (o : Option ℕ) → o ≡ first_out_after count o (timings_ending (between 0) bytes)
   unfolding first_out_after
-  passed-at-once n f l =
+  out-kept (Some first) = refl
+  out-kept None =
       let a = all_end (length bytes / 2) bytes (omega arith) (omega arith) small none in
-      record { unfinished_is = n ∙ a.leaves; count_is = omega (arith, a.many); out_is = rw a.all_in f; list_is = l }
+      rw (le-ltb (first_out (timings_ending (between 0) bytes)) (length (timings_ending (between 0) bytes)) (omega (arith, a.many, a.all_in)))
 
--- what is passed over so is the rest of a portion, from byte `from` on
-pub rest-is : (portion : List ℕ) (from : ℕ) → take (length portion - from) (drop from portion) ≡ drop from portion
-rest-is portion from = take_all (length portion - from) (drop from portion) (omega (arith, length-drop from portion))
-
-pub passed-rest : {zeros count out : ℕ} (portion : List ℕ) (from : ℕ) {list : List ℕ} → zeros ≡ 0 → {next : Unfinished} {total first : ℕ} {after : List ℕ}
-    → PassedOver (between 0) count out (take (length portion - from) (drop from portion)) list next total first after
-    → PassedOver (between zeros) count out (drop from portion) list next total first after
-passed-rest portion from z p = rw z (rw (← rest-is portion from) p)
+  pub passed-at-once : {next : Unfinished} {after : List ℕ} → next ≡ unfinished_after (between 0) (drop (2 * (length bytes / 2)) bytes)
+      → after ≡ sets list count (timings_ending (between 0) bytes)
+      → PassedOver (between 0) count out bytes list next (count + length bytes / 2) out after
+  passed-at-once n l =
+      let a = all_end (length bytes / 2) bytes (omega arith) (omega arith) small none in
+      record { unfinished_is = n ∙ a.leaves; count_is = omega (arith, a.many); out_is = out-kept out; list_is = l }
 
 -- timings stored past the end of a list
 pub sets-past : (ts list : List ℕ) (at : ℕ) → length list ≤ at → sets list at ts ≡ list

@@ -193,10 +193,11 @@ fn pass_value(seen: Seen, value: u32, list: &mut [u32]) -> Seen
 fn out_after(out: Option<usize>, count: usize, timing: u32) -> Option<usize>
     ensures { result ≡ first_out_after count out (timing ∷ []) }
 {
-    if out.is_some() || flux_timings::timing_in_range(timing) {
-        return out;
+    match out {
+        Some(_) => out,
+        None if flux_timings::timing_in_range(timing) => None,
+        None => Some(count),
     }
-    Some(count)
 }
 
 // Stores a timing at a place of the list, where it has the place.

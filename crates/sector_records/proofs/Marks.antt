@@ -142,3 +142,12 @@ pub sync-small : (d : Density) → (layout_of d).sync < 0x1_0000
 unfolding single_density double_density
 sync-small Single = omega arith
 sync-small Double = omega arith
+
+-- the number that a layout has for its density
+pub single-density : (layout : Layout) (d : Density) → layout ≡ layout_of d → d ≡ Single → layout.density ≡ 1
+unfolding single_density
+single-density layout d e g = rw (e, g) refl
+
+pub double-density : (layout : Layout) (d : Density) → layout ≡ layout_of d → d ≡ Double → layout.density ≡ 1 → ⊥
+unfolding double_density
+double-density layout d e g h = let z : layout.density ≡ 2 = rw (e, g) refl in absurd (omega arith)

@@ -1,17 +1,15 @@
 // The sectors of a track as records: marks, IDs, data, and their checks, in either density.
 #![tactic(auto)]
 
-ghost use Rattle.std.specs.Prelude.{◌≡◌, true, cond, ◌&&◌, [], ◌+◌, ◌-◌, ◌*◌, ◌/◌, ◌<◌, ◌≤◌, ltb, leb, replicate};
+ghost use Rattle.std.specs.Prelude.{◌≡◌, ℕ, cond, [], ◌+◌, ◌-◌, ◌<◌, ◌≤◌, ltb, Some};
 ghost use Rattle.basis.specs.Search.{least};
-ghost use Rattle.cells.specs.CellsAndBytes.{cell};
-ghost use Rattle.cell_words.specs.Words.{Holds};
 ghost use Rattle.crc.specs.CheckWord.{check_word_from};
-ghost use Rattle.mfm.specs.Coding.{byte_on};
 ghost use Rattle.layouts.specs.Layouts.{layout_of};
+ghost use Rattle.layouts.specs.declared.Density.TheVariants.{Double};
 ghost use Rattle.layouts.specs.PrivateContracts.{Sound};
-ghost use Rattle.sector_records.specs.Marks.{mark_byte, mark_of, id_mark_at, data_mark_at};
+ghost use Rattle.sector_records.specs.Marks.{mark_of, id_mark_at, data_mark_at};
 ghost use Rattle.sector_records.specs.Maps.{TrackMaps};
-ghost use Rattle.sector_records.specs.PrivateContracts.{data_place_of, likely_at, MarkMap};
+ghost use Rattle.sector_records.specs.PrivateContracts.{cells_on, data_place_of, MarkMap, marks-prop};
 ghost use Rattle.sector_records.specs.Sectors.{bytes_from, check_bytes, check_good, length_of, id_byte, sector_at, end_of_data, no_sector, sectors_of, kept};
 
 use cell_words::WORDS;
@@ -76,9 +74,7 @@ pub fn sectors_with_maps(
     list(density, cells, words, syncs)
 }
 
-// Single density, as a layout has it, and its data marks, of 16 cells each.
-const SINGLE_DENSITY: u8 = 1;
-
+// The data marks of single density, of 16 cells each.
 const WORD_CELLS: usize = 16;
 
 const DATA_WORD: u64 = 0xF56F;
@@ -107,85 +103,212 @@ const FIRST_DATA_MARK: u8 = 0xF8;
 
 const LAST_DATA_MARK: u8 = 0xFB;
 
-// The functions below take a layout, of which they ask that its numbers are small (`Sound`); where one number is enough they take that.
-
 // Makes the two maps of a track. They go on past its end: that of the syncs by 64 words, since data may begin there; that of the ones goes further, since
 // each map that is made of it comes out shorter.
-fn make_maps(
-    density: Density,
-    cells: Cells,
-    words: &mut [u64; WORDS],
-    syncs: &mut [u64; WORDS],
-)
-    requires { cells.entry.count ≤ 131072 }
+fn make_maps(density: Density, cells: Cells, words: &mut [u64; WORDS], syncs: &mut [u64; WORDS])
+    requires { cells.count ≤ 131072 }
     ensures { TrackMaps (layout_of density) cells.entry.bytes.now cells.entry.count words.new syncs.new }
 {
-    clear(words);
-    clear(syncs);
+    // What the lent arrays held is not read.
+    *words = [0; WORDS];
+    *syncs = [0; WORDS];
     let count = cells.count;
     cell_words::load(cells, words, count / 64 + 68);
     let layout = layout_of(density);
     cell_words::word_map(words, layout.sync, syncs, count / 64 + 64);
 }
 
-// What a lent array held is not read.
-fn clear(map: &mut [u64; WORDS])
-    ensures { map.new ≡ replicate 2116 0 }
-{
-    *map = [0; WORDS];
-}
-
 // The sectors of a track, out of its two maps. In single density that of the syncs is the map of the ID marks.
-fn list(
-    density: Density,
-    cells: Cells,
-    words: &[u64; WORDS],
-    syncs: &[u64; WORDS],
-) -> Sectors
-    requires { (cells.entry.count ≤ 131072) × TrackMaps (layout_of density) cells.entry.bytes.now cells.entry.count words.now syncs.now }
+fn list(density: Density, cells: Cells, words: &[u64; WORDS], syncs: &[u64; WORDS]) -> Sectors
+    requires { (cells.count ≤ 131072) × TrackMaps (layout_of density) cells.bytes.now cells.count words.now syncs.now }
     ensures { result ≡ kept (sectors_of (layout_of density) cells.entry.bytes.now cells.entry.count) }
 {
     let layout = layout_of(density);
-    if layout.density == SINGLE_DENSITY {
-        return list_by(layout, cells, syncs);
+    match density {
+        Density::Single => {
+            let marked = Marked {
+                density,
+                layout,
+                cells,
+                map: syncs,
+            };
+            marked.sectors()
+        }
+        Density::Double => {
+            let count = cells.count;
+            let mut map = [0u64; WORDS];
+            cell_words::thrice_map(syncs, &mut map, count / 64 + 63);
+            cell_words::keep_map(words, SECOND_DATA_CELL, true, &mut map, count / 64 + 63);
+            let marked = Marked {
+                density,
+                layout,
+                cells,
+                map: &map,
+            };
+            marked.sectors()
+        }
     }
-    let count = cells.count;
-    let mut marks = [0u64; WORDS];
-    cell_words::thrice_map(syncs, &mut marks, count / 64 + 63);
-    cell_words::keep_map(words, SECOND_DATA_CELL, true, &mut marks, count / 64 + 63);
-    list_by(layout, cells, &marks)
 }
 
-// The sectors of a track, in one pass from ID mark to ID mark. Past the first 64 they are only counted, and no records are made of them. The struct is
-// changed in place: a function that took it and gave it back would copy all its records.
-fn list_by(layout: Layout, cells: Cells, marks: &[u64; WORDS]) -> Sectors
-    requires { Sound layout × (cells.entry.count ≤ 131072) × MarkMap layout (cell cells.entry.bytes.now cells.entry.count) cells.entry.count marks.now }
-    ensures { result ≡ kept (sectors_of layout cells.entry.bytes.now cells.entry.count) }
-{
-    let mut sectors = no_sectors();
-    let n = cells.count;
-    let mut p = find_id_mark(layout, cells, marks, 0, n);
-    while p < n {
-        let at = sectors.count;
-        sectors.count = at + 1;
-        if MOST_SECTORS <= at {
-            p = find_id_mark(layout, cells, marks, p + 1, n);
-            continue;
+// A track with the map of the marks that may be those of an ID or of data; in single density it is the map of the ID marks.
+#[derive(Drop)]
+struct Marked<'a> {
+    density: Density,
+    layout: Layout,
+    cells: Cells<'a>,
+    map: &'a [u64; WORDS],
+    ghost is_layout: { layout ≡ layout_of density },
+    ghost sound: { Sound layout },
+    ghost is_map: { MarkMap layout (cells_on cells) cells.count map.now } by { marks-prop layout (cells_on cells) cells.count map.now },
+}
+
+// The bounds that these methods ask for keep their sums from overflowing. A track has at most 131,072 places, a data mark stands at most the reach past
+// them, and data has at most 1,024 bytes.
+impl<'a> Marked<'a> {
+    // The sectors of the track, in one pass from ID mark to ID mark. Past the first 64 they are only counted, and no records are made of them. The struct
+    // is changed in place: a function that took it and gave it back would copy all its records.
+    fn sectors(&self) -> Sectors
+        ensures { result ≡ kept (sectors_of self.now.layout self.now.cells.bytes.now self.now.cells.count) }
+    {
+        let mut sectors = no_sectors();
+        let mut p = self.find_id_mark(0);
+        // No `for`: the next place comes from a search.
+        while p < self.cells.count {
+            if sectors.count < MOST_SECTORS {
+                sectors.all[sectors.count] = self.sector_at(p);
+            }
+            sectors.count += 1;
+            p = self.find_id_mark(p + 1);
         }
-        let sector = sector_at(layout, cells, marks, p);
-        sectors.all[at] = sector;
-        p = find_id_mark(layout, cells, marks, p + 1, n);
+        sectors
     }
-    sectors
+
+    // The record of the ID mark at p.
+    fn sector_at(&self, p: usize) -> Sector
+        requires { p < self.now.cells.count }
+        ensures { result ≡ sector_at self.now.layout (cells_on self.now.cells) p }
+    {
+        let size_code = self.id_byte(p, 3);
+        let without_data = Sector {
+            place: p as u32,
+            mark: mfm::byte_on(self.cells, p + self.layout.byte_place),
+            track: self.id_byte(p, 0),
+            side: self.id_byte(p, 1),
+            number: self.id_byte(p, 2),
+            size_code,
+            id_check_good: self.check_good(p, ID_BYTES),
+            density: self.layout.density,
+            ..no_sector()
+        };
+        match self.find_data(p) {
+            None => without_data,
+            Some(q) => {
+                let length = length_of(size_code);
+                Sector {
+                    data_place: q as u32,
+                    data_mark: mfm::byte_on(self.cells, q + self.layout.byte_place),
+                    data_length: length,
+                    data_check_good: self.check_good(q, length as usize),
+                    data_end: self.data_end(q, length),
+                    ..without_data
+                }
+            }
+        }
+    }
+
+    // Byte i after the ID mark at p.
+    fn id_byte(&self, p: usize, i: usize) -> u8
+        requires { (p < 131072) × (i < 4) }
+        ensures { result ≡ id_byte self.now.layout.mark_length (cells_on self.now.cells) p i }
+    {
+        mfm::byte_on(self.cells, p + self.layout.mark_length + BYTE_LENGTH * i)
+    }
+
+    // Where data of so many bytes ends whose mark stands at q.
+    fn data_end(&self, q: usize, length: u32) -> u32
+        requires { (q < 200000) × (length ≤ 1024) }
+        ensures { result ≡ end_of_data self.now.layout.mark_length q length }
+    {
+        (q + self.layout.mark_length + BYTE_LENGTH * (length as usize) + CHECK_LENGTH) as u32
+    }
+
+    // Is the check good of the field whose mark stands at p, with k bytes after the mark byte?
+    fn check_good(&self, p: usize, k: usize) -> bool
+        requires { (p < 200000) × (k ≤ 1024) }
+        ensures { result ≡ check_good self.now.layout (cells_on self.now.cells) p k }
+    {
+        let place = p + self.layout.byte_place;
+        let end = p + self.layout.mark_length + BYTE_LENGTH * k;
+        check_word(self.layout.check_start, self.cells, place, k + 1)
+            == check_bytes(self.cells, end)
+    }
+
+    // Where the data mark of the ID mark at p stands, where there is one within reach.
+    fn find_data(&self, p: usize) -> Option<usize>
+        requires { p < self.now.cells.count }
+        ensures place { result ≡ data_place_of self.now.layout (cells_on self.now.cells) p }
+        ensures near { (q : ℕ) → result ≡ Some q → q < 200000 }
+    {
+        let from = p + self.layout.id_length;
+        let last = p + self.layout.reach;
+        let q = self.find_data_mark(from, last + 1);
+        if q <= last { Some(q) } else { None }
+    }
+
+    // The least place from `from` on of an ID mark; the number of cells where there is none. Here, in the next function and in `list` the densities part.
+    fn find_id_mark(&self, from: usize) -> usize
+        requires { from ≤ self.now.cells.count }
+        ensures { result ≡ least (id_mark_at self.now.layout (cells_on self.now.cells)) (self.now.cells.count - from) from }
+    {
+        let to = self.cells.count;
+        match self.density {
+            Density::Single => cell_words::least_in(self.map, from, to),
+            Density::Double => self.find_mark(FIRST_ID_MARK, LAST_ID_MARK, from, to),
+        }
+    }
+
+    // The least place from `from` and before `to` of a data mark; `to` where there is none. Of the two words of single density, the second is looked for
+    // before the first that was found.
+    fn find_data_mark(&self, from: usize, to: usize) -> usize
+        requires { (from ≤ to) × (to ≤ self.now.cells.count + 1000) }
+        ensures { result ≡ least (data_mark_at self.now.layout (cells_on self.now.cells)) (to - from) from }
+    {
+        match self.density {
+            Density::Single => {
+                let data = self.cells.find_word(DATA_WORD, WORD_CELLS, from, to);
+                self.cells
+                    .find_word(DELETED_DATA_WORD, WORD_CELLS, from, data)
+            }
+            Density::Double => self.find_mark(FIRST_DATA_MARK, LAST_DATA_MARK, from, to),
+        }
+    }
+
+    // The least place from `from` and before `to` of a mark of double density whose byte lies from `low` to `high`; `to` where there is none.
+    fn find_mark(&self, low: u8, high: u8, from: usize, to: usize) -> usize
+        requires { (self.now.density ≡ Double) × (from ≤ to) × (to ≤ self.now.cells.count + 1000) × (0xC0 ≤ low) }
+        ensures { result ≡ least (mark_of (cells_on self.now.cells) low high) (to - from) from }
+    {
+        let mut p = cell_words::least_in(self.map, from, to);
+        // No `for`: the next place comes from a search.
+        while p < to {
+            let byte = mfm::byte_on(self.cells, p + SYNC_CELLS);
+            if (low <= byte) & (byte <= high) {
+                return p;
+            }
+            p = cell_words::least_in(self.map, p + 1, to);
+        }
+        to
+    }
 }
 
 // No sectors: their number is 0, and each record is all zeros.
 pub fn no_sectors() -> Sectors
     ensures { result ≡ kept [] }
 {
-    let zeros = no_sector();
-    let all = [zeros; 64];
-    Sectors { all, count: 0 }
+    Sectors {
+        all: [no_sector(); 64],
+        count: 0,
+    }
 }
 
 // A record that is all zeros.
@@ -209,67 +332,8 @@ pub fn no_sector() -> Sector
     }
 }
 
-// The bounds that the functions below ask for keep their sums from overflowing. A track has at most 131,072 places, a data mark stands
-// at most the reach past them, and data has at most 1,024 bytes.
-
-// The record of the ID mark at p.
-fn sector_at(layout: Layout, cells: Cells, marks: &[u64; WORDS], p: usize) -> Sector
-    requires { Sound layout × (p < 131072) × MarkMap layout (cell cells.entry.bytes.now cells.entry.count) cells.entry.count marks.now × (p ≤ cells.entry.count) }
-    ensures { result ≡ sector_at layout (cell cells.entry.bytes.now cells.entry.count) p }
-{
-    let mark = mfm::byte_on(cells, p + layout.byte_place);
-    let track = id_byte(layout.mark_length, cells, p, 0);
-    let side = id_byte(layout.mark_length, cells, p, 1);
-    let number = id_byte(layout.mark_length, cells, p, 2);
-    let size_code = id_byte(layout.mark_length, cells, p, 3);
-    let id_check_good = check_good(layout, cells, p, ID_BYTES);
-    let without_data = Sector {
-        place: p as u32,
-        mark,
-        track,
-        side,
-        number,
-        size_code,
-        id_check_good,
-        density: layout.density,
-        ..no_sector()
-    };
-    match find_data(layout, cells, marks, p) {
-        None => without_data,
-        Some(q) => {
-            let length = length_of(size_code);
-            Sector {
-                data_place: q as u32,
-                data_mark: mfm::byte_on(cells, q + layout.byte_place),
-                data_length: length,
-                data_check_good: check_good(layout, cells, q, length as usize),
-                data_end: data_end(layout.mark_length, q, length),
-                ..without_data
-            }
-        }
-    }
-}
-
-// Byte i after the ID mark at p, which has `mark` cells.
-fn id_byte(mark: usize, cells: Cells, p: usize, i: usize) -> u8
-    requires { (mark ≤ 64) × (p < 131072) × (i < 4) }
-    ensures { result ≡ id_byte mark (cell cells.entry.bytes.now cells.entry.count) p i }
-{
-    mfm::byte_on(cells, p + mark + BYTE_LENGTH * i)
-}
-
-// Where the data mark of the ID mark at p stands, where there is one within reach.
-fn find_data(layout: Layout, cells: Cells, marks: &[u64; WORDS], p: usize) -> Option<usize>
-    requires { Sound layout × (p < 131072) × MarkMap layout (cell cells.entry.bytes.now cells.entry.count) cells.entry.count marks.now × (p ≤ cells.entry.count) }
-    ensures { result ≡ data_place_of layout (cell cells.entry.bytes.now cells.entry.count) p }
-{
-    let from = p + layout.id_length;
-    let last = p + layout.reach;
-    let q = find_data_mark(layout, cells, marks, from, last + 1);
-    if q <= last { Some(q) } else { None }
-}
-
 // The data length of a size code, of which the controller sees the two low bits.
+#[tactic(auto, unfolding(crate::specs::Sectors::length_of))]
 fn length_of(code: u8) -> u32
     ensures { (result ≡ length_of code) × (result ≤ 1024) }
 {
@@ -281,112 +345,30 @@ fn length_of(code: u8) -> u32
     }
 }
 
-// Where data of so many bytes ends whose mark, of `mark` cells, stands at q.
-fn data_end(mark: usize, q: usize, length: u32) -> u32
-    requires { (mark ≤ 64) × (q < 200000) × (length ≤ 1024) }
-    ensures { result ≡ end_of_data mark q length }
-{
-    (q + mark + BYTE_LENGTH * (length as usize) + CHECK_LENGTH) as u32
-}
-
-// Is the check good of the field whose mark stands at p, with k bytes after the mark byte?
-fn check_good(layout: Layout, cells: Cells, p: usize, k: usize) -> bool
-    requires { Sound layout × (p < 200000) × (k ≤ 1024) }
-    ensures { result ≡ check_good layout (cell cells.entry.bytes.now cells.entry.count) p k }
-{
-    check_word(layout.check_start, cells, p + layout.byte_place, k + 1)
-        == check_bytes(cells, p + layout.mark_length + BYTE_LENGTH * k)
-}
-
 // The check word of the k bytes from p on, where it was `start` before them. They are decoded four at a turn.
 fn check_word(start: u16, cells: Cells, p: usize, k: usize) -> u16
     requires { (p ≤ 200048) × (k ≤ 1025) }
-    ensures { result ≡ check_word_from start (bytes_from (cell cells.entry.bytes.now cells.entry.count) p k) }
+    ensures { result ≡ check_word_from start (bytes_from (cells_on cells.entry) p k) }
 {
     let mut decoded = [0u8; 1028];
-    let mut i: usize = 0;
-    while i < k {
-        let four = mfm::data_cells(cell_words::word_from(cells, p + BYTE_LENGTH * i));
-        decoded[i] = (four >> 24) as u8;
-        decoded[i + 1] = (four >> 16) as u8;
-        decoded[i + 2] = (four >> 8) as u8;
-        decoded[i + 3] = four as u8;
-        i += 4;
+    for i in 0..(k + 3) / 4 {
+        let four = mfm::data_cells(cell_words::word_from(
+            cells,
+            p + 4 * BYTE_LENGTH * i,
+        )).to_be_bytes();
+        decoded[4 * i] = four[4];
+        decoded[4 * i + 1] = four[5];
+        decoded[4 * i + 2] = four[6];
+        decoded[4 * i + 3] = four[7];
     }
     crc::check_word_from(start, &decoded[..k])
 }
 
 // The two check bytes from p on, as a word.
+#[tactic(auto, unfolding(crate::specs::Sectors::check_bytes))]
 fn check_bytes(cells: Cells, p: usize) -> u16
     requires { p ≤ 300000 }
-    ensures { result ≡ check_bytes (cell cells.entry.bytes.now cells.entry.count) p }
+    ensures { result ≡ check_bytes (cells_on cells.entry) p }
 {
     u16::from_be_bytes([mfm::byte_on(cells, p), mfm::byte_on(cells, p + BYTE_LENGTH)])
-}
-
-// The least place from `from` and before `to` of an ID mark; `to` where there is none. Here, in the next function and in `list` the densities part.
-fn find_id_mark(
-    layout: Layout,
-    cells: Cells,
-    marks: &[u64; WORDS],
-    from: usize,
-    to: usize,
-) -> usize
-    requires { (from ≤ to) × (to ≤ cells.entry.count + 1000) × MarkMap layout (cell cells.entry.bytes.now cells.entry.count) cells.entry.count marks.now }
-    ensures { result ≡ least (id_mark_at layout (cell cells.entry.bytes.now cells.entry.count)) (to - from) from }
-{
-    if layout.density == SINGLE_DENSITY {
-        return cell_words::least_in(marks, from, to);
-    }
-    find_mark(cells, marks, FIRST_ID_MARK, LAST_ID_MARK, from, to)
-}
-
-// The least place from `from` and before `to` of a data mark; `to` where there is none. Of the two words of single density, the second is
-// looked for before the first that was found.
-fn find_data_mark(
-    layout: Layout,
-    cells: Cells,
-    marks: &[u64; WORDS],
-    from: usize,
-    to: usize,
-) -> usize
-    requires { (from ≤ to) × (to ≤ cells.entry.count + 1000) × MarkMap layout (cell cells.entry.bytes.now cells.entry.count) cells.entry.count marks.now }
-    ensures { result ≡ least (data_mark_at layout (cell cells.entry.bytes.now cells.entry.count)) (to - from) from }
-{
-    if layout.density == SINGLE_DENSITY {
-        let data = cells.find_word(DATA_WORD, WORD_CELLS, from, to);
-        return cells.find_word(DELETED_DATA_WORD, WORD_CELLS, from, data);
-    }
-    find_mark(cells, marks, FIRST_DATA_MARK, LAST_DATA_MARK, from, to)
-}
-
-// The least place from `from` and before `to` of a mark of double density whose byte lies from `low` to `high`; `to` where there is none.
-fn find_mark(
-    cells: Cells,
-    marks: &[u64; WORDS],
-    low: u8,
-    high: u8,
-    from: usize,
-    to: usize,
-) -> usize
-    requires { (from ≤ to) × (to ≤ cells.entry.count + 1000) × Holds (likely_at (cell cells.entry.bytes.now cells.entry.count)) marks.now (cells.entry.count / 64 + 63) × (cells.entry.count ≤ 131072) × (0xC0 ≤ low) }
-    ensures { result ≡ least (mark_of (cell cells.entry.bytes.now cells.entry.count) low high) (to - from) from }
-{
-    let mut p = cell_words::least_in(marks, from, to);
-    while p < to {
-        if has_byte(cells, p, low, high) {
-            return p;
-        }
-        p = cell_words::least_in(marks, p + 1, to);
-    }
-    to
-}
-
-// Does the byte of the mark at p lie from `low` to `high`?
-fn has_byte(cells: Cells, p: usize, low: u8, high: u8) -> bool
-    requires { p < 200000 }
-    ensures { result ≡ (leb low (mark_byte (cell cells.entry.bytes.now cells.entry.count) p) && leb (mark_byte (cell cells.entry.bytes.now cells.entry.count) p) high) }
-{
-    let byte = mfm::byte_on(cells, p + SYNC_CELLS);
-    (low <= byte) & (byte <= high)
 }

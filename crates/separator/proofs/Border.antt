@@ -10,17 +10,6 @@ use Rattle.separator.specs.Rule.{is_border_by, border_pulses_at_by, double_half_
 use Rattle.separator.proofs.Differences.{up, down}
 use Rattle.separator.proofs.Orders.{le_of}
 
--- either test of an offset, and neither
-module _ (x y : Bool) where
-  pub border-below : x ≡ true → ◌≡◌ {A = ℕ} 1 (cond (x || y) 1 0)
-  border-below h = rw h
-
-  pub border-above : x ≡ false → y ≡ true → ◌≡◌ {A = ℕ} 1 (cond (x || y) 1 0)
-  border-above l h = rw (l, h)
-
-  pub border-none : x ≡ false → y ≡ false → ◌≡◌ {A = ℕ} 0 (cond (x || y) 1 0)
-  border-none l h = rw (l, h)
-
 module _ (half : ℕ) (e : ℤ) where
   pub border-few : border_pulses_at_by half e ≤ 1
   unfolding border_pulses_at_by

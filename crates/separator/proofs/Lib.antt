@@ -6,3 +6,4 @@ pub mod Residual
 pub mod MachineStep
 pub mod LastWindow
 pub mod Stepping
+pub mod Stepped

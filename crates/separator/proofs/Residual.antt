@@ -2,16 +2,18 @@
 use Prim.Native.Nat.{ℕ, ◌+◌, ◌-◌, ◌/◌, ◌<◌, ◌≤◌}
 use mathlib.Core.Path.{◌≡◌, refl, sym, ◌∙◌, ap, subst}
 use mathlib.Core.Bool.{Bool, true, false, cond, ◌&&◌}
+use mathlib.Core.Logic.{◌⊎◌, ⊎_elim}
 use native.Mathlib.Omega.{arith}
 use lib.Dec.{T}
 use lib.IntN.{ℤ, pos, negsuc, neg_ℤ, sub_ℕ, ◌-ℤ◌}
 use lib.Signed.{le_z, lt_z}
 use mir.Syntax.{w32}
 use mir.Val.{SFits, to_z}
+use mir.Facts.{to_z-of_z}
 use Rattle.separator.specs.Rule.{double_half_window, single_half_window, least_residual, most_residual, usable}
 use Rattle.separator.proofs.Differences.{up, down, as-sub, pos-sub, neg-sub, minus-sub, sub_parts, sub_same}
-use Rattle.separator.proofs.Orders.{le_of, sub-le, lt_not_le, not-lt-le, mag-sub}
-use Rattle.separator.proofs.MachineStep.{small_is}
+use Rattle.separator.proofs.Orders.{le_of, sub-le, lt_not_le, mag-sub}
+use Rattle.separator.proofs.MachineStep.{read_back, small_is}
 use Rattle.separator.proofs.Lifted.{Kept, kept-none}
 
 sure : (x : Bool) → T x → x ≡ true
@@ -36,8 +38,8 @@ module _ (half : ℕ) where
   most-sub : most ≡ sub_ℕ ((half - 1) / 2) 0
   most-sub = pos-sub ((half - 1) / 2)
 
-  -- the code takes half of the half window from 0
-  pub least-made : half ≤ 2000 → pos 0 -ℤ to_z w32 (half / 2) ≡ least
+  -- the two as the machine makes them
+  least-made : half ≤ 2000 → pos 0 -ℤ to_z w32 (half / 2) ≡ least
   least-made h =
       ap (λ (z : ℤ). pos 0 -ℤ z) (small_is (half / 2) (omega arith) ∙ pos-sub (half / 2))
       ∙ ap (λ (z : ℤ). z -ℤ sub_ℕ (half / 2) 0) (pos-sub 0)
@@ -45,29 +47,36 @@ module _ (half : ℕ) where
       ∙ sub_same (0 + 0) (0 + half / 2) 0 (half / 2) (omega arith)
       ∙ sym least-sub
 
-  pub least_fits : half ≤ 2000 → SFits w32 least
-  least_fits h = rw least-sub (record { sfits = mag-sub 0 (half / 2) 2147483648 (omega arith) (omega arith) })
+  least-read : half ≤ 2000 → read_back (pos 0 -ℤ to_z w32 (half / 2)) ≡ least
+  least-read h =
+      let fits : SFits w32 least = rw least-sub (record { sfits = mag-sub 0 (half / 2) 2147483648 (omega arith) (omega arith) }) in
+      rw (least-made h) (to_z-of_z fits)
 
-  module _ (r : ℤ) where
-    -- by the tests of the code, with l and m for the least and the most
-    pub below-range : {l : ℤ} → l ≡ least → lt_z r l ≡ true → pos 0 ≡ usable half r
-    unfolding usable
-    below-range p e = rw (lt_not_le r least (rw p at e))
+  most-read : half ≤ 2000 → to_z w32 ((half - 1) / 2) ≡ most
+  most-read h = small_is ((half - 1) / 2) (omega arith)
 
-    pub above-range : {m : ℤ} → m ≡ most → lt_z m r ≡ true → pos 0 ≡ usable half r
+  -- and the tests of the code
+  module _ {r : ℤ} (small : half ≤ 2000) (fits : SFits w32 r) where
+    pub tested-out : (le_z (read_back (pos 0 -ℤ to_z w32 (half / 2))) (read_back r) ≡ false) ⊎ (le_z (read_back r) (to_z w32 ((half - 1) / 2)) ≡ false) → pos 0 ≡ usable half r
     unfolding usable
-    above-range q e = rw (lt_not_le most r (rw q at e)) (go (le_z least r))
+    tested-out out =
+        let held : read_back r ≡ r = to_z-of_z fits in
+        ⊎_elim (λ e. rw (rw (least-read small, held) at e)) (λ e. rw (rw (most-read small, held) at e) (go (le_z least r))) out
       where
         go : (x : Bool) → pos 0 ≡ cond (x && false) r (pos 0)
         go true = refl
         go false = refl
 
+    pub tested-in : le_z (read_back (pos 0 -ℤ to_z w32 (half / 2))) (read_back r) ≡ true → le_z (read_back r) (to_z w32 ((half - 1) / 2)) ≡ true → read_back r ≡ usable half r
+    unfolding usable
+    tested-in e f =
+        let held : read_back r ≡ r = to_z-of_z fits in
+        held ∙ rw (rw (least-read small, held) at e, rw (most-read small, held) at f)
+
+  module _ (r : ℤ) where
     within-range : le_z least r ≡ true → le_z r most ≡ true → r ≡ usable half r
     unfolding usable
     within-range e f = rw (e, f)
-
-    pub neither : {l m : ℤ} → l ≡ least → m ≡ most → lt_z r l ≡ false → lt_z m r ≡ false → r ≡ usable half r
-    neither p q e f = within-range (not-lt-le r least (rw p at e)) (not-lt-le most r (rw q at f))
 
     -- one that a step leaves is used as it is
     pub kept-usable : Kept half r → usable half r ≡ r
@@ -108,3 +117,7 @@ module _ (half : ℕ) where
         go true false p q = none
         go false true p q = none
         go false false p q = none
+
+-- what a step uses it uses as it is
+pub usable-again : (half : ℕ) (r : ℤ) → 0 < half → usable half (usable half r) ≡ usable half r
+usable-again half r some = kept-usable half (usable half r) (usable-kept half r some)

@@ -37,6 +37,7 @@ impl BitWindow for DoubleDensity {
 
     const HALF: u32 = 1000;
 
+    #[tactic(auto, unfolding(crate::specs::Rule::is_border_by, crate::specs::Rule::border_pulses_at_by))]
     fn border_pulses(offset: i32) -> u32 {
         u32::from(offset <= -902 || 902 <= offset)
     }
@@ -49,6 +50,7 @@ impl BitWindow for SingleDensity {
 
     const HALF: u32 = 2000;
 
+    #[tactic(auto, unfolding(crate::specs::Rule::is_border_by, crate::specs::Rule::border_pulses_at_by))]
     fn border_pulses(offset: i32) -> u32 {
         u32::from(offset <= -1804 || 1804 <= offset)
     }
@@ -81,6 +83,7 @@ impl Separator {
     }
 
     // One timing. Beside a refusal the state stays as it is.
+    #[tactic(auto, unfolding(crate::specs::Rule::step_answer_by, crate::specs::Rule::step_offset_by, crate::specs::Rule::step_residual_by))]
     pub fn step<W: BitWindow>(&mut self, timing: u32) -> Result<Step, Refusal>
         ensures answer { taken_answer result ≡ step_answer_by W.HALF self.old.residual timing }
         ensures offset { offset_given result ≡ step_offset_by W.HALF self.old.residual timing }
@@ -104,16 +107,21 @@ impl Separator {
             return Err(Refusal::TimingOutOfRange(0));
         }
         // u of rule 3.3 without the timing's whole windows: a division of u would make each step wait for the one before it.
-        let window = 2 * W::HALF;
+        let half = W::HALF;
+        let window = 2 * half;
         let part = (timing % window) as i32 + self.residual;
-        let mut step = Step {
-            cells: timing / window,
-            offset: part,
+        let whole = timing / window;
+        let step = if part < half as i32 {
+            Step {
+                cells: whole,
+                offset: part,
+            }
+        } else {
+            Step {
+                cells: whole + 1,
+                offset: part - window as i32,
+            }
         };
-        if W::HALF as i32 <= part {
-            step.cells += 1;
-            step.offset -= window as i32;
-        }
         self.residual = step.offset / 2;
         Ok(step)
     }
@@ -123,8 +131,9 @@ impl Separator {
 fn usable_residual<W: BitWindow>(residual: i32) -> i32
     ensures { result ≡ usable W.HALF residual }
 {
-    let least = -((W::HALF / 2) as i32);
-    let most = ((W::HALF - 1) / 2) as i32;
+    let half = W::HALF;
+    let least = -((half / 2) as i32);
+    let most = ((half - 1) / 2) as i32;
     if least <= residual && residual <= most {
         residual
     } else {

@@ -20,15 +20,17 @@ enum Written {
 }
 
 // Reads the input, by way of `buffer`, and then puts its image, or the line that says why there is none, at the front of `buffer`.
-fn image_input<R: Read>(from: &mut R, cells: &mut [u8], buffer: &mut [u8]) -> Written
-    requires { (length cells.old ≡ 16384) × (length buffer.old ≡ 65536) }
+fn image_input<R: Read>(
+    from: &mut R,
+    cells: &mut [u8; track_file::ROOM],
+    buffer: &mut [u8; 65536],
+) -> Written
     ensures few_output { output_count result ≤ 65536 }
     ensures few_message { message_count result ≤ 65536 }
     ensures image { ImagedInput (output_count result) (message_count result) buffer.new }
 {
     let start = track_file::start(cells);
-    let input = track_input::read_all(from, start, buffer, cells);
-    match input {
+    match track_input::read_all(from, start, buffer, cells) {
         Input::Ended(reader) => match file_image::image_file(reader, cells, buffer) {
             Ok(count) => Written::Output(count),
             Err(refusal) => Written::Message(write_refusal(refusal, buffer)),
@@ -38,6 +40,7 @@ fn image_input<R: Read>(from: &mut R, cells: &mut [u8], buffer: &mut [u8]) -> Wr
 }
 
 // Writes the line of a refusal.
+#[tactic(auto, unfolding(crate::specs::ImageOfInput::number_line, crate::specs::ImageOfInput::refusal_line, lines::specs::Lines::bytes_of))]
 fn write_refusal(refusal: Refusal, out: &mut [u8]) -> usize
     ensures answer { result ≡ length (refusal_line (number_of refusal) (value_of refusal)) }
     ensures few { result ≤ 20 }
@@ -50,6 +53,7 @@ fn write_refusal(refusal: Refusal, out: &mut [u8]) -> usize
 }
 
 // Writes the line of refusal 24, with the number that stands in the way.
+#[tactic(auto, unfolding(crate::specs::ImageOfInput::number_line, lines::specs::Lines::bytes_of))]
 fn write_number(value: usize, out: &mut [u8]) -> usize
     ensures answer { result ≡ 20 }
     ensures out { out.new ≡ out_after (number_line value) out.old }
@@ -61,6 +65,7 @@ fn write_number(value: usize, out: &mut [u8]) -> usize
 }
 
 // The last decimal digit of a number, as a character.
+#[tactic(auto, unfolding(lines::specs::Lines::digit))]
 fn last_digit(n: usize) -> u8
     ensures { result ≡ digit n }
 {
@@ -68,6 +73,7 @@ fn last_digit(n: usize) -> u8
 }
 
 // Writes the line of an input that cannot be read to its end.
+#[tactic(auto, unfolding(crate::specs::ImageOfInput::unreadable_line, lines::specs::Lines::bytes_of))]
 fn write_unreadable(out: &mut [u8]) -> usize
     ensures answer { result ≡ 46 }
     ensures out { out.new ≡ out_after unreadable_line out.old }
@@ -79,8 +85,7 @@ fn write_unreadable(out: &mut [u8]) -> usize
 fn main(rt: HostRuntime) {
     let mut cells = [0u8; track_file::ROOM];
     let mut buffer = system_calls::large_buffer();
-    let written = image_input(&mut rt.stdin(), &mut cells, &mut buffer);
-    let _ = match written {
+    let _ = match image_input(&mut rt.stdin(), &mut cells, &mut buffer) {
         Written::Output(count) => rt.stdout().write_all(&buffer[..count]),
         Written::Message(count) => rt.stderr().write_all(&buffer[..count]),
     };

@@ -5,37 +5,33 @@ use mathlib.Core.Bool.{Bool, true, false}
 use mathlib.Core.List.{List, [], ◌∷◌, ◌++◌}
 use native.Mathlib.Nat.{min-le_right}
 use native.Mathlib.Omega.{arith}
-use borrow.Author.Tests.{ltb-true, ltb-false}
+use borrow.Author.Tests.{eqb-true, eqb-false}
 use borrow.Rule.Slice.PartMut.{mid_of, post_of, put_mid, same_len_mid}
 use lib.IntN.{ℤ, pos, negsuc}
 use lib.ListN.{length, take, drop, length-take, length-drop}
 use lib.Seq.{length-take-le, take-append-le, take-append-add, take_at}
-use lib.Signed.{lt_z}
+use mir.Facts.{to_z-of_z}
+use mir.Syntax.{w64}
+use mir.Val.{SFits, of_z, to_z}
+use lib.Dec.{eqb}
 use Rattle.system_calls.specs.Counts.{count_in}
 use Rattle.standard_input.specs.Reading.{bytes_read, is_end, Brought, TakenRead, ReadOn}
 use Rattle.standard_input.specs.Reading.Brought.{none, more}
 
--- the three answers of a read, by the tests on its number
-pub failed : (got : ℤ) → lt_z got (pos 0) ≡ true → false ≡ is_end got
-unfolding is_end
-failed (pos n) e =
-    let z = ltb-true n 0 e in
-    let z' : ⊥ = omega arith in absurd z'
-failed (negsuc k) e = refl
+-- a read is at the end where it answered 0. The code reads the number that it answered from its bits
+module _ (got : ℤ) (fits : SFits w64 got) where
+  as-tested : (yes : Bool) → eqb (of_z w64 got) 0 ≡ yes → yes ≡ is_end got
+  unfolding is_end
+  as-tested true e = ap is_end (ap (λ (n : ℕ). to_z w64 n) (sym (eqb-true _ _ e)) ∙ to_z-of_z fits)
+  as-tested false e = other got (λ is. eqb-false _ _ e (ap (λ (z : ℤ). of_z w64 z) is))
+    where
+      other : (z : ℤ) → (z ≡ pos 0 → ⊥) → false ≡ is_end z
+      other (pos zero) h = absurd (h refl)
+      other (pos (suc n)) h = refl
+      other (negsuc k) h = refl
 
-pub brings : (got : ℤ) → lt_z (pos 0) got ≡ true → false ≡ is_end got
-unfolding is_end
-brings (pos zero) e = cc
-brings (pos (suc n)) e = refl
-brings (negsuc k) e = refl
-
-pub at-end : (got : ℤ) → lt_z got (pos 0) ≡ false → lt_z (pos 0) got ≡ false → true ≡ is_end got
-unfolding is_end
-at-end (pos zero) e f = refl
-at-end (pos (suc n)) e f =
-    let z = ltb-false 0 (suc n) f in
-    let z' : ⊥ = omega arith in absurd z'
-at-end (negsuc k) e f = cc
+  pub at_end-is_end : eqb (of_z w64 got) 0 ≡ is_end got
+  at_end-is_end = as-tested _ refl
 
 -- the bytes of a read are as many as its number counts, and stand at the front of its room
 counted : (got : ℤ) (room : List ℕ) → count_in got (length room) ≡ length (bytes_read got room)

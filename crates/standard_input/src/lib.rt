@@ -7,7 +7,7 @@ ghost use Rattle.standard_input.specs.Reading.{bytes_read, is_end, TakenRead, So
 use std::io::Read;
 
 // What was read: so many bytes, and whether the input ended after them. One that failed or goes on has not ended.
-#[derive(Clone, Copy)]
+#[derive(Clone, Copy, Debug)]
 pub struct Input {
     pub count: usize,
     pub ended: bool,
@@ -66,8 +66,5 @@ fn take_read(got: isize, room: &[u8]) -> Input
 fn at_end(got: isize) -> bool
     ensures { result ≡ is_end got }
 {
-    if got < 0 {
-        return false;
-    }
-    if 0 < got { false } else { true }
+    got == 0
 }

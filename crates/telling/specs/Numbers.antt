@@ -1,13 +1,11 @@
 -- Section 9 of the specification, rules 9.31 to 9.34, 9.37 and 9.54: answers as callers from C get them. The main property: a call returns a
 -- number, 0 where it is accepted and else the refusal's, and stores the value beside it. Assumes nothing.
-use Rattle.std.specs.Prelude.{ℕ, cond, List, [], ◌∷◌, ℤ, pos, length, take, Result, Ok, Err}
+use Rattle.std.specs.Prelude.{ℕ, cond, List, [], ◌∷◌, ℤ, length, take}
 use Rattle.basis.specs.Lists.{written_over}
 use Rattle.refusals.specs.RefusedCalls.{Answer}
 use Rattle.refusals.specs.RefusedCalls.Answer.{gives, refused}
-use Rattle.refusals.specs.declared.Refusal.{Refusal}
 use Rattle.sectors.specs.Calls.{DataRead}
 use Rattle.sector_records.specs.declared.Sector.{Sector}
-use Rattle.separator.specs.declared.Step.{Step}
 use Rattle.track_file.specs.TrackFile.{Content}
 use Rattle.two_reads.specs.GoodRead.{Part}
 
@@ -20,14 +18,6 @@ number_in (refused number value) = number
 abbrev pub value_in : Answer ℕ → ℕ
 value_in (gives count) = count
 value_in (refused number value) = value
-
--- what a step gives, and the offset beside it, which is 0 beside a refusal
-abbrev pub cells_in : Step → ℕ
-cells_in step = step.cells
-
-abbrev pub offset_beside : Result Step Refusal → ℤ
-offset_beside (Ok step) = step.offset
-offset_beside (Err refusal) = pos 0
 
 -- 9.37: a step stores its offset e. A refused one keeps what was there
 abbrev pub offset_stored : Answer ℕ → (e before : ℤ) → ℤ

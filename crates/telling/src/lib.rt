@@ -4,11 +4,12 @@
 
 ghost use Rattle.std.specs.Prelude.{◌≡◌, cond};
 ghost use Rattle.reader_as_number.specs.Numbers.{number_kept};
-ghost use Rattle.refusals.specs.RefusedCalls.{answer_of, answer_by};
+ghost use Rattle.refusals.specs.RefusedCalls.{answer_of};
 ghost use Rattle.sectors.specs.Calls.{read_out_answer};
+ghost use Rattle.separator.specs.Rule.{offset_given, taken_answer};
 ghost use Rattle.track_file.specs.Portions.{read_answer};
 ghost use Rattle.two_reads.specs.GoodRead.{good_part_answer};
-ghost use Rattle.telling.specs.Numbers.{number_in, value_in, cells_in, offset_beside, offset_stored, sector_numbers, value_read, check_read, value_given, place_given, part_length, which_read};
+ghost use Rattle.telling.specs.Numbers.{number_in, value_in, offset_stored, sector_numbers, value_read, check_read, value_given, place_given, part_length, which_read};
 
 use refusals::Refusal;
 use revolution_portions::RevolutionReader;
@@ -37,9 +38,9 @@ pub fn told(counted: Result<usize, Refusal>, value: &mut usize) -> u32
 
 // Tells the cells of a step, and stores its offset; beside a refusal that is kept.
 pub fn told_step(step: Result<Step, Refusal>, offset: &mut i32, value: &mut usize) -> u32
-    ensures number { result ≡ number_in (answer_by cells_in step) }
-    ensures value { value.new ≡ value_in (answer_by cells_in step) }
-    ensures offset { offset.new ≡ offset_stored (answer_by cells_in step) (offset_beside step) offset.old }
+    ensures number { result ≡ number_in (taken_answer step) }
+    ensures value { value.new ≡ value_in (taken_answer step) }
+    ensures offset { offset.new ≡ offset_stored (taken_answer step) (offset_given step) offset.old }
 {
     match step {
         Ok(step) => {
@@ -110,15 +111,14 @@ pub fn told_portion(
     ensures value { value.new ≡ value_in (answer_of answer) }
     ensures state { state.new ≡ number_kept (answer_of answer) state.old next }
 {
-    let advanced = reader_as_number::number_of_reader(next);
-    *state = match answer {
-        Ok(_) => advanced,
-        Err(_) => *state,
-    };
+    if answer.is_ok() {
+        *state = reader_as_number::number_of_reader(next);
+    }
     told(answer, value)
 }
 
 // A sector's record as numbers.
+#[tactic(auto, unfolding(crate::specs::Numbers::sector_numbers))]
 pub fn sector_numbers(sector: Sector) -> [u32; 13]
     ensures { result ≡ sector_numbers sector }
 {

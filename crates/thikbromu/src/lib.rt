@@ -282,10 +282,7 @@ pub extern "C" fn thikbromu_finding_records(
 
 // A track as C hands it over: n cells, packed in `bytes`, of this track and side of the drive.
 fn track_of(bytes: &[u8], n: usize, track: u32, side: u32) -> Track
-    ensures bytes { result.cells.bytes.now ≡ bytes.now }
-    ensures count { result.cells.count ≡ n }
-    ensures track { result.track ≡ track }
-    ensures side { result.side ≡ side }
+    ensures { result ≡ record { cells = record { bytes = bytes.entry; count = n }; track = track; side = side } }
 {
     let cells = Cells { bytes, count: n };
     Track { cells, track, side }

@@ -6,3 +6,4 @@ pub mod Filling
 pub mod Whole
 pub mod Stopping
 pub mod Settling
+pub mod Writing

@@ -10,7 +10,7 @@ use Rattle.refusals.specs.declared.Refusal.{Refusal}
 use Rattle.track_file.specs.TrackFile.{refused_at_once, file_answer_in}
 use Rattle.track_file.specs.Portions.{start_of, reader_after, reader_through, whole_of, is_stopped, finish_answer, AtOnce}
 use Rattle.file_reader.specs.declared.Reader.{Reader}
-use Rattle.file_reader.specs.declared.Reader.TheVariants.{Stopped}
+use Rattle.file_reader.specs.declared.Reader.TheVariants.{PlaceCount, Track, Side, CellCount, PackedCells, FluxCount, AllCells, NotATrackFile, Stopped}
 use Rattle.track_file.proofs.Endings.{reader-stays}
 use Rattle.track_file.proofs.Portions.{reader-cut, reader-joined}
 use Rattle.track_file.proofs.Whole.{whole-answer}
@@ -24,27 +24,29 @@ same_answer room file refusal is rest =
     let still : reader_after start (file ++ rest) ≡ reader_after start file = reader-cut start file rest ∙ ap (λ (s : Reader). reader_after s rest) is ∙ reader-stays refusal rest ∙ sym is in
     sym (whole-answer room (file ++ rest)) ∙ ap finish_answer still ∙ whole-answer room file
 
--- all that `stopped` promises
+differ : {X : Type 0} → false ≡ true → X
+differ t = let z : ◌≡◌ {A = ℕ} 0 1 = cc in let y : ⊥ = omega arith in absurd y
+
+-- whether the refusal is given is what the bytes so far say
 exactly-at-once : (reader : Reader) {answer : Bool} → answer ≡ is_stopped reader → (buffer : List ℕ) (portions : List (List ℕ)) → reader ≡ reader_through buffer portions
     → answer ≡ (ltb (length buffer) 16384 || refused_at_once (whole_of portions))
 exactly-at-once reader e buffer portions is =
     e ∙ ap is_stopped (is ∙ reader-joined (start_of (length buffer)) portions) ∙ from_start (length buffer) (whole_of portions)
 
-pub is-stopped : (reader : Reader) {refusal : Refusal} → reader ≡ Stopped refusal → (true ≡ is_stopped reader) × AtOnce reader true
+-- all that `stopped` promises
+settled-after : (reader : Reader) → is_stopped reader ≡ true → (buffer : List ℕ) (portions : List (List ℕ)) → reader ≡ reader_through buffer portions → (rest : List ℕ)
+    → file_answer_in (length buffer) (whole_of portions ++ rest) ≡ file_answer_in (length buffer) (whole_of portions)
 unfolding is_stopped
-is-stopped reader {refusal} e =
-    let yes = ap is_stopped (sym e) in (
-      yes,
-      record {
-        exactly = exactly-at-once reader yes;
-        settled = λ t buffer portions is rest.
-            same_answer (length buffer) (whole_of portions) refusal (sym (reader-joined (start_of (length buffer)) portions) ∙ sym is ∙ e) rest;
-      },
-    )
+settled-after (Stopped refusal) e buffer portions through rest =
+    same_answer (length buffer) (whole_of portions) refusal (sym (reader-joined (start_of (length buffer)) portions) ∙ sym through) rest
+settled-after (PlaceCount number) e buffer portions through rest = differ e
+settled-after Track e buffer portions through rest = differ e
+settled-after (Side track) e buffer portions through rest = differ e
+settled-after (CellCount place number) e buffer portions through rest = differ e
+settled-after (PackedCells place count at) e buffer portions through rest = differ e
+settled-after (FluxCount place cells number) e buffer portions through rest = differ e
+settled-after (AllCells place count) e buffer portions through rest = differ e
+settled-after NotATrackFile e buffer portions through rest = differ e
 
-pub not_stopped : (reader : Reader) → false ≡ is_stopped reader → (false ≡ is_stopped reader) × AtOnce reader false
-not_stopped reader is-not =
-    (is-not, record { exactly = exactly-at-once reader is-not; settled = λ t buffer portions is rest. absurd (differ t) })
-  where
-    differ : false ≡ true → ⊥
-    differ t = let z : ◌≡◌ {A = ℕ} 0 1 = cc in omega arith
+pub at_once : (reader : Reader) {answer : Bool} → answer ≡ is_stopped reader → AtOnce reader answer
+at_once reader is = record { exactly = exactly-at-once reader is; settled = λ t. settled-after reader (sym is ∙ t) }

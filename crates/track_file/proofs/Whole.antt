@@ -41,18 +41,16 @@ whole-buffer buffer file content = go (ltb (length buffer) 16384) refl
     go true e accepted = never (sym (ends-stopped (NoRoom 16384) file) ∙ accepted)
     go false e accepted = file-filled (length buffer) (ltb-false (length buffer) 16384 e) content file accepted
 
--- all that `finish` promises, from its answer
-pub finished : (reader : Reader) {answer : Answer Content} → answer ≡ finish_answer reader → (answer ≡ finish_answer reader) × WholeFile reader answer
-finished reader is-answer = (
-  is-answer,
-  record {
-    whole = λ buffer portions is-reader.
-        let start = start_of (length buffer) in
-        let ended = is-answer ∙ ap finish_answer (is-reader ∙ reader-joined start portions) in (
-          ended ∙ whole-answer (length buffer) (whole_of portions),
-          λ content accepted.
-              cells-joined start portions (start_cells buffer)
-              ∙ whole-buffer buffer (whole_of portions) content (sym ended ∙ accepted),
-        );
-  },
-)
+-- what `finish` promises of the whole file, from its answer
+pub whole_of_answer : (reader : Reader) {answer : Answer Content} → answer ≡ finish_answer reader → WholeFile reader answer
+whole_of_answer reader is-answer =
+    record {
+      whole = λ buffer portions is-reader.
+          let start = start_of (length buffer) in
+          let ended = is-answer ∙ ap finish_answer (is-reader ∙ reader-joined start portions) in (
+            ended ∙ whole-answer (length buffer) (whole_of portions),
+            λ content accepted.
+                cells-joined start portions (start_cells buffer)
+                ∙ whole-buffer buffer (whole_of portions) content (sym ended ∙ accepted),
+          );
+    }

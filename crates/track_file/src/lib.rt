@@ -2,7 +2,7 @@
 // cells go to a buffer that the caller lends to each call.
 #![tactic(auto)]
 
-ghost use Rattle.std.specs.Prelude.{◌≡◌, ◌+◌, ◌≤◌, length, drop};
+ghost use Rattle.std.specs.Prelude.{◌≡◌, ◌+◌, ◌≤◌, ◌<◌, length};
 ghost use Rattle.basis.specs.Lists.{written_over};
 ghost use Rattle.track_file.specs.TrackFile.{file_with};
 ghost use Rattle.track_file.specs.Portions.{start_of, start_cells, reader_after, cells_after, is_stopped, AtOnce, read_answer, finish_answer, WholeFile};
@@ -22,6 +22,7 @@ pub struct FileCells {
 }
 
 // The beginning, before any byte: the cell buffer is cleared, or refused where it has too little room (rule 10.11).
+#[tactic(auto, unfolding(crate::specs::Portions::start_of, crate::specs::Portions::start_cells), using(crate::proofs::Endings::cleared_whole))]
 pub fn start(cells: &mut [u8]) -> Reader
     ensures reader { result ≡ start_of (length cells.old) }
     ensures buffer { cells.new ≡ start_cells cells.old }
@@ -40,17 +41,18 @@ pub fn feed(reader: Reader, portion: &[u8], cells: &mut [u8]) -> Reader
     ensures buffer { cells.new ≡ cells_after reader portion.now cells.old }
 {
     let mut at = reader;
-    let mut i: usize = 0;
-    while i < portion.len() {
-        at = file_reader::feed_byte(at, portion[i], cells);
-        let fed = feed_packed(at, portion, i + 1, cells);
+    let mut rest = portion;
+    while let Some((byte, behind)) = rest.split_first() {
+        at = file_reader::feed_byte(at, *byte, cells);
+        let fed = feed_packed(at, behind, cells);
         at = fed.reader;
-        i = fed.to;
+        rest = fed.rest;
     }
     at
 }
 
 // Whether a refusal is given at once, so that no more of the file need be read (rule 10.13).
+#[tactic(auto, unfolding(crate::specs::Portions::is_stopped), using(crate::proofs::Settling::at_once))]
 pub fn stopped(reader: Reader) -> bool
     ensures answer { result ≡ is_stopped reader }
     ensures file { AtOnce reader result }
@@ -62,16 +64,10 @@ pub fn stopped(reader: Reader) -> bool
 }
 
 // The end of the file: what it gives (rule 10.14). It writes nothing: the cells stand in the buffer that the portions were fed with.
+#[tactic(auto, unfolding(crate::specs::Portions::finish_answer), using(crate::proofs::Whole::whole_of_answer))]
 pub fn finish(reader: Reader) -> Result<FileCells, Refusal>
     ensures answer { read_answer result ≡ finish_answer reader }
     ensures file { WholeFile reader (read_answer result) }
-{
-    given(reader)
-}
-
-// What the end of the file gives. A file that ends anywhere else is short.
-fn given(reader: Reader) -> Result<FileCells, Refusal>
-    ensures { read_answer result ≡ finish_answer reader }
 {
     match reader {
         Reader::AllCells(place, count) => Ok(FileCells {
@@ -80,56 +76,52 @@ fn given(reader: Reader) -> Result<FileCells, Refusal>
             count: count as usize,
         }),
         Reader::Stopped(refusal) => Err(refusal),
+        // A file that ends anywhere else is short.
         _ => Err(Refusal::NotATrackFile),
     }
 }
 
 // Puts a track file at the front of `out` (rule 10.1): the place, the cells, and no timings.
 pub fn write_file(track: u8, side: u8, count: usize, cells: &[u8], out: &mut [u8])
-    requires { 14 + length cells.now ≤ length out.old }
+    requires cells { count < 0x1_0000_0000 }
+    requires room { 14 + length cells.now ≤ length out.old }
     ensures { out.new ≡ written_over (file_with track side count cells.now) out.old }
 {
+    let [a, b, c, d] = (count as u32).to_le_bytes();
     let end = 10 + cells.len();
-    out[..4].copy_from_slice(&2u32.to_le_bytes());
-    out[4] = track;
-    out[5] = side;
-    out[6..10].copy_from_slice(&(count as u32).to_le_bytes());
+    out[..10].copy_from_slice(&[2, 0, 0, 0, track, side, a, b, c, d]);
     out[10..end].copy_from_slice(cells);
-    out[end..end + 4].copy_from_slice(&0u32.to_le_bytes());
+    out[end..end + 4].copy_from_slice(&[0; 4]);
 }
 
-// How far a portion is fed, and the reader there.
+// What is left of a portion, and the reader there.
 #[derive(Clone, Copy)]
-struct FedTo {
+struct Fed<'a> {
     reader: Reader,
-    to: usize,
+    rest: &'a [u8],
 }
 
-// Where the reader stands before packed cells at byte `from` of a portion: as many of them as the portion has, without the last byte, after
+// Where the reader stands before packed cells at the front of a portion: as many of them as the portion has, without the last byte, after
 // which the reader stands elsewhere. They are put in one loop: a reader made anew for each byte took most of the time.
-fn feed_packed(reader: Reader, portion: &[u8], from: usize, cells: &mut [u8]) -> FedTo
-    requires { from ≤ length portion.now }
-    ensures on { from ≤ result.to }
-    ensures within { result.to ≤ length portion.now }
-    ensures reader { reader_after result.reader (drop result.to portion.now) ≡ reader_after reader (drop from portion.now) }
-    ensures buffer { cells_after result.reader (drop result.to portion.now) cells.new ≡ cells_after reader (drop from portion.now) cells.old }
+fn feed_packed<'a>(reader: Reader, portion: &'a [u8], cells: &mut [u8]) -> Fed<'a>
+    ensures rest { length result.rest.now ≤ length portion.now }
+    ensures reader { reader_after result.reader result.rest.now ≡ reader_after reader portion.now }
+    ensures buffer { cells_after result.reader result.rest.now cells.new ≡ cells_after reader portion.now cells.old }
 {
     let Reader::PackedCells(place, count, first) = reader else {
-        return FedTo { reader, to: from };
+        return Fed {
+            reader,
+            rest: portion,
+        };
     };
-    let needed = ((count as usize) + 7) / 8;
-    let mut at = first;
-    let mut i = from;
-    while i < portion.len() {
-        if needed <= (at as usize) + 1 {
-            break;
-        }
-        file_reader::put_byte(cells, at, portion[i]);
-        at += 1;
-        i += 1;
+    let packed = ((count as usize) + 7) / 8;
+    let left = packed.saturating_sub(first as usize + 1);
+    let end = left.min(portion.len());
+    for (i, byte) in portion[..end].iter().enumerate() {
+        file_reader::put_byte(cells, first + i as u32, *byte);
     }
-    FedTo {
-        reader: Reader::PackedCells(place, count, at),
-        to: i,
+    Fed {
+        reader: Reader::PackedCells(place, count, first + end as u32),
+        rest: &portion[end..],
     }
 }

@@ -2,6 +2,7 @@
 use Prim.Native.Nat.{ℕ, ◌≤◌}
 use mathlib.Core.Path.{◌≡◌, ◌∙◌, ap, subst}
 use mathlib.Core.List.{List}
+use mathlib.Core.Logic.{◌⊎◌, inl, inr}
 use lib.ListN.{length, take}
 use Rattle.lines.specs.Lines.{out_after}
 use Rattle.listing.proofs.Laws.{front-in-room}
@@ -20,13 +21,10 @@ module _ (buffer : List ℕ) {first : Reader} {cleared : List ℕ} (started : (f
       → ListedInput buffer answer out
   listed a f = record { reads = through.reads; last = input; all = all-from-start buffer started through; answer_is = a; front_is = f }
 
-  pub still_open : (out : List ℕ) {reader : Reader} → input ≡ Open reader → ListedInput buffer 0 out
+  pub not_ended : (out : List ℕ) → ((reader : Reader) × (input ≡ Open reader)) ⊎ (input ≡ Failed) → ListedInput buffer 0 out
   unfolding listed_of
-  still_open out e = listed (rw e) (rw e)
-
-  pub read-failed : (out : List ℕ) → input ≡ Failed → ListedInput buffer 0 out
-  unfolding listed_of
-  read-failed out e = listed (rw e) (rw e)
+  not_ended out (inl (reader, e)) = listed (rw e) (rw e)
+  not_ended out (inr e) = listed (rw e) (rw e)
 
   pub has_ended : {reader : Reader} {before out : List ℕ} {answer : ℕ} → input ≡ Ended reader → WholeListing reader cells answer before out → answer ≤ length before
       → ListedInput buffer answer out

@@ -1,10 +1,10 @@
 -- What follows of kind 22 from the definitions: two reads that are accepted have no finding exactly where they are equal. Assumes nothing.
 use Prim.Native.Nat.{ℕ, ◌≤◌, zero-le}
-use mathlib.Core.Path.{◌≡◌, refl, sym}
+use mathlib.Core.Path.{◌≡◌, refl}
 use mathlib.Core.Bool.{Bool, true, false, cond}
 use mathlib.Core.List.{List}
 use native.Mathlib.Omega.{arith}
-use borrow.Author.Tests.{eqb-true, ltb-false, eq-eqb, not-false}
+use borrow.Author.Tests.{eqb-true, ltb-false, le-ltb, eq-eqb, not-false}
 use lib.Dec.{eqb, ltb}
 use lib.ListN.{length, get_or}
 use lib.Seq.{ext_get_or}
@@ -13,12 +13,16 @@ use Rattle.refusals.specs.RefusedCalls.{refused_with}
 use Rattle.refusals.specs.RefusedCalls.Answer.{gives}
 use Rattle.refusals.specs.declared.Refusal.TheVariants.{LengthsDiffer, NotASectorLength}
 use Rattle.two_reads.specs.Comparison.{is_read_length, pair_judged, differ_at, first_difference, comparison}
-use Rattle.two_reads.proofs.Branches.{told_same}
+
+accepted-same : (first second : List ℕ) → length first ≡ length second → is_read_length (length first) ≡ true → first_difference first second ≡ length first
+    → comparison first second ≡ gives 0
+unfolding comparison pair_judged
+accepted-same first second e h d = rw (eq-eqb _ _ e, h, le-ltb (first_difference first second) (length first) (omega arith)) refl
 
 -- a read beside itself has no finding
 pub equal-reads : (read : List ℕ) → is_read_length (length read) ≡ true → comparison read read ≡ gives 0
 unfolding first_difference
-equal-reads read h = sym (told_same read read refl h none).0
+equal-reads read h = accepted-same read read refl h none
   where
     none : first_difference read read ≡ length read
     none = let e = least-none (differ_at read read) (length read) 0 (λ q l. rw (eq-eqb (get_or read q 0) (get_or read q 0) refl)) in omega arith

@@ -1,4 +1,2 @@
-pub mod Pairs
 pub mod Parts
-pub mod Branches
 pub mod Laws

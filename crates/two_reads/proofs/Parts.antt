@@ -6,6 +6,7 @@ use mathlib.Core.Bool.{Bool, true, false, cond}
 use mathlib.Core.List.{List}
 use native.Mathlib.Omega.{arith}
 use lib.Dec.{eqb}
+use Rattle.std.specs.Prelude.{Result, Ok, Err}
 use lib.ListN.{length, take}
 use Rattle.refusals.specs.RefusedCalls.{refused_with}
 use Rattle.refusals.specs.RefusedCalls.Answer.{gives}
@@ -14,7 +15,6 @@ use Rattle.refusals.specs.declared.Refusal.TheVariants.{LengthsDiffer, NotASecto
 use Rattle.two_reads.specs.Comparison.{is_read_length, pair_judged}
 use Rattle.two_reads.specs.GoodRead.{data_bytes, Part, empty_part, good_part_of, part_answer, good_part_answer, part_given, IsPart}
 use Rattle.two_reads.specs.declared.GoodPart.{GoodPart}
-use Rattle.two_reads.specs.declared.GoodPart.TheVariants.{Of, Refused}
 
 -- a part of reads that lies within the one that it is of
 record Within (first second : List ℕ) (part : Part) : Type 0 where
@@ -48,23 +48,26 @@ within first second mark = go (eqb (length first) (length second)) (is_read_leng
     go true true h = h
 
 -- what the code's answer says of the part
-module _ (first second : List ℕ) (mark : ℕ) {answer : GoodPart} (e : good_part_answer answer ≡ part_answer first second mark) where
-  part-is : {b : Bool} {n : ℕ} → answer ≡ Of b n → record { second = b; count = n } ≡ part_given (part_answer first second mark)
+abbrev part_of : GoodPart → Part
+part_of part = record { second = part.second; count = part.count }
+
+module _ (first second : List ℕ) (mark : ℕ) {answer : Result GoodPart Refusal} (e : good_part_answer answer ≡ part_answer first second mark) where
+  part-is : {part : GoodPart} → answer ≡ Ok part → part_of part ≡ part_given (part_answer first second mark)
   part-is p = ap part_given (rw p at e)
 
-  none_is : {refusal : Refusal} → answer ≡ Refused refusal → empty_part ≡ part_given (part_answer first second mark)
+  none_is : {refusal : Refusal} → answer ≡ Err refusal → empty_part ≡ part_given (part_answer first second mark)
   none_is p = ap part_given (rw p at e)
 
-  pub fits : {b : Bool} {n : ℕ} → answer ≡ Of b n → (side : Bool) → b ≡ side → n ≤ length (cond side second first)
-  fits {b} {n} p side s = rw (← s) (rw (← part-is p) at (within first second mark)).few
+  pub fits : {part : GoodPart} → answer ≡ Ok part → (side : Bool) → part.second ≡ side → part.count ≤ length (cond side second first)
+  fits p side s = rw (← s) (rw (← part-is p) at (within first second mark)).few
 
 -- a slice is the part
-module _ (first second : Bor (List ℕ)) (mark : ℕ) {answer : GoodPart} (e : good_part_answer answer ≡ part_answer first.now second.now mark) where
-  pub is-part : {b : Bool} {n : ℕ} → answer ≡ Of b n → (side : Bool) → b ≡ side → (slice : Bor (List ℕ)) → slice.ref_ptr ≡ (cond side second first).ref_ptr
-      → slice.now ≡ take n (cond side second first).now → IsPart slice first second (part_given (part_answer first.now second.now mark))
+module _ (first second : Bor (List ℕ)) (mark : ℕ) {answer : Result GoodPart Refusal} (e : good_part_answer answer ≡ part_answer first.now second.now mark) where
+  pub is-part : {part : GoodPart} → answer ≡ Ok part → (side : Bool) → part.second ≡ side → (slice : Bor (List ℕ)) → slice.ref_ptr ≡ (cond side second first).ref_ptr
+      → slice.now ≡ take part.count (cond side second first).now → IsPart slice first second (part_given (part_answer first.now second.now mark))
   is-part p side s slice begins bytes =
       rw (← part-is first.now second.now mark e p) (record { begins = rw s begins; bytes = rw s bytes })
 
-  pub is_none : {refusal : Refusal} → answer ≡ Refused refusal → (slice : Bor (List ℕ)) → slice.ref_ptr ≡ first.ref_ptr → slice.now ≡ take 0 first.now
+  pub is_none : {refusal : Refusal} → answer ≡ Err refusal → (slice : Bor (List ℕ)) → slice.ref_ptr ≡ first.ref_ptr → slice.now ≡ take 0 first.now
       → IsPart slice first second (part_given (part_answer first.now second.now mark))
   is_none p slice begins bytes = rw (← none_is first.now second.now mark e p) (record { begins = begins; bytes = bytes })

@@ -2,7 +2,7 @@
 // data bytes of a sector with the two check bytes behind them.
 #![tactic(auto)]
 
-ghost use Rattle.std.specs.Prelude.{◌≡◌, ℕ, ◌≤◌, ◌<◌, Some, length, unwrap_or};
+ghost use Rattle.std.specs.Prelude.{◌≡◌, ℕ, ◌≤◌, ◌<◌, Ok, Some, true, length, unwrap_or};
 ghost use Rattle.refusals.specs.RefusedCalls.{answer_of, answer_by};
 ghost use Rattle.refusals.specs.RefusedCalls.Answer.{gives};
 ghost use Rattle.two_reads.specs.Comparison.{pair_judged, is_read_length, findings_in, numbers_in, first_difference, differing_bits, comparison, fuzzy_numbers, numbers_given};
@@ -22,7 +22,12 @@ pub const FUZZY: u32 = 22;
 
 // The four numbers of FZD, where two reads differ: its place is the least index at which they do, its detail how many bits differ. The data mark is
 // part of no read, so it changes nothing here.
-pub fn compare_reads(first: &[u8], second: &[u8], data_mark: u8) -> Result<Option<[u32; 4]>, Refusal>
+#[tactic(auto, unfolding(crate::specs::Comparison::pair_judged, crate::specs::Comparison::comparison, crate::specs::Comparison::fuzzy_numbers))]
+pub fn compare_reads(
+    first: &[u8],
+    second: &[u8],
+    data_mark: u8,
+) -> Result<Option<[u32; 4]>, Refusal>
     ensures answer { answer_by findings_in result ≡ comparison first.now second.now }
     ensures numbers { numbers_in result ≡ numbers_given (comparison first.now second.now) (fuzzy_numbers first.now second.now) }
 {
@@ -55,6 +60,7 @@ pub fn good_read<'a>(first: &'a [u8], second: &'a [u8], data_mark: u8) -> &'a [u
 }
 
 // Which read that part is of, and how long it is, for callers who need to know.
+#[tactic(auto, unfolding(crate::specs::Comparison::pair_judged, crate::specs::GoodRead::part_answer, crate::specs::GoodRead::good_part_of))]
 pub fn good_part(first: &[u8], second: &[u8], data_mark: u8) -> Result<GoodPart, Refusal>
     ensures { good_part_answer result ≡ part_answer first.now second.now data_mark }
 {
@@ -81,8 +87,10 @@ pub fn good_part(first: &[u8], second: &[u8], data_mark: u8) -> Result<GoodPart,
 const CHECK_BYTES: usize = 2;
 
 // Whether two reads have the same length, and that of a read (rule 14.2).
+#[tactic(auto, unfolding(crate::specs::Comparison::pair_judged))]
 fn judge_pair(first: &[u8], second: &[u8]) -> Result<(), Refusal>
-    ensures { answer_of result ≡ pair_judged first.now second.now (gives tt) }
+    ensures answer { answer_of result ≡ pair_judged first.now second.now (gives tt) }
+    ensures lengths { (u : Unit) → result ≡ Ok u → (length first.now ≡ length second.now) × (2 ≤ length first.now) × (length first.now ≤ 1026) }
 {
     if first.len() != second.len() {
         return Err(Refusal::LengthsDiffer);
@@ -94,8 +102,10 @@ fn judge_pair(first: &[u8], second: &[u8]) -> Result<(), Refusal>
 }
 
 // Whether a read may have n bytes: 128, 256, 512 or 1,024 data bytes, and the check bytes.
+#[tactic(auto, unfolding(crate::specs::Comparison::is_read_length))]
 fn is_read_length(n: usize) -> bool
-    ensures { result ≡ is_read_length n }
+    ensures length { result ≡ is_read_length n }
+    ensures bounds { result ≡ true → (2 ≤ n) × (n ≤ 1026) }
 {
     matches!(n, 130 | 258 | 514 | 1026)
 }
@@ -103,8 +113,8 @@ fn is_read_length(n: usize) -> bool
 // The least index at which the reads differ.
 fn first_difference(first: &[u8], second: &[u8]) -> Option<usize>
     requires { length first.now ≡ length second.now }
-    ensures { unwrap_or result (length first.now) ≡ first_difference first.now second.now }
-    ensures { (i : ℕ) → result ≡ Some i → i < length first.now }
+    ensures least { unwrap_or result (length first.now) ≡ first_difference first.now second.now }
+    ensures inside { (i : ℕ) → result ≡ Some i → i < length first.now }
 {
     for i in 0..first.len() {
         if first[i] != second[i] {
@@ -127,6 +137,7 @@ fn differing_bits(first: &[u8], second: &[u8]) -> u32
 }
 
 // Whether the check of a read is good.
+#[tactic(auto, unfolding(crate::specs::GoodRead::check_is_good))]
 fn is_good(read: &[u8], data_mark: u8) -> bool
     requires { 2 ≤ length read.now }
     ensures { result ≡ check_is_good read.now data_mark }

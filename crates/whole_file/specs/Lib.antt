@@ -1,2 +1,1 @@
 pub mod FileCells
-pub mod PrivateContracts

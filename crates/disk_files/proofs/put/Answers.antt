@@ -5,4 +5,4 @@ use Rattle.disk_lines.proofs.Writing.{part-wrote}
 use Rattle.disk_files.proofs.put.Goals as goal
 
 pub returns : goal.returns
-returns c = (part-wrote _ _ _ _ c.smaller-start.ensures.0 c.smaller-start.ensures.2 c.copy.ensures (le_refl _) refl).bytes
+returns c = (part-wrote _ _ _ _ c.min-start.ensures c.copy.ensures (le_refl _) refl).bytes

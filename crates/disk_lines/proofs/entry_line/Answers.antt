@@ -10,7 +10,6 @@ use Rattle.disk_lines.proofs.entry_line.Goals as goal
 
 pub overflow_add-result : goal.overflow_add-result
 overflow_add-result c =
-    let s = c in
     let w = c.write_start-next.ensures in
     omega (
       arith,
@@ -23,7 +22,6 @@ overflow_add-result c =
 pub returns : goal.returns
 unfolding entry_line
 returns c =
-    let s = c in
     let few = finding-few c.args.kind c.args.level c.args.place c.args.detail c.ranges.kind.fits c.ranges.level.fits c.ranges.place.fits c.ranges.detail.fits in
-    let line = part-wrote _ _ _ _ c.smaller-from.ensures.0 c.smaller-from.ensures.2 c.finding_line-length.ensures.out few (ap (λ (n : ℕ). c.write_start-next.result + n) c.finding_line-length.ensures.answer) in
+    let line = part-wrote _ _ _ _ c.min-from.ensures c.finding_line-length.ensures.out few (ap (λ (n : ℕ). c.write_start-next.result + n) c.finding_line-length.ensures.answer) in
     wrote-few {n = 80} (omega arith) (c.write_start-next.ensures then line)

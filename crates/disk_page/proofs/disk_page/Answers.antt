@@ -1,14 +1,20 @@
--- `disk_page::disk_page` meets its contract. Assumes nothing.
-use mathlib.Core.Path.{sym, ap, ◌∙◌}
+-- Where the disk is accepted. Assumes nothing.
+use Rattle.std.proofs.Common.{sym, ap, ◌∙◌, rules}
 use Rattle.refusals.specs.RefusedCalls.{answer_of}
-use Rattle.disk_page.proofs.Calls.{whole, refused-told, accepted-told}
+use Rattle.disk_page.proofs.Calls.{whole, accepted-told}
 use Rattle.disk_page.proofs.disk_page.Goals as goal
 
-pub write_page-requires : goal.write_page-requires
-write_page-requires c = whole _ _ (sym c.judge_tracks-judged.ensures ∙ ap answer_of c.in-Count.is)
+pub invariant_of-disk : goal.invariant_of-disk
+invariant_of-disk c =
+    record { whole = whole c.args.tracks.now c.args.findings.now (sym c.judge_tracks.ensures ∙ ap answer_of c.in_ok-judge_tracks.was) }
 
-pub returns-in-Refused : goal.returns-in-Refused
-returns-in-Refused c = let both = refused-told _ _ _ c.in-Refused.refusal (sym c.judge_tracks-judged.ensures ∙ ap answer_of c.in-Refused.is) in record { answer = both.0; out = both.1 }
+pub returns-clause-answer : goal.returns-clause-answer
+returns-clause-answer c =
+    let e = sym c.judge_tracks.ensures ∙ ap answer_of c.in_ok-judge_tracks.was in
+    (accepted-told c.args.tracks.now c.args.findings.now c.args.out.now e c.write_page.ensures.wrote).0
 
-pub returns-in-Count : goal.returns-in-Count
-returns-in-Count c = let both = accepted-told _ _ _ (sym c.judge_tracks-judged.ensures ∙ ap answer_of c.in-Count.is) c.write_page.ensures in record { answer = both.0; out = both.1 }
+pub returns-clause-out : goal.returns-clause-out
+returns-clause-out c =
+    let e = sym c.judge_tracks.ensures ∙ ap answer_of c.in_ok-judge_tracks.was in
+    let told = accepted-told c.args.tracks.now c.args.findings.now c.args.out.now e c.write_page.ensures.wrote in
+    search (rules, told.1)

@@ -1,21 +1,32 @@
--- `disk_tracks::is_before` meets its contract: none of the first i tracks is the one. Assumes nothing.
-use mathlib.Core.Path.{sym, ◌∙◌}
-use native.Mathlib.Omega.{arith}
-use Prim.Native.Nat.{◌-◌}
+-- None of the first tracks is the one. Assumes nothing.
+use Rattle.std.proofs.Common.{◌≡◌, List, ℕ, ◌*◌, length, ◌/◌, ◌<◌, ◌≤◌, sym, ◌∙◌, arith, refl, take}
+use Rattle.std.proofs.lemmas.List.{length-take-le}
+use Rattle.disk_tracks.specs.Given.{some}
 use Rattle.disk_tracks.specs.Judgement.{is_at}
-use Rattle.disk_tracks.proofs.Some.{some-hit, look-first, look-on, look-end}
+use Rattle.disk_tracks.proofs.Some.{some_hit, none_more}
+use Rattle.disk_tracks.proofs.Chunks.{is_track_before}
 use Rattle.disk_tracks.proofs.is_before.Goals as goal
 
-pub loop-i-init : goal.loop-i-init
-loop-i-init c = look-first _ _
+-- a place in the rows of the front is one before the end
+of-front : {i n : ℕ} (tracks : List ℕ) (end : ℕ) → 3 * end ≤ length tracks → n ≡ length (take (3 * end) tracks) / 3 → i < n → i < end
+of-front tracks end w e h = let l = length-take-le (3 * end) tracks w in omega (arith, e, h, l)
 
-pub returns-then-is_same : goal.returns-then-is_same
+pub loop-earlier_track-init : goal.loop-earlier_track-init
+unfolding some
+loop-earlier_track-init c = refl
+
+pub returns-then-eq : goal.returns-then-eq
 unfolding is_at
-returns-then-is_same c = sym (some-hit _ _ _ c.loop-i-test.true (sym c.is_same.ensures ∙ c.if-is_same.true))
+returns-then-eq c =
+    let i = c.loop-earlier_track.earlier_track-index in
+    let h : i < c.args.end = of-front c.args.tracks.now c.args.end c.requires c.as_chunks.ensures.front_len c.loop-earlier_track-test.true in
+    let t = is_track_before c.args.tracks.now c.args.end i c.as_chunks.ensures.front c.requires h in
+    sym (some_hit _ _ i h (rw (t.track, t.side) at (sym c.eq.ensures ∙ c.if-eq.true)))
 
-pub loop-i-preserved : goal.loop-i-preserved
+pub loop-earlier_track-preserved : goal.loop-earlier_track-preserved
 unfolding is_at
-loop-i-preserved c = look-on _ c.loop-i.invariant c.loop-i-test.true (sym c.is_same.ensures ∙ c.if-is_same.false)
-
-pub returns : goal.returns
-returns c = look-end _ c.loop-i.invariant (omega arith)
+loop-earlier_track-preserved c =
+    let i = c.loop-earlier_track.earlier_track-index in
+    let h : i < c.args.end = of-front c.args.tracks.now c.args.end c.requires c.as_chunks.ensures.front_len c.loop-earlier_track-test.true in
+    let t = is_track_before c.args.tracks.now c.args.end i c.as_chunks.ensures.front c.requires h in
+    none_more _ _ c.loop-earlier_track.invariant (rw (t.track, t.side) at (sym c.eq.ensures ∙ c.if-eq.false))

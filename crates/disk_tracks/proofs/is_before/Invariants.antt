@@ -1,11 +1,8 @@
--- `disk_tracks::is_before` meets its contract: none of the first i tracks is the one. Assumes nothing.
-use Prim.Native.Nat.{◌-◌}
+-- None of the first tracks is the one. Assumes nothing.
+use Rattle.std.proofs.Common.{◌≡◌, false}
+use Rattle.disk_tracks.specs.Given.{some}
 use Rattle.disk_tracks.specs.Judgement.{is_at}
-use Rattle.disk_tracks.proofs.Some.{Looked}
 use Rattle.disk_tracks.proofs.is_before.Given as goal
 
-abbrev pub invariant-loop-i : goal.invariant-loop-i
-invariant-loop-i l = Looked (is_at l.tracks l.side l.track) l.end l.i
-
-abbrev pub decreases-loop-i : goal.decreases-loop-i
-decreases-loop-i l = l.end - l.i
+abbrev pub invariant-loop-earlier_track : goal.invariant-loop-earlier_track
+invariant-loop-earlier_track l = some (is_at l.tracks l.side l.track) l.earlier_track-index ≡ false

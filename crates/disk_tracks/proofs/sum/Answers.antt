@@ -1,17 +1,16 @@
--- `disk_tracks::sum` meets its contract: the findings of i tracks are summed. Assumes nothing.
-use Prim.Native.Nat.{◌-◌}
-use native.Mathlib.Omega.{arith}
-use Rattle.disk_tracks.proofs.Sums.{sum_first, sum-on, sum-end}
+-- The findings of the first tracks are summed. Assumes nothing.
+use Rattle.std.proofs.Common.{◌+◌, ◌*◌, arith, refl}
+use Rattle.disk_tracks.specs.Given.{before}
+use Rattle.disk_tracks.proofs.Chunks.{is_track}
 use Rattle.disk_tracks.proofs.sum.Goals as goal
+use Rattle.disk_tracks.proofs.Sums.{before_more}
 
-pub loop-i-init : goal.loop-i-init
-loop-i-init c = sum_first _ _
+pub loop-own-init : goal.loop-own-init
+unfolding before
+loop-own-init c = (refl, omega arith)
 
-pub overflow_add-all : goal.overflow_add-all
-overflow_add-all c = omega (arith, c.loop-i.invariant.few, c.wide-all.ensures.1, c.requires)
-
-pub loop-i-preserved : goal.loop-i-preserved
-loop-i-preserved c = sum-on _ c.loop-i.invariant c.loop-i-test.true c.wide-all.ensures.0 c.wide-all.ensures.1
-
-pub returns : goal.returns
-returns c = sum-end _ c.loop-i.invariant (omega arith)
+pub loop-own-preserved : goal.loop-own-preserved
+loop-own-preserved c =
+    let i = c.loop-own.own-index in
+    let t = is_track c.args.tracks.now i c.as_chunks.ensures.front (omega (arith, c.as_chunks.ensures.front_len, c.loop-own-test.true)) in
+    (omega (arith, before_more c.args.tracks.now i, c.loop-own.invariant.0, t.own), omega (arith, c.loop-own.invariant.1, t.own, (c.type_inv.tracks (3 * i + 2)).fits))

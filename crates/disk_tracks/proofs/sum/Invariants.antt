@@ -1,10 +1,7 @@
--- `disk_tracks::sum` meets its contract: the findings of i tracks are summed. Assumes nothing.
-use Prim.Native.Nat.{◌-◌}
-use Rattle.disk_tracks.proofs.Sums.{Summed}
+-- The findings of the first tracks are summed. Assumes nothing.
+use Rattle.std.proofs.Common.{◌≡◌, ◌≤◌, ◌*◌}
+use Rattle.disk_tracks.specs.Given.{before}
 use Rattle.disk_tracks.proofs.sum.Given as goal
 
-abbrev pub invariant-loop-i : goal.invariant-loop-i
-invariant-loop-i l = Summed l.tracks l.count l.i l.all
-
-abbrev pub decreases-loop-i : goal.decreases-loop-i
-decreases-loop-i l = l.count - l.i
+abbrev pub invariant-loop-own : goal.invariant-loop-own
+invariant-loop-own l = (l.all ≡ before l.tracks l.own-index) × (l.all ≤ 0x1_0000_0000 * l.own-index)

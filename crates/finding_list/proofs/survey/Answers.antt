@@ -1,37 +1,60 @@
 -- `finding_list::survey` meets its contract. Assumes nothing.
-use Prim.Native.Nat.{◌≤◌}
-use mathlib.Core.Path.{sym, ap, ◌∙◌}
+use Prim.Native.Nat.{ℕ, ◌+◌, ◌/◌}
+use mathlib.Core.Path.{◌≡◌, refl}
+use mathlib.Core.List.{List}
 use native.Mathlib.Omega.{arith}
-use lib.ListN.{length}
-use Rattle.finding_list.proofs.Bounds.{sectors-on}
-use Rattle.finding_list.proofs.Outcome.{survey-refused, survey-given}
-use Rattle.refusals.specs.RefusedCalls.{number_of, value_of, answer_of}
-use Rattle.sector_records.specs.Sectors.{sectors_of}
-use Rattle.sectors.proofs.Calls.{list-accepted, enough-cells, listed-sectors}
+use Rattle.std.proofs.Common.{rules, Err}
+use Rattle.cells.proofs.Places.{cell-round}
+use Rattle.cells.specs.CellsAndBytes.{cell}
+use Rattle.cell_words.specs.Words.{Holds}
+use Rattle.finding_list.proofs.Outcome.{survey-refused, count-few, sectors-bounded, survey-given}
+use Rattle.finding_list.specs.PrivateContracts.{SyncMap}
 use Rattle.layouts.specs.Layouts.{layout_of}
+use Rattle.layouts.specs.declared.Layout.{Layout}
 use Rattle.layouts.proofs.Soundness.{sound}
+use Rattle.sector_records.specs.Marks.{word_mark_at}
 use Rattle.finding_list.proofs.survey.Goals as goal
 
 -- an answer, the number of sectors and the numbers, as the clauses have them
 three : {A B C : Type 0} → A × (B × C) → record { answer : A; sectors : B; numbers : C }
 three p = record { answer = p.0; sectors = p.1.0; numbers = p.1.1 }
 
-pub all_kinds-count-requires : goal.all_kinds-count-requires
-all_kinds-count-requires c =
-    let a = c.args in
-    let accepted = sym c.sectors_with_maps-listed.ensures.answer ∙ ap answer_of c.in-Count.is in
-    let l = list-accepted (layout_of a.density) a.bytes.now a.n a.track a.side c.in-Count.sectors accepted in
-    let few : length (sectors_of (layout_of a.density) a.bytes.now a.n) ≤ 64 = omega (arith, l.0, l.1) in
-    record { bounded_track = sectors-on (layout_of a.density) a.bytes.now a.n _ (listed-sectors (layout_of a.density) a.bytes.now a.n a.track a.side c.in-Count.sectors (sym accepted) _ c.sectors_with_maps-listed.ensures.sectors) few (sound a.density) (enough-cells (layout_of a.density) a.bytes.now a.n a.track a.side c.in-Count.sectors accepted) l.2; track_maps = c.sectors_with_maps-listed.ensures.maps c.in-Count.sectors (ap answer_of c.in-Count.is) }
+-- a map written out
+written : (layout : Layout) (bytes : List ℕ) (n : ℕ) (syncs : List ℕ) → Holds (word_mark_at (cell bytes n) layout.sync) syncs (n / 64 + 64) → SyncMap layout bytes n syncs
+unfolding Holds
+written layout bytes n syncs map = map
 
-pub returns-in-Refused : goal.returns-in-Refused
-returns-in-Refused c =
+pub returns-in_err-listed : goal.returns-in_err-listed
+returns-in_err-listed c =
     let a = c.args in
-    let g = sym (ap answer_of c.in-Refused.is) ∙ c.sectors_with_maps-listed.ensures.answer in
-    three (survey-refused (layout_of a.density) (sound a.density) a.bytes.now a.n a.track a.side (number_of c.in-Refused.refusal) (value_of c.in-Refused.refusal) g a.numbers.now)
+    let t = a.track in
+    let same : c.from_residual.result ≡ Err c.in_err-listed.field-0.0 = search rules in
+    rw same (three (survey-refused (layout_of a.density) (sound a.density) t.cells.bytes.now t.cells.count t.track t.side _ _ c.in_err-listed.ensures.answer a.numbers.now))
 
-pub returns-in-Count : goal.returns-in-Count
-returns-in-Count c =
+pub shared_ref_as_front-sectors : goal.shared_ref_as_front-sectors
+shared_ref_as_front-sectors c = let l = c.in_ok-listed in count-few c.args.density c.args.track l.listed l.ensures.answer l.ensures.sectors
+
+pub overflow_cast-track : goal.overflow_cast-track
+overflow_cast-track c = let l = c.in_ok-listed in omega (arith, (sectors-bounded c.args.density c.args.track l.listed l.ensures.answer l.ensures.sectors).short)
+
+pub are_apart-requires : goal.are_apart-requires
+are_apart-requires c = let l = c.in_ok-listed in sectors-bounded c.args.density c.args.track l.listed l.ensures.answer l.ensures.sectors
+
+pub invariant_of-survey : goal.invariant_of-survey
+invariant_of-survey c =
     let a = c.args in
-    let accepted = sym c.sectors_with_maps-listed.ensures.answer ∙ ap answer_of c.in-Count.is in
-    three (survey-given (layout_of a.density) (sound a.density) a.bytes.now a.n a.track a.side c.in-Count.sectors accepted _ (listed-sectors (layout_of a.density) a.bytes.now a.n a.track a.side c.in-Count.sectors (sym accepted) _ c.sectors_with_maps-listed.ensures.sectors) a.numbers.now _ _ c.all_kinds-count.ensures)
+    let cells = a.track.cells in
+    let l = c.in_ok-listed in
+    let maps = l.ensures.maps l.listed refl in
+    let b = sectors-bounded a.density a.track l.listed l.ensures.answer l.ensures.sectors in
+    record {
+      bounded = b;
+      sync_map = written (layout_of a.density) cells.bytes.now cells.count _ maps.syncs_are;
+      gaps_found = c.find_gaps.ensures (cell cells.bytes.now cells.count) (cell-round cells.bytes.now cells.count) (omega (arith, b.long)) b.short maps.ones;
+      lie_apart = c.are_apart.ensures;
+    }
+
+pub returns : goal.returns
+returns c =
+    let l = c.in_ok-listed in
+    three (survey-given c.args.density c.args.track l.listed l.ensures.answer l.ensures.sectors c.args.numbers.now _ _ c.all_kinds.ensures)

@@ -1,11 +1,10 @@
--- `flux_file::feed` meets its contract: after i turns what is left of the portion leads to the same end. Assumes nothing.
-use Prim.Native.Nat.{◌-◌}
+-- `flux_file::feed` meets its contract: after each turn what is left of the portion leads to the same end. Assumes nothing.
 use lib.ListN.{length}
 use Rattle.flux_file.proofs.Portions.{Fed}
 use Rattle.flux_file.proofs.feed.Given as goal
 
-abbrev pub invariant-loop-i : goal.invariant-loop-i
-invariant-loop-i l = Fed l.portion l.initial.cells l.initial.at 0 l.cells l.at l.i
+abbrev pub invariant-loop-byte : goal.invariant-loop-byte
+invariant-loop-byte l = Fed l.initial.rest l.initial.cells l.initial.at l.rest l.cells l.at
 
-abbrev pub decreases-loop-i : goal.decreases-loop-i
-decreases-loop-i l = length l.portion - l.i
+abbrev pub decreases-loop-byte : goal.decreases-loop-byte
+decreases-loop-byte l = length l.rest

@@ -7,4 +7,4 @@ use Rattle.sector_records.proofs.no_sectors.Goals as goal
 
 pub returns : goal.returns
 unfolding kept
-returns c = ap (λ (zeros : Sector). record { all = replicate 64 zeros; count = 0 }) c.no_sector-zeros.ensures
+returns c = ap (λ (zeros : Sector). record { all = replicate 64 zeros; count = 0 }) c.no_sector.ensures

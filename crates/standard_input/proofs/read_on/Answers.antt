@@ -5,7 +5,7 @@ use Rattle.standard_input.proofs.Reading.{at_first, as_long, in_block, next-byte
 use Rattle.standard_input.proofs.read_on.Goals as goal
 
 pub loop-count-init : goal.loop-count-init
-loop-count-init g c = at_first _ _ c.smaller-count.ensures.0
+loop-count-init g c = at_first _ _ c.min-count.ensures
 
 pub shape_of-room-then-more-eq0 : goal.shape_of-room-then-more-eq0
 shape_of-room-then-more-eq0 g c =

@@ -1,34 +1,31 @@
 -- `revolution_portions::RevolutionReader::take` meets its contract. Assumes nothing.
-use native.Mathlib.Omega.{arith}
-use Rattle.revolution_portions.proofs.Taking.{used-few, take-too-many, take-one-out, take-no-room, take-given, told}
+use Rattle.std.proofs.Common.{arith}
+use Rattle.revolution_values.specs.Values.{capped}
+use Rattle.revolution_portions.proofs.Taking.{take-too-many, take-one-out, take-no-room, take-given}
 use Rattle.revolution_portions.proofs.Timings.{ending-few}
 use Rattle.revolution_portions.proofs.RevolutionReader.take.Goals as goal
 
-pub look-seen-requires : goal.look-seen-requires
-look-seen-requires c = (used-few _ c.usable-reader.ensures).0
+pub overflow_add-all : goal.overflow_add-all
+overflow_add-all c =
+    omega (arith, c.usable-reader.ensures.few_timings, c.pass-seen.ensures.count, ending-few (capped c.usable-reader.result.unfinished) c.args.portion.now)
 
-pub overflow_add-before : goal.overflow_add-before
-overflow_add-before c =
-    let u = c.usable-reader in
-    omega (arith, (used-few _ u.ensures).1, c.look-seen.ensures.count_is, ending-few u.result.unfinished c.args.portion.now)
+pub returns-then-all-gt-MOST_TIMINGS : goal.returns-then-all-gt-MOST_TIMINGS
+returns-then-all-gt-MOST_TIMINGS c =
+    let seen = c.pass-seen.ensures in
+    take-too-many _ _ _ c.usable-reader.ensures.is seen.unfinished seen.count seen.out c.if-all-gt-MOST_TIMINGS.true
 
-pub overflow_add-before-then-before-count-gt-MOST_TIMINGS : goal.overflow_add-before-then-before-count-gt-MOST_TIMINGS
-overflow_add-before-then-before-count-gt-MOST_TIMINGS c =
-    let u = c.usable-reader in
-    omega (arith, (used-few _ u.ensures).1, c.look-seen.ensures.count_is, ending-few u.result.unfinished c.args.portion.now)
-
-pub returns-then-before-count-gt-MOST_TIMINGS : goal.returns-then-before-count-gt-MOST_TIMINGS
-returns-then-before-count-gt-MOST_TIMINGS c = let both = told c.refused.ensures.answer c.refused.ensures.next
-    (take-too-many _ _ _ c.usable-reader.ensures c.look-seen.ensures c.if-before-count-gt-MOST_TIMINGS.true) in record { answer = both.0; state = both.1.0; list = both.1.1.0; all = both.1.1.1 }
-
-pub returns-then-out-count : goal.returns-then-out-count
-returns-then-out-count c = let both = told c.refused-then-out-count.ensures.answer c.refused-then-out-count.ensures.next
-    (take-one-out _ _ _ c.usable-reader.ensures c.look-seen.ensures c.if-before-count-gt-MOST_TIMINGS.false c.if-out-count.true) in record { answer = both.0; state = both.1.0; list = both.1.1.0; all = both.1.1.1 }
+pub returns-in-Some : goal.returns-in-Some
+returns-in-Some c =
+    let seen = c.pass-seen.ensures in
+    take-one-out _ _ _ c.usable-reader.ensures.is seen.unfinished seen.count seen.out c.if-all-gt-MOST_TIMINGS.false c.in-Some.is
 
 pub returns-then-timings-count : goal.returns-then-timings-count
-returns-then-timings-count c = let both = told c.refused-then-timings-count.ensures.answer c.refused-then-timings-count.ensures.next
-    (take-no-room _ _ _ c.usable-reader.ensures c.look-seen.ensures c.if-before-count-gt-MOST_TIMINGS.false c.if-out-count.false c.if-timings-count.true) in record { answer = both.0; state = both.1.0; list = both.1.1.0; all = both.1.1.1 }
+returns-then-timings-count c =
+    let seen = c.pass-seen.ensures in
+    take-no-room _ _ _ c.usable-reader.ensures.is seen.unfinished seen.count seen.out c.if-all-gt-MOST_TIMINGS.false c.in_default.is c.if-timings-count.true
 
 pub returns : goal.returns
-returns c = let both = take-given _ _ _ c.usable-reader.ensures c.look-seen.ensures c.if-before-count-gt-MOST_TIMINGS.false c.if-out-count.false c.if-timings-count.false
-    c.pass.ensures.list in record { answer = both.0; state = both.1.0; list = both.1.1.0; all = both.1.1.1 }
+returns c =
+    let seen = c.pass-seen.ensures in
+    take-given _ _ _ c.usable-reader.ensures.is seen.unfinished seen.count seen.out c.if-all-gt-MOST_TIMINGS.false c.in_default.is c.if-timings-count.false
+    c.pass.ensures.list

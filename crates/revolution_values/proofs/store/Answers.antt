@@ -1,7 +1,0 @@
--- `revolution_values::store` meets its contract. Assumes nothing.
-use mathlib.Core.Path.{sym}
-use lib.Seq.{set_out}
-use Rattle.revolution_values.proofs.store.Goals as goal
-
-pub returns-else-at-list : goal.returns-else-at-list
-returns-else-at-list c = sym (set_out _ _ _ c.if-at-list.false)

@@ -1,2 +1,0 @@
-mod RevolutionCalls
-pub mod ToldSteps
