@@ -6,7 +6,7 @@ ghost use Rattle.std.specs.Int.Signed.{lt_z};
 ghost use Rattle.std.proofs.Common.{rules};
 ghost use Rattle.refusals.specs.RefusedCalls.Answer.{gives};
 ghost use Rattle.flux_timings.specs.Timings.{in_range};
-ghost use Rattle.separator.specs.Rule.{IsHalfWindow, usable, taken_answer, offset_given, step_answer_by, step_offset_by, step_residual_by, border_pulses_at_by};
+ghost use Rattle.separator.specs.Rule.{IsHalfWindow, usable, halved, taken_answer, offset_given, step_answer_by, step_offset_by, step_residual_by, border_pulses_at_by};
 
 use flux_timings::timing_in_range;
 use refusals::Refusal;
@@ -120,11 +120,11 @@ impl Separator {
         ensures state { usable W.HALF self.old.residual ≡ self.old.residual → self.new.residual ≡ step_residual_by W.HALF self.old.residual timing }
     {
         // u of rule 3.3 without the timing's whole windows: a division of u would make each step wait for the one before it.
-        let half = W::HALF;
-        let window = 2 * half;
+        let half_window = W::HALF;
+        let window = 2 * half_window;
         let part = (timing % window) as i32 + self.residual;
         let whole = timing / window;
-        let step = if part < half as i32 {
+        let step = if part < half_window as i32 {
             Step {
                 cells: whole,
                 offset: part,
@@ -135,7 +135,7 @@ impl Separator {
                 offset: part - window as i32,
             }
         };
-        self.residual = step.offset / 2;
+        self.residual = half(step.offset);
         step
     }
 }
@@ -144,12 +144,25 @@ impl Separator {
 fn usable_residual<W: BitWindow>(residual: i32) -> i32
     ensures { result ≡ usable W.HALF residual }
 {
-    let half = W::HALF;
-    let least = -((half / 2) as i32);
-    let most = ((half - 1) / 2) as i32;
+    let half_window = W::HALF;
+    let least = -((half_window / 2) as i32);
+    let most = ((half_window - 1) / 2) as i32;
     if least <= residual && residual <= most {
         residual
     } else {
         0
+    }
+}
+
+// Half of an offset, rounded towards zero: what `/ 2` gives, in three steps where the compiler makes five of that, each of which the next
+// timing waits for. A shift rounds down, which below zero is away from it, so there one is added first: the timing 5001
+// has the offset -999 and leaves -499, not -500.
+fn half(offset: i32) -> i32
+    ensures { result ≡ halved offset }
+{
+    if offset < 0 {
+        (offset + 1) >> 1
+    } else {
+        offset >> 1
     }
 }

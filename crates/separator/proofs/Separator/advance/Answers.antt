@@ -1,17 +1,25 @@
 -- `separator::Separator::advance` meets its contract. Assumes nothing.
-use mathlib.Core.Path.{◌≡◌}
-use Rattle.separator.specs.Rule.{usable}
+use mathlib.Core.Path.{◌≡◌, ◌∙◌, ap}
+use native.Mathlib.Omega.{arith}
+use mir.Syntax.{w32}
+use mir.Val.{SFits}
+use mir.Facts.{to_z-of_z}
+use Rattle.separator.specs.Rule.{usable, halved}
+use Rattle.separator.proofs.MachineStep.{read_back}
 use Rattle.separator.proofs.Stepped.{Stepped, below-half, from-half}
-use Rattle.separator.proofs.Separator.advance.Goals.{then-part-half, else-part-half}
+use Rattle.separator.proofs.Separator.advance.Goals.{then-part-half_window, else-part-half_window}
 use Rattle.separator.proofs.Separator.advance.Goals as goal
 
 pub returns : goal.returns
 returns g c =
-    let e = c.HALF-half.ensures in
-    let made : usable g.W.BitWindow.HALF c.args.self.now.residual ≡ c.args.self.now.residual → Stepped g.W.BitWindow.HALF c.args.self.now.residual c.args.timing c.if-part-half.step =
+    let e = c.HALF-half_window.ensures in
+    let made : usable g.W.BitWindow.HALF c.args.self.now.residual ≡ c.args.self.now.residual → Stepped g.W.BitWindow.HALF c.args.self.now.residual c.args.timing c.if-part-half_window.step =
     λ is.
-    elim c.if-part-half.branch [
-      | then-part-half w ↦ below-half _ _ _ g.met.W.BitWindow.is_half c.requires.timed is (rw e at w.if-part-half.true) (rw e at w.step-is)
-      | else-part-half w ↦ from-half _ _ _ g.met.W.BitWindow.is_half c.requires.timed is (rw e at w.if-part-half.false) (rw e at w.step-is)
+    elim c.if-part-half_window.branch [
+      | then-part-half_window w ↦ below-half _ _ _ g.met.W.BitWindow.is_half c.requires.timed is (rw e at w.if-part-half_window.true) (rw e at w.step-is)
+      | else-part-half_window w ↦ from-half _ _ _ g.met.W.BitWindow.is_half c.requires.timed is (rw e at w.if-part-half_window.false) (rw e at w.step-is)
     ] in
-    record { cells = λ is. (made is).answer; offset = λ is. (made is).offset; state = λ is. (made is).state }
+    let fits : SFits w32 c.if-part-half_window.step.offset = record { sfits = omega arith } in
+    let half-fits : SFits w32 c.half-self.result = record { sfits = c.half-self.type_inv } in
+    let left : read_back c.half-self.result ≡ halved c.if-part-half_window.step.offset = to_z-of_z half-fits ∙ c.half-self.ensures ∙ ap halved (to_z-of_z fits) in
+    record { cells = λ is. (made is).answer; offset = λ is. (made is).offset; state = λ is. left ∙ (made is).state }
