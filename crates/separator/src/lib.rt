@@ -160,9 +160,5 @@ fn usable_residual<W: BitWindow>(residual: i32) -> i32
 fn half(offset: i32) -> i32
     ensures { result ≡ halved offset }
 {
-    if offset < 0 {
-        (offset + 1) >> 1
-    } else {
-        offset >> 1
-    }
+    (offset + i32::from(offset < 0)) >> 1
 }

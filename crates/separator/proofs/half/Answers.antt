@@ -1,15 +1,16 @@
 -- `separator::half` meets its contract: a shift rounds down, and below zero one is added first. Assumes nothing.
-use Prim.Native.Nat.{ℕ, zero, suc, ◌-◌, ◌/◌, ◌≤◌}
-use mathlib.Core.Path.{◌≡◌, refl, ◌∙◌, ap}
-use mathlib.Core.Bool.{true, false}
+use Prim.Native.Nat.{ℕ, zero, suc, ◌+◌, ◌-◌, ◌/◌, ◌≤◌}
+use mathlib.Core.Path.{◌≡◌, refl, sym}
+use mathlib.Core.Bool.{Bool, true, false}
 use native.Mathlib.Omega.{arith}
 use borrow.Author.Tests.{lt-ltb, ltb-true}
 use lib.IntN.{ℤ, pos, negsuc, ◌+ℤ◌}
 use lib.Signed.{lt_z, shr_z, quot_z}
 use mir.Syntax.{w32}
-use mir.Val.{SFits}
+use mir.Val.{SFits, bool_byte}
 use mir.Facts.{to_z-of_z}
 use Rattle.separator.specs.Rule.{halved}
+use Rattle.separator.proofs.Differences.{as-sub}
 use Rattle.separator.proofs.MachineStep.{half-fits, read_back}
 use Rattle.separator.proofs.half.Goals as goal
 
@@ -18,6 +19,10 @@ next : (b : ℕ) → negsuc (suc b) +ℤ pos 1 ≡ negsuc b
 next b =
     let e : suc (suc b) - 2 ≡ b = omega arith in
     rw (lt-ltb 1 (suc (suc b)) (omega arith), e)
+
+add-none : (z : ℤ) → z +ℤ pos 0 ≡ z
+add-none (pos a) = let e : a + 0 ≡ a = omega arith in rw e
+add-none (negsuc a) = sym (as-sub (negsuc a))
 
 below : (z : ℤ) → lt_z z (pos 0) ≡ true → shr_z (z +ℤ pos 1) 2 ≡ quot_z z (pos 2)
 below (pos a) e = absurd (omega (arith, ltb-true a 0 e))
@@ -40,22 +45,19 @@ more-fits (negsuc zero) (suc zero) h e f = record { sfits = omega arith }
 more-fits (negsuc (suc b)) (suc zero) h e f = rw (next b) (record { sfits = omega (arith, f.sfits) })
 more-fits (negsuc a) (suc (suc k)) h e f = absurd (omega arith)
 
-pub overflow_add-result : goal.overflow_add-result
-overflow_add-result c = let s : read_back c.args.offset ≡ c.args.offset = to_z-of_z c.ranges.offset in rw s (more-fits _ _ (omega arith) (rw s at c.if-offset-lt0.true) c.ranges.offset)
-
-pub returns-then-offset-lt0 : goal.returns-then-offset-lt0
+-- half of z, with 1 added to it below 0
+halves : (z k : ℤ) → SFits w32 z → k ≡ pos (bool_byte (lt_z z (pos 0))) → read_back (shr_z (read_back (read_back z +ℤ read_back k)) 2) ≡ halved z
 unfolding halved
-returns-then-offset-lt0 c =
-    let s : read_back c.args.offset ≡ c.args.offset = to_z-of_z c.ranges.offset in
-    ap (λ (x : ℤ). read_back (shr_z (read_back (x +ℤ pos 1)) 2)) s
-    ∙ ap (λ (x : ℤ). read_back (shr_z x 2)) (to_z-of_z (more-fits c.args.offset 1 (omega arith) (rw s at c.if-offset-lt0.true) c.ranges.offset))
-    ∙ ap read_back (below c.args.offset (rw s at c.if-offset-lt0.true))
-    ∙ to_z-of_z (half-fits _ c.ranges.offset)
+halves z k f e = go (lt_z z (pos 0)) refl e
+  where
+    s : read_back z ≡ z
+    s = to_z-of_z f
 
-pub returns-else-offset-lt0 : goal.returns-else-offset-lt0
-unfolding halved
-returns-else-offset-lt0 c =
+    go : (x : Bool) → lt_z z (pos 0) ≡ x → k ≡ pos (bool_byte x) → read_back (shr_z (read_back (read_back z +ℤ read_back k)) 2) ≡ quot_z z (pos 2)
+    go true l e = rw (e, s, to_z-of_z (more-fits z 1 (omega arith) l f), below z l) (to_z-of_z (half-fits z f))
+    go false l e = rw (e, s, add-none z, s, from_zero_up z l) (to_z-of_z (half-fits z f))
+
+pub returns : goal.returns
+returns c =
     let s : read_back c.args.offset ≡ c.args.offset = to_z-of_z c.ranges.offset in
-    ap (λ (x : ℤ). read_back (shr_z x 2)) s
-    ∙ ap read_back (from_zero_up c.args.offset (rw s at c.if-offset-lt0.false))
-    ∙ to_z-of_z (half-fits _ c.ranges.offset)
+    halves c.args.offset c.from.result c.ranges.offset (rw s at c.from.ensures)
