@@ -6,10 +6,10 @@ use mathlib.Core.List.{List, [], ◌∷◌, ◌++◌}
 use Rattle.std.specs.Prelude.{Option, Some, None, slice_get}
 use native.Mathlib.Omega.{arith}
 use native.Mathlib.Decide.{dec_le}
-use native.Mathlib.Nat.{add-zero, zero-add, add_assoc, lt_of_not-le, min-le_right, min-eq_left}
+use native.Mathlib.Nat.{add-zero, zero-add, lt_of_not-le, min-le_right, min-eq_left}
 use borrow.Author.Tests.{eq-eqb, ne_eqb, lt-ltb, le-ltb, ltb-true, ltb-false}
 use lib.Dec.{eqb, ltb}
-use lib.ListN.{length, set, get_or, drop, length-append, length-drop, drop_of_length-le}
+use lib.ListN.{length, set, get_or, drop, length-append, length-drop}
 use lib.Seq.{sets, length-sets, drop-cons}
 use Rattle.flux_timings.specs.Timings.{in_range}
 use Rattle.flux_timings.specs.Timings.{first_out}
@@ -170,14 +170,15 @@ module _ (zeros count : ℕ) (out : Option ℕ) (value : ℕ) (list : List ℕ) 
       }
 
 -- one timing more
+pub out-in : (count timing : ℕ) (out : Option ℕ) → in_range timing ≡ true → out ≡ first_out_after count out (timing ∷ [])
+unfolding first_out_after first_out
+out-in count timing (Some first) r = refl
+out-in count timing None r = rw r
+
 module _ (count timing : ℕ) (out : Option ℕ) where
   pub out-before : {first : ℕ} → out ≡ Some first → out ≡ first_out_after count out (timing ∷ [])
   unfolding first_out_after
   out-before e = rw e
-
-  pub out-in : out ≡ None → in_range timing ≡ true → None ≡ first_out_after count out (timing ∷ [])
-  unfolding first_out_after first_out
-  out-in e r = rw (e, r)
 
   pub out-out : out ≡ None → in_range timing ≡ false → Some count ≡ first_out_after count out (timing ∷ [])
   unfolding first_out_after first_out
