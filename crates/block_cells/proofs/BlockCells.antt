@@ -12,7 +12,7 @@ use Rattle.basis.specs.Lists.{written_over}
 use Rattle.cells.specs.CellsAndBytes.{packed}
 use Rattle.separation.specs.Separation.{cells_of, border_pulses_of, border_pulses_counted, cells_judged, separation, separated_cells, border_pulses_after}
 use Rattle.flux_timings.specs.Timings.{first_out, timings_judged}
-use Rattle.separation.proofs.Promise.{promised}
+use Rattle.separation.proofs.Promise.{demand3}
 use Rattle.refusals.specs.RefusedCalls.{Answer, buffer_after}
 use Rattle.refusals.specs.RefusedCalls.Answer.{gives, refused}
 use Rattle.supercard_pro.specs.TrackBlock.{revolution_timings, not_a_track_block, block_judged, block_answer, block_timings}
@@ -81,12 +81,15 @@ module _ (block : List ℕ) (revolutions k : ℕ) where
   abbrev bad : Bool
   bad = not_a_track_block block revolutions
 
-  -- all that the call promises, from what it answers and leaves; the number of border pulses goes from `pulses` to `pulses'`
+  -- all that the call promises, from what it gave and what it left; the number of border pulses goes from `pulses` to `pulses'`
   abbrev pub CellsPromised : List ℕ → Answer ℕ → List ℕ → (pulses pulses' : ℕ) → Type 0
-  CellsPromised before answer after pulses pulses' =
-      (answer ≡ block_separation block revolutions k (length before))
-      × ((after ≡ block_cells block revolutions k before)
-      × ((pulses' ≡ block_border_pulses block revolutions k (length before) pulses) × BlockDemand3 block revolutions k answer before after))
+  CellsPromised before gave after pulses pulses' =
+      record {
+        answer : gave ≡ block_separation block revolutions k (length before);
+        buffer : after ≡ block_cells block revolutions k before;
+        border_pulses : pulses' ≡ block_border_pulses block revolutions k (length before) pulses;
+        demand3 : BlockDemand3 block revolutions k gave before after;
+      }
 
   judged-on : {next : Answer ℕ} → bad ≡ false → ltb k revolutions ≡ true → block_judged block revolutions k next ≡ next
   unfolding block_judged
@@ -95,16 +98,18 @@ module _ (block : List ℕ) (revolutions k : ℕ) where
   cells-promised : (before : List ℕ) (pulses : ℕ) {answer : Answer ℕ} {after : List ℕ} {pulses' : ℕ} → answer ≡ block_separation block revolutions k (length before)
       → after ≡ buffer_after answer (packed (cells_of ts)) before → pulses' ≡ border_pulses_after answer (border_pulses_of ts) pulses
       → CellsPromised before answer after pulses pulses'
-  cells-promised before pulses e f g = (
-    e,
-    (
-      f ∙ ap (λ (a : Answer ℕ). buffer_after a (packed (cells_of ts)) before) e,
-      (
-        g ∙ ap (λ (a : Answer ℕ). border_pulses_after a (border_pulses_of ts) pulses) e,
-        record { recovers = λ b h. (promised ts before (e ∙ judged-on b h) f).1.1 },
-      ),
-    ),
-  )
+  cells-promised before pulses {answer} {after} e f g =
+      record {
+        answer = e;
+        buffer = f ∙ ap (λ (a : Answer ℕ). buffer_after a (packed (cells_of ts)) before) e;
+        border_pulses = g ∙ ap (λ (a : Answer ℕ). border_pulses_after a (border_pulses_of ts) pulses) e;
+        demand3 =
+            record {
+              recovers = λ b h.
+                  let is : answer ≡ separation ts (length before) = e ∙ judged-on b h in
+                  demand3 ts before is (f ∙ ap (λ (a : Answer ℕ). buffer_after a (packed (cells_of ts)) before) is);
+            };
+      }
 
   -- the timings' call refuses, with room for all timings that are not refused: so does the call for cells
   pub block_refused : (room : ℕ) → 65536 ≤ room → {number value : ℕ} → refused number value ≡ block_answer block revolutions k room
@@ -157,27 +162,36 @@ module _ (block : List ℕ) (revolutions k : ℕ) where
 
   -- what the call that gives the timings promises, with the number of border pulses
   abbrev TimingsPromised : List ℕ → Answer ℕ → List ℕ → (pulses pulses' : ℕ) → Type 0
-  TimingsPromised before answer after pulses pulses' =
-      (answer ≡ block_answer block revolutions k (length before))
-      × ((after ≡ block_timings block revolutions k before) × (pulses' ≡ timings_border_pulses block revolutions k (length before) pulses))
+  TimingsPromised before gave after pulses pulses' =
+      record {
+        answer : gave ≡ block_answer block revolutions k (length before);
+        list : after ≡ block_timings block revolutions k before;
+        border_pulses : pulses' ≡ timings_border_pulses block revolutions k (length before) pulses;
+      }
 
   module _ (list : List ℕ) {filled : List ℕ} (f : filled ≡ block_timings block revolutions k list) where
     pub pulses-kept : {number value : ℕ} → refused number value ≡ block_answer block revolutions k (length list) → (pulses : ℕ)
         → TimingsPromised list (refused number value) filled pulses pulses
     unfolding border_pulses_after
-    pulses-kept e pulses = (e, (f, ap (λ (x : Answer ℕ). border_pulses_after x (border_pulses_of ts) pulses) e))
+    pulses-kept e pulses =
+        record { answer = e; list = f; border_pulses = ap (λ (x : Answer ℕ). border_pulses_after x (border_pulses_of ts) pulses) e }
 
-    pub pulses-counted : {count : ℕ} → gives count ≡ block_answer block revolutions k (length list) → (pulses : ℕ) {answer : Answer ℕ}
-        → answer ≡ border_pulses_counted (take count filled) → {number : ℕ} → ((n : ℕ) → answer ≡ gives n → number ≡ n)
-        → TimingsPromised list (gives count) filled pulses number
-    unfolding border_pulses_after block_judged timings_judged
-    pulses-counted {count} e pulses a is =
+    -- the count of these timings is not refused
+    count_is : {count : ℕ} → gives count ≡ block_answer block revolutions k (length list) → border_pulses_counted (take count filled) ≡ gives (border_pulses_of ts)
+    unfolding block_judged timings_judged
+    count_is {count} e =
         let judged = chain-judged bad (ltb k revolutions) (eqb (length ts) 0) (ltb 65536 (length ts)) (ltb (first_out ts) (length ts)) (length ts) (first_out ts)
-        (room_judged (length ts) (length list)) count (sym e) (gives (border_pulses_of ts)) in (
-          e,
-          (
-            f,
-            is (border_pulses_of ts) (a ∙ ap border_pulses_counted (front_is list e f) ∙ judged)
-                ∙ ap (λ (x : Answer ℕ). border_pulses_after x (border_pulses_of ts) pulses) e,
-          ),
-        )
+        (room_judged (length ts) (length list)) count (sym e) (gives (border_pulses_of ts)) in
+        ap border_pulses_counted (front_is list e f) ∙ judged
+
+    pub never-refused : {count : ℕ} → gives count ≡ block_answer block revolutions k (length list) → {number value : ℕ}
+        → refused number value ≡ border_pulses_counted (take count filled) → ⊥
+    never-refused e r = let n = r ∙ count_is e in absurd cc
+
+    pub pulses-counted : {count : ℕ} → gives count ≡ block_answer block revolutions k (length list) → (pulses : ℕ) {number : ℕ}
+        → gives number ≡ border_pulses_counted (take count filled) → TimingsPromised list (gives count) filled pulses number
+    unfolding border_pulses_after
+    pulses-counted {count} e pulses {number} a =
+        let n : gives number ≡ gives (border_pulses_of ts) = a ∙ count_is e in
+        let same : number ≡ border_pulses_of ts = cc in
+        record { answer = e; list = f; border_pulses = same ∙ ap (λ (x : Answer ℕ). border_pulses_after x (border_pulses_of ts) pulses) e }

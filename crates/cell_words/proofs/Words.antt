@@ -269,23 +269,3 @@ holds_same s t e words m h w l = h w l ∙ mask-same s t 64 (64 * w) (64 * w) (�
 pub holds-less : (t : ℕ → Bool) (words : List ℕ) (m k : ℕ) → Holds t words m → k ≤ m → Holds t words k
 unfolding Holds
 holds-less t words m k h l w g = h w (omega arith)
-
--- a list that is changed only before w
-pub Rest : List ℕ → List ℕ → ℕ → Type 0
-Rest words words₀ w = (j : ℕ) → w ≤ j → get_or words j 0 ≡ get_or words₀ j 0
-
-pub rest-none : (words : List ℕ) → Rest words words 0
-unfolding Rest
-rest-none words j h = refl
-
-pub rest_more : (words words₀ : List ℕ) (w v : ℕ) → Rest words words₀ w → Rest (set words w v) words₀ (w + 1)
-unfolding Rest
-rest_more words words₀ w v h j l = get_or-set_other words w j v 0 (λ e. omega arith) ∙ h j (omega arith)
-
-pub rest_at : (t : ℕ → Bool) (words words₀ : List ℕ) (m w : ℕ) → Rest words words₀ w → Holds t words₀ m → w < m → get_or words w 0 ≡ mask t 64 (64 * w)
-unfolding Rest
-rest_at t words words₀ m w h g l = h w (omega arith) ∙ holds_at t words₀ m w g l
-
-pub rest-next : (t : ℕ → Bool) (words words₀ : List ℕ) (m w : ℕ) → Rest words words₀ w → Holds t words₀ m → w + 1 < m → get_or words (w + 1) 0 ≡ mask t 64 (64 * w + 64)
-unfolding Rest
-rest-next t words words₀ m w h g l = h (w + 1) (omega arith) ∙ holds-next t words₀ m w g l

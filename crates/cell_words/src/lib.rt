@@ -17,34 +17,28 @@ pub const WORDS: usize = 2116;
 // The places of a map.
 const PLACES: usize = 135424;
 
-// The 64 cells from p of a track of n cells, counted on past n. Where they lie on the track and nine bytes hold them they are loaded at once; all
+// The 64 cells from p, counted on past the track's end. Where they lie on the track and nine bytes hold them they are loaded at once; all
 // else is a function of its own, so that the compiler puts these few lines into the loops that ask.
+#[inline(always)]
 pub fn word_from(cells: Cells, p: usize) -> u64
     ensures { result ≡ word (cell cells.entry.bytes.now cells.entry.count) 64 p }
 {
-    if p < cells.count {
-        if 64 <= cells.count - p {
-            let k = p / 8;
-            if k + 8 < cells.bytes.len() {
-                return nine_bytes(cells.bytes, k, p % 8);
-            }
-        }
+    let k = p / 8;
+    if p < cells.count && 64 <= cells.count - p && k + 8 < cells.bytes.len() {
+        return nine_bytes(cells.bytes, k, p % 8);
     }
     word_round(cells, p)
 }
 
 // The same for any place, which is first moved before the track's end.
+#[inline(never)]
 fn word_round(cells: Cells, p: usize) -> u64
     ensures { result ≡ word (cell cells.entry.bytes.now cells.entry.count) 64 p }
 {
     let at = place_on(cells.count, p);
-    if at < cells.count {
-        if 64 <= cells.count - at {
-            let k = at / 8;
-            if k + 8 < cells.bytes.len() {
-                return nine_bytes(cells.bytes, k, at % 8);
-            }
-        }
+    let k = at / 8;
+    if at < cells.count && 64 <= cells.count - at && k + 8 < cells.bytes.len() {
+        return nine_bytes(cells.bytes, k, at % 8);
     }
     cells.word(at, 64)
 }
@@ -80,7 +74,8 @@ fn each_word<F: Fn(u64, u64, u64, u64) -> u64>(
     }
 }
 
-// The map of the places where a test passes, or of those where it fails.
+// The map of the places where a test passes, or of those where it fails. Not by each_word: it can make all the words of a map, and after the
+// last no word follows.
 pub fn like_map(words: &[u64; WORDS], passes: bool, map: &mut [u64; WORDS], m: usize)
     ensures { (t : ℕ → Bool) → Holds t words.now m → m ≤ 2116 → length map.old ≡ 2116 → MapOf (like_at passes t) map.new m }
 {
@@ -107,10 +102,7 @@ pub fn gap_map(words: &[u64; WORDS], map: &mut [u64; WORDS], m: usize)
 pub fn both_map(map: &mut [u64; WORDS], k: usize, m: usize)
     ensures { (t : ℕ → Bool) → Holds t map.old (m + 1) → m < 2116 → 1 ≤ k → k < 64 → length map.old ≡ 2116 → MapOf (both_at k t) map.new m }
 {
-    if k == 0 {
-        return;
-    }
-    if 63 < k {
+    if k == 0 || 63 < k {
         return;
     }
     both_by(map, k, m);
@@ -120,10 +112,7 @@ pub fn both_map(map: &mut [u64; WORDS], k: usize, m: usize)
 pub fn keep_map(words: &[u64; WORDS], k: usize, passes: bool, map: &mut [u64; WORDS], m: usize)
     ensures { (s t : ℕ → Bool) → Holds s words.now (m + 1) → Holds t map.old m → m < 2116 → 1 ≤ k → k < 64 → length map.old ≡ 2116 → MapOf (kept_from k passes s t) map.new m }
 {
-    if k == 0 {
-        return;
-    }
-    if 63 < k {
+    if k == 0 || 63 < k {
         return;
     }
     keep_by(words, k, passes, map, m);
@@ -310,16 +299,11 @@ fn zeros_before(x: u64) -> usize
 }
 
 // A place whose cells are those from p: before the track's end, where there is one.
+#[tactic(auto, using(crate::proofs::Loading::same_place))]
 fn place_on(n: usize, p: usize) -> usize
     ensures { (bytes : List ℕ) (q : ℕ) → cell bytes n (result + q) ≡ cell bytes n (p + q) }
 {
-    if p < n {
-        return p;
-    }
-    if n == 0 {
-        return p;
-    }
-    p % n
+    if p < n || n == 0 { p } else { p % n }
 }
 
 // The 64 cells from cell s of byte k on.

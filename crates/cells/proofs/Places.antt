@@ -15,9 +15,9 @@ pub cell_at-lt : (bytes : List ℕ) (i : ℕ) → cell_at bytes i < 2
 unfolding cell_at
 cell_at-lt bytes i = omega arith
 
-pub cell_at-past : (bytes : List ℕ) (i : ℕ) → length bytes ≤ i / 8 → cell_at bytes i ≡ 0
+pub cell_at_past : (bytes : List ℕ) (i : ℕ) → length bytes ≤ i / 8 → cell_at bytes i ≡ 0
 unfolding cell_at
-cell_at-past bytes i h = simp (get_or-eq_default bytes 0 h, zero-div)
+cell_at_past bytes i h = simp (get_or-eq_default bytes 0 h, zero-div)
 
 pub cell-lt : (bytes : List ℕ) (n p : ℕ) → cell bytes n p < 2
 unfolding cell

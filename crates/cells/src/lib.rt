@@ -13,12 +13,13 @@ pub struct Cells<'a> {
 }
 
 // Cell i of packed bytes, 0 or 1; past their end 0.
+#[tactic(auto, unfolding(crate::specs::CellsAndBytes::cell_at), using(crate::proofs::Places::cell_at_past))]
 pub fn cell_at(bytes: &[u8], i: usize) -> u64
     ensures { result ≡ cell_at bytes.now i }
 {
     let k = i / 8;
     if k < bytes.len() {
-        ((bytes[k] >> (7 - i % 8)) % 2) as u64
+        u64::from((bytes[k] >> (7 - i % 8)) % 2)
     } else {
         0
     }
@@ -63,67 +64,12 @@ impl<'a> Cells<'a> {
         if length == 0 {
             return find_among_zeros(x, from, to);
         }
-        self.find_in_turn(x, length, from, to)
-    }
-
-    // As find_in_range, in at most one turn of the track: after a turn the words come again.
-    fn find_in_turn(self, x: u64, k: usize, from: usize, to: usize) -> usize
-        requires { (0 < self.count) × (1 ≤ k) × (k ≤ 64) × (from ≤ to) }
-        ensures { result ≡ least_place self.entry.bytes.now self.entry.count k x from to }
-    {
-        if to - from <= self.count {
-            return self.find_in_range(x, k, from, to);
-        }
-        let turn = from + self.count;
-        let p = self.find_in_range(x, k, from, turn);
-        if p < turn { p } else { to }
-    }
-
-    // The search of find_word, of a word of 1 to 64 cells. The last cells are carried along: each place costs one cell more, and eight
-    // places one byte where it lies whole on the track and the word stands at none of them. A `for` cannot take steps of 1 or 8.
-    fn find_in_range(self, x: u64, k: usize, from: usize, to: usize) -> usize
-        requires { (0 < self.count) × (1 ≤ k) × (k ≤ 64) × (from ≤ to) }
-        ensures { result ≡ least_place self.entry.bytes.now self.entry.count k x from to }
-    {
-        let mask = 0xFFFF_FFFF_FFFF_FFFF >> (64 - k);
-        let mut cells = self.last_cells(from, k);
-        let mut at = place_after(from, k, self.count);
-        let mut p = from;
-        while p < to {
-            if self.skips_eight(at, cells, k, x, to - p) {
-                cells = append_byte(cells, byte_at(self.bytes, at / 8));
-                at = next_byte(at, self.count);
-                p += 8;
-            } else {
-                if cells & mask == x {
-                    return p;
-                }
-                cells = append(cells, cell_at(self.bytes, at));
-                at = next_place(at, self.count);
-                p += 1;
-            }
-        }
-        to
-    }
-
-    // Whether the next eight cells are a whole byte, eight places are left to look at, and the word x of k cells stands at none of them.
-    fn skips_eight(self, at: usize, cells: u64, k: usize, x: u64, left: usize) -> bool
-        requires { (at < self.count) × (1 ≤ k) × (k ≤ 64) }
-        ensures { result ≡ true → Skipped self.entry.bytes.now self.entry.count at cells k x left }
-    {
-        if 56 < k {
-            return false;
-        }
-        if left < 8 {
-            return false;
-        }
-        if 0 < at % 8 {
-            return false;
-        }
-        if self.count - at < 8 {
-            return false;
-        }
-        !stands_in(append_byte(cells, byte_at(self.bytes, at / 8)), k, x)
+        let search = Search {
+            cells: self,
+            x,
+            k: length,
+        };
+        search.in_turn(from, to)
     }
 
     // The last 64 of the k cells from p.
@@ -138,6 +84,86 @@ impl<'a> Cells<'a> {
             at = next_place(at, self.count);
         }
         cells
+    }
+}
+
+// A search for the word x of k cells, 1 to 64 of them, on a track that has cells.
+#[derive(Clone, Copy)]
+struct Search<'a> {
+    cells: Cells<'a>,
+    x: u64,
+    k: usize,
+    ghost some: { 0 < cells.count },
+    ghost any: { 1 ≤ k },
+    ghost few: { k ≤ 64 },
+}
+
+impl<'a> Search<'a> {
+    // As in_range, in at most one turn of the track: after a turn the words come again.
+    fn in_turn(self, from: usize, to: usize) -> usize
+        requires { from ≤ to }
+        ensures { result ≡ least_place self.entry.cells.bytes.now self.entry.cells.count self.entry.k self.entry.x from to }
+    {
+        let n = self.cells.count;
+        if to - from <= n {
+            return self.in_range(from, to);
+        }
+        let turn = from + n;
+        let p = self.in_range(from, turn);
+        if p < turn { p } else { to }
+    }
+
+    // The last cells are carried along: each place costs one cell more, and eight places one byte where it lies whole on the track and the
+    // word stands at none of them. A `for` cannot take steps of 1 or 8.
+    fn in_range(self, from: usize, to: usize) -> usize
+        requires { from ≤ to }
+        ensures { result ≡ least_place self.entry.cells.bytes.now self.entry.cells.count self.entry.k self.entry.x from to }
+    {
+        let Cells { bytes, count } = self.cells;
+        let mask = 0xFFFF_FFFF_FFFF_FFFF >> (64 - self.k);
+        let mut so_far = self.cells.last_cells(from, self.k);
+        let mut at = place_after(from, self.k, count);
+        let mut p = from;
+        while p < to {
+            if self.skips_eight(at, so_far, to - p) {
+                so_far = append_byte(so_far, byte_at(bytes, at / 8));
+                at = next_byte(at, count);
+                p += 8;
+            } else {
+                if so_far & mask == self.x {
+                    return p;
+                }
+                so_far = append(so_far, cell_at(bytes, at));
+                at = next_place(at, count);
+                p += 1;
+            }
+        }
+        to
+    }
+
+    // Whether the next eight cells are a whole byte, eight places are left to look at, and the word stands at none of them.
+    fn skips_eight(self, at: usize, so_far: u64, left: usize) -> bool
+        requires { at < self.cells.count }
+        ensures { result ≡ true → Skipped self.entry.cells.bytes.now self.entry.cells.count at so_far self.entry.k self.entry.x left }
+    {
+        let Cells { bytes, count } = self.cells;
+        if 56 < self.k || left < 8 || 0 < at % 8 || count - at < 8 {
+            return false;
+        }
+        !self.stands_in(append_byte(so_far, byte_at(bytes, at / 8)))
+    }
+
+    // Whether the word ends at one of the last nine cells but the very last.
+    fn stands_in(self, so_far: u64) -> bool
+        ensures { result ≡ false → (j : ℕ) → j < 8 → so_far / 2 ^ (8 - j) % 2 ^ self.entry.k ≡ self.entry.x → ⊥ }
+    {
+        let mask = 0xFFFF_FFFF_FFFF_FFFF >> (64 - self.k);
+        for j in 0..8usize {
+            if (so_far >> (8 - j)) & mask == self.x {
+                return true;
+            }
+        }
+        false
     }
 }
 
@@ -158,20 +184,6 @@ pub fn put_one(bytes: &mut [u8], p: usize)
     if k < bytes.len() {
         bytes[k] = bytes[k] | (1 << (7 - p % 8));
     }
-}
-
-// Whether the word x of k cells ends at one of the last nine cells but the very last.
-fn stands_in(cells: u64, k: usize, x: u64) -> bool
-    requires { (1 ≤ k) × (k ≤ 64) }
-    ensures { result ≡ false → (j : ℕ) → j < 8 → cells / 2 ^ (8 - j) % 2 ^ k ≡ x → ⊥ }
-{
-    let mask = 0xFFFF_FFFF_FFFF_FFFF >> (64 - k);
-    for j in 0..8usize {
-        if (cells >> (8 - j)) & mask == x {
-            return true;
-        }
-    }
-    false
 }
 
 // Byte i; past the end 0.
@@ -201,7 +213,7 @@ fn next_byte(at: usize, n: usize) -> usize
     if at + 8 == n { 0 } else { at + 8 }
 }
 
-// As find_in_range, where every word is 0: on a track without cells, or of a word without cells.
+// The search of find_word, where every word is 0: on a track without cells, or of a word without cells.
 fn find_among_zeros(x: u64, from: usize, to: usize) -> usize
     ensures { result ≡ cond (eqb x 0) from to }
 {

@@ -11,8 +11,8 @@ use Rattle.basis.proofs.Bools.{and-false}
 use Rattle.cells.specs.CellsAndBytes.{bytes_for}
 use Rattle.refusals.specs.RefusedCalls.{Answer}
 use Rattle.refusals.specs.RefusedCalls.Answer.{gives, refused}
-use Rattle.track_file.specs.TrackFile.{Content, place_count, track_of, side_of, cell_section, cell_count, packed_bytes, flux_section, flux_count, file_length, has_count, given_at_once, not_a_track_file, file_answer}
-use Rattle.flux_conversion.specs.Conversion.{file_with, new_length}
+use Rattle.track_file.specs.TrackFile.{Content, place_count, track_of, side_of, cell_section, cell_count, packed_bytes, flux_section, flux_count, file_length, has_count, given_at_once, not_a_track_file, file_answer, file_with}
+use Rattle.flux_conversion.specs.Conversion.{new_length}
 use Rattle.flux_conversion.proofs.Reading.{long-file, place_read, track-read, side-read, count-read, cells-read, no-timings-read}
 
 -- a whole file of n cells is accepted, whatever counts are there

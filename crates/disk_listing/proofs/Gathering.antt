@@ -2,6 +2,7 @@
 use Prim.Native.Nat.{ℕ, ◌+◌, ◌*◌, ◌≤◌, ◌<◌}
 use mathlib.Core.Path.{◌≡◌, refl, sym, ap, subst, ◌∙◌}
 use mathlib.Core.List.{List, [], ◌∷◌, ◌++◌}
+use mathlib.Core.Logic.{◌⊎◌, inl, inr}
 use native.Mathlib.Omega.{arith}
 use lib.ListN.{length, take, drop, length-append}
 use lib.Seq.{sets, sets-eq, take_at, length-take-le}
@@ -20,10 +21,9 @@ use Rattle.track_input.specs.declared.Input.TheVariants.{Open, Ended, Failed}
 use Rattle.track_input.specs.Reading.{portions_of, ReadThrough}
 use Rattle.track_input.proofs.Reading.{all-from-start, reader-from-start, cells-from-start}
 use Rattle.disk_listing.specs.declared.Disk.{Disk}
-use Rattle.disk_listing.specs.declared.File.{File}
-use Rattle.disk_listing.specs.declared.File.TheVariants.{Track, Unreadable}
-use Rattle.disk_listing.specs.declared.File.TheVariants.{Refused as Refuses}
-use Rattle.disk_listing.specs.DiskOfFiles.{Outcome, outcome_of, OneFile, told, tracks_of, findings_of, TakenFile, left_out, not_read, Files, AllFiles}
+use Rattle.disk_listing.specs.DiskOfFiles.File.{Track, Unreadable}
+use Rattle.disk_listing.specs.DiskOfFiles.File.{Refused as Refuses}
+use Rattle.disk_listing.specs.DiskOfFiles.{File, Outcome, outcome_of, OneFile, told, tracks_of, findings_of, TakenFile, left_out, not_read, Files, FilesTaken}
 use Rattle.disk_listing.specs.DiskOfFiles.Outcome.{brings, unreadable}
 use Rattle.disk_listing.specs.DiskOfFiles.OneFile.{not_opened, opened}
 use Rattle.disk_listing.specs.DiskOfFiles.Files.{none, one_more}
@@ -58,13 +58,10 @@ module _ (buffer : List ℕ) (long : length buffer ≡ 16384) {first : Reader} {
       }
 
   module _ (tracks findings : List ℕ) (at from : ℕ) where
-    pub still_open : {reader : Reader} → input ≡ Open reader → TakenFile Unreadable tracks tracks at findings findings from
+    pub not_ended : ((reader : Reader) × (input ≡ Open reader)) ⊎ (input ≡ Failed) → TakenFile Unreadable tracks tracks at findings findings from
     unfolding outcome_of
-    still_open e = not-read tracks findings at from (rw e)
-
-    pub read-failed : input ≡ Failed → TakenFile Unreadable tracks tracks at findings findings from
-    unfolding outcome_of
-    read-failed e = not-read tracks findings at from (rw e)
+    not_ended (inl (reader, e)) = not-read tracks findings at from (rw e)
+    not_ended (inr e) = not-read tracks findings at from (rw e)
 
   -- one that is read: its track, or its refusal
   module _ {reader : Reader} (ended : input ≡ Ended reader) (answer : Result ℕ Refusal) (tracks after : List ℕ) (at : ℕ) (findings later : List ℕ) (from : ℕ)
@@ -90,7 +87,7 @@ module _ (buffer : List ℕ) (long : length buffer ≡ 16384) {first : Reader} {
           few = few-numbers 16384 file;
         }
 
-    pub track-taken : {count : ℕ} → answer ≡ Count count → TakenFile (Track count) tracks after at findings later from
+    pub track-taken : {count : ℕ} → answer ≡ Ok count → TakenFile (Track count) tracks after at findings later from
     unfolding told finding_count
     track-taken {count} e = taken (Track count) (go (track_of_file 16384 file) (rw e at adds-file.0))
       where
@@ -98,13 +95,13 @@ module _ (buffer : List ℕ) (long : length buffer ≡ 16384) {first : Reader} {
         go (gives found) g = ap Track cc
         go (refused number value) g = let z : ◌≡◌ {A = ℕ} 0 1 = cc in absurd (omega arith)
 
-    pub refusal-taken : {refusal : Refusal} {number : ℕ} → answer ≡ Refused refusal → number ≡ number_of refusal → TakenFile (Refuses number) tracks after at findings later from
+    pub refusal-taken : {refusal : Refusal} → answer ≡ Err refusal → TakenFile (Refuses (number_of refusal)) tracks after at findings later from
     unfolding told finding_count
-    refusal-taken {refusal} {number} e n = taken (Refuses number) (go (track_of_file 16384 file) (rw e at adds-file.0))
+    refusal-taken {refusal} e = taken (Refuses (number_of refusal)) (go (track_of_file 16384 file) (rw e at adds-file.0))
       where
-        go : (x : Answer FoundTrack) → refused (number_of refusal) (value_of refusal) ≡ finding_count x → Refuses number ≡ told (brings x)
+        go : (x : Answer FoundTrack) → refused (number_of refusal) (value_of refusal) ≡ finding_count x → Refuses (number_of refusal) ≡ told (brings x)
         go (gives found) g = let z : ◌≡◌ {A = ℕ} 0 1 = cc in absurd (omega arith)
-        go (refused m v) g = ap Refuses (n ∙ cc)
+        go (refused m v) g = ap Refuses cc
 
 -- numbers stored behind the front of a list are added to it
 added : (list vs : List ℕ) (at : ℕ) {after : List ℕ} → after ≡ sets list at vs → at + length vs ≤ length list → take (at + length vs) after ≡ take at list ++ vs
@@ -168,35 +165,6 @@ module _ {disk : Disk} {tracks findings : List ℕ} {next : ℕ} (before : Gathe
         few_unread = omega (arith, c.unread_is, c.at_most.1, before.few_unread);
       }
 
--- the counts after a file, by what is told of it
-module _ (disk : Disk) {file : File} where
-  pub small-track : {count : ℕ} → file ≡ Track count → Small disk file → (disk.tracks ≤ 504) × (disk.findings + 4 * count ≤ 609076)
-  unfolding Small
-  small-track e s = rw e at s
-
-  pub small-refused : {number : ℕ} → file ≡ Refuses number → Small disk file → disk.left ≤ 0xFFFF_FFFF_FFFF_FFFE
-  unfolding Small
-  small-refused e s = rw e at s
-
-  pub small-unreadable : file ≡ Unreadable → Small disk file → (disk.left ≤ 0xFFFF_FFFF_FFFF_FFFE) × (disk.unreadable ≤ 0xFFFF_FFFF_FFFF_FFFE)
-  unfolding Small
-  small-unreadable e s = rw e at s
-
-  pub with-track : {count : ℕ} → file ≡ Track count
-      → record { tracks = disk.tracks + 3; findings = disk.findings + 4 * count; left = disk.left; unreadable = disk.unreadable } ≡ with_file disk file
-  unfolding with_file
-  with-track e = rw e
-
-  pub with-refused : {number : ℕ} → file ≡ Refuses number
-      → record { tracks = disk.tracks; findings = disk.findings; left = disk.left + 1; unreadable = disk.unreadable } ≡ with_file disk file
-  unfolding with_file
-  with-refused e = rw e
-
-  pub with-unreadable : file ≡ Unreadable
-      → record { tracks = disk.tracks; findings = disk.findings; left = disk.left + 1; unreadable = disk.unreadable + 1 } ≡ with_file disk file
-  unfolding with_file
-  with-unreadable e = rw e
-
 -- no file yet
 pub no-files : (tracks findings : List ℕ) → Gathered (record { tracks = 0; findings = 0; left = 0; unreadable = 0 }) tracks findings 1
 no-files tracks findings =
@@ -205,13 +173,21 @@ no-files tracks findings =
 -- the end: no argument is left, or there are too many tracks
 pub gathered : (words : ℕ) {disk : Disk} {tracks findings : List ℕ} {next : ℕ} → Gathered disk tracks findings next → length tracks ≡ 507
     → (disk.tracks ≤ 504 → words ≤ next)
-    → ((disk.tracks ≤ 507) × (disk.findings ≤ 609076))
-    × AllFiles words (take disk.tracks tracks) (take disk.findings findings) disk.left disk.unreadable
-gathered words {disk} {tracks} {next = next} g long all = (
-  (g.few_tracks, omega (arith, g.few_tracks, g.few_findings)),
-  record {
-    next = next;
-    files = g.files;
-    all = λ h. all (omega (arith, h, length-take-le disk.tracks tracks (omega (arith, g.few_tracks, long))));
-  },
-)
+    → record {
+      few : (disk.tracks ≤ 507) × (disk.findings ≤ 609076);
+      files : FilesTaken (take disk.tracks tracks) (take disk.findings findings) disk.left disk.unreadable;
+    }
+gathered words {disk} {tracks} {next = next} g long all =
+    record {
+      few = (g.few_tracks, omega (arith, g.few_tracks, g.few_findings));
+      files =
+          record {
+            words = words;
+            files =
+                record {
+                  next = next;
+                  files = g.files;
+                  all = λ h. all (omega (arith, h, length-take-le disk.tracks tracks (omega (arith, g.few_tracks, long))));
+                };
+          };
+    }

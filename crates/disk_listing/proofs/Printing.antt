@@ -14,8 +14,7 @@ use Rattle.refusals.specs.RefusedCalls.{Answer, answer_of, number_of, value_of}
 use Rattle.refusals.specs.RefusedCalls.Answer.{gives, refused}
 use Rattle.std.specs.Prelude.{Result, Ok, Err}
 use Rattle.refusals.specs.declared.Refusal.{Refusal}
-use Rattle.disk_listing.specs.declared.Printed.TheVariants.{Whole}
-use Rattle.disk_listing.specs.declared.Printed.TheVariants.{Refused as PageRefused}
+use Rattle.disk_listing.specs.DiskOfFiles.Printed.{Whole, PageRefused}
 use Rattle.disk_listing.specs.DiskOfFiles.{PagePrinted}
 use Rattle.disk_listing.specs.DiskOfFiles.PagePrinted.{whole, page_refused}
 
@@ -43,7 +42,7 @@ module _ (tracks findings : List ℕ) where
   none-printed = record { total_is = refl; few = omega arith; whole_too = λ f. absurd (f refl) }
 
   module _ {answer : Result ℕ Refusal} (part : ℕ) (is : answer_of answer ≡ part_answer tracks findings part) where
-    pub one-more-printed : {total count : ℕ} → PartsPrinted total part → answer ≡ Count count → count ≤ 72080 → PartsPrinted (total + count) (part + 1)
+    pub one-more-printed : {total count : ℕ} → PartsPrinted total part → answer ≡ Ok count → count ≤ 72080 → PartsPrinted (total + count) (part + 1)
     unfolding part_answer
     one-more-printed {total} {count} before e small =
         let a = accepted (judged tracks findings) (sym is ∙ ap answer_of e) in
@@ -55,11 +54,11 @@ module _ (tracks findings : List ℕ) where
           whole_too = λ f. a.1;
         }
 
-    pub refusal-told : {refusal : Refusal} {number : ℕ} → answer ≡ Refused refusal → number ≡ number_of refusal → PagePrinted tracks findings (PageRefused number)
+    pub refusal-told : {refusal : Refusal} → answer ≡ Err refusal → PagePrinted tracks findings (PageRefused (number_of refusal))
     unfolding part_answer page_answer
-    refusal-told {refusal} {number} e n =
-        page_refused {number = number} {value = value_of refusal}
-        (rw n (still-refused (judged tracks findings) (length (part_of tracks findings part)) (sym is ∙ ap answer_of e) (length (page_of tracks findings))))
+    refusal-told {refusal} e =
+        page_refused {number = number_of refusal} {value = value_of refusal}
+        (still-refused (judged tracks findings) (length (part_of tracks findings part)) (sym is ∙ ap answer_of e) (length (page_of tracks findings)))
 
   pub all-printed : {total part : ℕ} → PartsPrinted total part → 169 ≤ part → part ≤ 169 → PagePrinted tracks findings (Whole total)
   unfolding page_answer

@@ -7,8 +7,8 @@
 // itself is refused, nothing goes to standard output, and that last line is the one of the refusal.
 #![tactic(auto)]
 
-ghost use Rattle.std.specs.Prelude.{◌≡◌, ◌+◌, ◌<◌, ◌≤◌, length, take};
-ghost use Rattle.disk_listing.specs.DiskOfFiles.{file_seen, printed_seen, TakenFile, AllFiles, FilesTaken, PagePrinted};
+ghost use Rattle.std.specs.Prelude.{◌≡◌, ◌+◌, ◌<◌, ◌≤◌, take};
+ghost use Rattle.disk_listing.specs.DiskOfFiles.{file_seen, printed_seen, TakenFile, FilesTaken, PagePrinted};
 ghost use Rattle.disk_listing.specs.PrivateContracts.{with_file, Small, Gathered};
 
 use refusals::Refusal;
@@ -27,7 +27,7 @@ const FINDING_NUMBERS: usize = 609_076;
 const PART_ROOM: usize = 72_080;
 
 // What a file brought: a track with so many findings, or a refusal.
-#[derive(Clone, Copy)]
+#[derive(Clone, Copy, Debug)]
 enum File {
     Track(usize),
     Refused(Refusal),
@@ -35,7 +35,7 @@ enum File {
 }
 
 // How many numbers of the two lists are filled, how many files are left out, and how many of these cannot be read.
-#[derive(Clone, Copy)]
+#[derive(Clone, Copy, Debug)]
 struct Disk {
     tracks: usize,
     findings: usize,
@@ -44,7 +44,7 @@ struct Disk {
 }
 
 // How the page came to be printed: whole, with so many bytes.
-#[derive(Clone, Copy)]
+#[derive(Clone, Copy, Debug)]
 enum Printed {
     Whole(usize),
     Refused(Refusal),
@@ -64,13 +64,12 @@ fn take_file<F: Files>(
     files: &F,
     name: &[u8],
     portion: &mut [u8],
-    cells: &mut [u8],
+    cells: &mut [u8; track_file::ROOM],
     tracks: &mut [u32],
     at: usize,
     findings: &mut [u32],
     from: usize,
 ) -> File
-    requires { length cells.old ≡ 16384 }
     ensures { TakenFile (file_seen result) tracks.old tracks.new at findings.old findings.new from }
 {
     match open(files, name) {
@@ -83,18 +82,16 @@ fn take_file<F: Files>(
 fn take_input<R: Read>(
     input: &mut R,
     portion: &mut [u8],
-    cells: &mut [u8],
+    cells: &mut [u8; track_file::ROOM],
     tracks: &mut [u32],
     at: usize,
     findings: &mut [u32],
     from: usize,
 ) -> File
-    requires { length cells.old ≡ 16384 }
     ensures { TakenFile (file_seen result) tracks.old tracks.new at findings.old findings.new from }
 {
     let start = track_file::start(cells);
-    let input = track_input::read_all(input, start, portion, cells);
-    match input {
+    match track_input::read_all(input, start, portion, cells) {
         Input::Ended(reader) => {
             match disk_files::add_file(reader, cells, tracks, at, findings, from) {
                 Ok(count) => File::Track(count),
@@ -106,6 +103,7 @@ fn take_input<R: Read>(
 }
 
 // The counts after a file.
+#[tactic(auto, unfolding(crate::specs::PrivateContracts::with_file, crate::specs::PrivateContracts::Small))]
 fn with_file(disk: Disk, file: File) -> Disk
     requires { Small disk (file_seen file) }
     ensures { result ≡ with_file disk (file_seen file) }
@@ -114,20 +112,16 @@ fn with_file(disk: Disk, file: File) -> Disk
         File::Track(count) => Disk {
             tracks: disk.tracks + 3,
             findings: disk.findings + 4 * count,
-            left: disk.left,
-            unreadable: disk.unreadable,
+            ..disk
         },
         File::Refused(_) => Disk {
-            tracks: disk.tracks,
-            findings: disk.findings,
             left: disk.left + 1,
-            unreadable: disk.unreadable,
+            ..disk
         },
         File::Unreadable => Disk {
-            tracks: disk.tracks,
-            findings: disk.findings,
             left: disk.left + 1,
             unreadable: disk.unreadable + 1,
+            ..disk
         },
     }
 }
@@ -160,13 +154,15 @@ fn next_file<S: Env + Files, P: Print>(
     messages: &P,
     i: usize,
     disk: Disk,
-    name: &mut [u8],
-    portion: &mut [u8],
-    cells: &mut [u8],
-    tracks: &mut [u32],
-    findings: &mut [u32],
+    name: &mut [u8; 4096],
+    portion: &mut [u8; 65536],
+    cells: &mut [u8; track_file::ROOM],
+    tracks: &mut [u32; TRACK_NUMBERS],
+    findings: &mut [u32; FINDING_NUMBERS],
 ) -> Disk
-    requires { Gathered disk tracks.old findings.old i × (disk.tracks ≤ 504) × (i < 0xFFFF_FFFF_FFFF_FFFF) × (length tracks.old ≡ 507) × (length findings.old ≡ 609076) × (length cells.old ≡ 16384) }
+    requires gathered { Gathered disk tracks.old findings.old i }
+    requires room { disk.tracks ≤ 504 }
+    requires more { i < 0xFFFF_FFFF_FFFF_FFFF }
     ensures { Gathered result tracks.new findings.new (i + 1) }
 {
     let length = system_calls::word(system, i, name);
@@ -188,84 +184,53 @@ fn next_file<S: Env + Files, P: Print>(
 fn gather<S: Env + Files, P: Print>(
     system: &S,
     messages: &P,
-    name: &mut [u8],
-    portion: &mut [u8],
-    cells: &mut [u8],
-    tracks: &mut [u32],
-    findings: &mut [u32],
+    name: &mut [u8; 4096],
+    portion: &mut [u8; 65536],
+    cells: &mut [u8; track_file::ROOM],
+    tracks: &mut [u32; TRACK_NUMBERS],
+    findings: &mut [u32; FINDING_NUMBERS],
 ) -> Disk
-    requires { (length tracks.old ≡ 507) × (length findings.old ≡ 609076) × (length cells.old ≡ 16384) }
     ensures few { (result.tracks ≤ 507) × (result.findings ≤ 609076) }
     ensures files { FilesTaken (take result.tracks tracks.new) (take result.findings findings.new) result.left result.unreadable }
 {
-    gather_words(
-        system,
-        messages,
-        system_calls::word_count(system),
-        name,
-        portion,
-        cells,
-        tracks,
-        findings,
-    )
-}
-
-// The same where there are so many words, of which the first is the program's name.
-fn gather_words<S: Env + Files, P: Print>(
-    system: &S,
-    messages: &P,
-    words: usize,
-    name: &mut [u8],
-    portion: &mut [u8],
-    cells: &mut [u8],
-    tracks: &mut [u32],
-    findings: &mut [u32],
-) -> Disk
-    requires { (length tracks.old ≡ 507) × (length findings.old ≡ 609076) × (length cells.old ≡ 16384) }
-    ensures few { (result.tracks ≤ 507) × (result.findings ≤ 609076) }
-    ensures files { AllFiles words (take result.tracks tracks.new) (take result.findings findings.new) result.left result.unreadable }
-{
+    let words = system_calls::word_count(system);
     let mut disk = Disk {
         tracks: 0,
         findings: 0,
         left: 0,
         unreadable: 0,
     };
-    let mut i: usize = 1;
-    while i < words {
+    for i in 1..words {
         if disk.tracks > 504 {
             return disk;
         }
         disk = next_file(
             system, messages, i, disk, name, portion, cells, tracks, findings,
         );
-        i += 1;
     }
     disk
 }
 
 // Prints the page part by part, since there is no room for all of it. The first part is refused where the page is.
-fn print_page<P: Print>(to: &P, tracks: &[u32], findings: &[u32], out: &mut [u8]) -> Printed
-    requires { length out.old ≡ 72080 }
+fn print_page<P: Print>(
+    to: &P,
+    tracks: &[u32],
+    findings: &[u32],
+    out: &mut [u8; PART_ROOM],
+) -> Printed
     ensures { PagePrinted tracks.now findings.now (printed_seen result) }
 {
     let mut total: usize = 0;
-    let mut part: usize = 0;
-    while part < 169 {
-        let answer = disk_page::page_part(tracks, findings, part, out);
-        match answer {
+    for part in 0..169 {
+        match disk_page::page_part(tracks, findings, part, out) {
             Err(refusal) => return Printed::Refused(refusal),
             Ok(length) => {
-                if out.len() < length {
-                    return Printed::NotTaken;
-                }
-                if to.write_all(&out[..length]).is_err() {
+                if out.len() < length || to.write_all(&out[..length]).is_err() {
                     return Printed::NotTaken;
                 }
                 total += length;
             }
         }
-        part += 1;
     }
     Printed::Whole(total)
 }
@@ -289,47 +254,30 @@ fn tell_disk<P: Print>(to: &P, disk: Disk, printed: Printed) {
     }
 }
 
-// Gathers the tracks and prints their page.
-fn list_files<S: Env + Files, O: Print, P: Print>(
-    system: &S,
-    output: &O,
-    messages: &P,
-    tracks: &mut [u32],
-    findings: &mut [u32],
-    cells: &mut [u8],
-    name: &mut [u8],
-    portion: &mut [u8],
-    out: &mut [u8],
-)
-    requires { (length tracks.old ≡ 507) × (length findings.old ≡ 609076) × (length cells.old ≡ 16384) × (length out.old ≡ 72080) }
-{
-    let disk = gather(system, messages, name, portion, cells, tracks, findings);
-    let printed = print_page(
-        output,
-        &tracks[..disk.tracks],
-        &findings[..disk.findings],
-        out,
-    );
-    tell_disk(messages, disk, printed);
-}
-
-// An array so large is not lent as a slice where it is made: its length is not computed in a proof.
+// Gathers the tracks and prints their page. The two large arrays are only lent here: in the function that makes them, what stands in them is
+// computed in a proof.
 fn list_disk(rt: HostRuntime, findings: &mut [u32; FINDING_NUMBERS], out: &mut [u8; PART_ROOM]) {
     let mut tracks = [0u32; TRACK_NUMBERS];
     let mut cells = [0u8; track_file::ROOM];
     let mut name = system_calls::buffer();
     let mut portion = system_calls::large_buffer();
-    list_files(
+    let messages = rt.stderr();
+    let disk = gather(
         &rt,
-        &rt.stdout(),
-        &rt.stderr(),
-        &mut tracks,
-        findings,
-        &mut cells,
+        &messages,
         &mut name,
         &mut portion,
+        &mut cells,
+        &mut tracks,
+        findings,
+    );
+    let printed = print_page(
+        &rt.stdout(),
+        &tracks[..disk.tracks],
+        &findings[..disk.findings],
         out,
     );
+    tell_disk(&messages, disk, printed);
 }
 
 fn main(rt: HostRuntime) {

@@ -19,18 +19,6 @@ abbrev pub Told : Answer Content → (cells before after : List ℕ) → Answer 
 Told given cells before after answer =
     (answer ≡ image_given given cells (length before)) × (after ≡ buffer_after (image_given given cells (length before)) (image_bytes given cells) before)
 
-module _ (cells before after : List ℕ) (answer : Answer ℕ) (read : Result FileCells Refusal) where
-  pub told-cells : (file : FileCells) → read ≡ Ok file
-      → (answer ≡ image_answer cells file.count file.track file.side (length before)) × (after ≡ image_after cells file.count file.track file.side before)
-      → Told (read_answer read) cells before after answer
-  unfolding image_given image_bytes
-  told-cells file e told = rw e told
-
-  pub told-refusal : (refusal : Refusal) → read ≡ Err refusal → answer ≡ refused_with refusal → after ≡ before
-      → Told (read_answer read) cells before after answer
-  unfolding image_given image_bytes buffer_after
-  told-refusal refusal e is same = rw e (is, same)
-
 -- the image of a file depends on its cells only where it is accepted
 same-image : (given : Answer Content) (cells other : List ℕ) (room : ℕ) → ((content : Content) → given ≡ gives content → cells ≡ other)
     → (image_given given cells room ≡ image_given given other room) × (image_bytes given cells ≡ image_bytes given other)

@@ -23,6 +23,7 @@ pub fn image_file(reader: Reader, cells: &[u8], image: &mut [u8]) -> Result<usiz
 }
 
 // The image of what a file gave.
+#[tactic(auto, unfolding(crate::specs::ImageOfFile::image_given, crate::specs::ImageOfFile::image_bytes, refusals::specs::RefusedCalls::buffer_after))]
 fn image_read(
     read: Result<FileCells, Refusal>,
     cells: &[u8],

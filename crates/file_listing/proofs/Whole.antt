@@ -22,17 +22,6 @@ use Rattle.track_file.proofs.Portions.{in-one-portion}
 abbrev pub Told : (made before after : List ℕ) → ℕ → Type 0
 Told made before after r = (r ≡ length made) × ((r ≤ 65536) × (after ≡ out_after made before))
 
-module _ (before after : List ℕ) (r : ℕ) (cells : List ℕ) (read : Result FileCells Refusal) where
-  pub told-cells : (file : FileCells) → read ≡ Ok file → Told (listing_of cells file.count file.track file.side) before after r
-      → Told (printed_file (read_answer read) cells) before after r
-  unfolding printed_file
-  told-cells file e told = rw e told
-
-  pub told-refusal : (refusal : Refusal) (number : ℕ) → read ≡ Err refusal → number ≡ number_of refusal → number < 0x1_0000_0000
-      → (r ≡ length (refused_line number)) × (after ≡ out_after (refused_line number) before) → Told (printed_file (read_answer read) cells) before after r
-  unfolding printed_file
-  told-refusal refusal number e is fits line = rw (e, ← is) (line.0, (omega (arith, line.0, refused-few number fits), line.1))
-
 -- what is printed of a file depends on its cells only where it is accepted
 same-printed : (answer : Answer Content) (cells other : List ℕ)
     → ((content : Content) → answer ≡ gives content → cells ≡ other) → printed_file answer cells ≡ printed_file answer other

@@ -36,6 +36,7 @@ pub fn list_whole_file(file: &[u8], out: &mut [u8]) -> usize
 }
 
 // The listing of what a file gave.
+#[tactic(auto, unfolding(crate::specs::ListingOfFile::printed_file))]
 fn list_read(read: Result<FileCells, Refusal>, cells: &[u8], out: &mut [u8]) -> usize
     ensures answer { result ≡ length (printed_file (read_answer read) cells.now) }
     ensures few { result ≤ 65536 }

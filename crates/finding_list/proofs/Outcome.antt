@@ -14,7 +14,11 @@ use Rattle.finding_list.proofs.MostFindings.{few_findings}
 use Rattle.finding_list.proofs.Numbers.{array-is}
 use Rattle.refusals.specs.RefusedCalls.Answer.{gives, refused}
 use Rattle.sectors.specs.Calls.{sectors_answer, sectors_beside}
+use Rattle.layouts.specs.Layouts.{layout_of}
+use Rattle.layouts.specs.declared.Density.{Density}
 use Rattle.layouts.specs.declared.Layout.{Layout}
+use Rattle.layouts.proofs.Soundness.{sound}
+use Rattle.sectors.specs.declared.Track.{Track}
 use Rattle.layouts.specs.PrivateContracts.{Sound}
 use Rattle.sector_records.specs.Sectors.{sectors_of}
 use Rattle.sector_records.specs.declared.Sectors.{Sectors}
@@ -45,26 +49,40 @@ module _ (layout : Layout) (sound : Sound layout) (bytes : List ℕ) (N T H : �
       × ((0 ≡ sectors_given (survey_answer layout bytes N T H) (length (sectors_of layout bytes N))) × (array ≡ array_after (survey_answer layout bytes N T H) (findings_of layout bytes N T) array))
   survey-refused number value e array = let g = survey-follows.refusals number value (sym e) in rw g (refl, (refl, refl))
 
-  -- and where it is accepted
-  module _ (ss : Sectors) (e : sectors_answer layout bytes N T H ≡ gives ss.count) (are : ss ≡ sectors_beside (sectors_answer layout bytes N T H) (sectors_of layout bytes N)) where
-    few : length (sectors_of layout bytes N) ≤ 64
-    few = let l = list-accepted layout bytes N T H ss.count e in omega (arith, l.0, l.1)
+-- and where it is accepted: the sectors that it gives are those of the track
+module _ (density : Density) (t : Track) (ss : Sectors) (e : gives ss.count ≡ sectors_answer (layout_of density) t.cells.bytes.now t.cells.count t.track t.side)
+    (are : ss ≡ sectors_beside (sectors_answer (layout_of density) t.cells.bytes.now t.cells.count t.track t.side) (sectors_of (layout_of density) t.cells.bytes.now t.cells.count)) where
+  abbrev layout : Layout
+  layout = layout_of density
 
-    pub sectors-are : take ss.count ss.all ≡ sectors_of layout bytes N
-    unfolding sectors_beside
-    sectors-are = sectors-kept layout bytes N ss (rw e at are) few
+  abbrev bytes : List ℕ
+  bytes = t.cells.bytes.now
 
-    pub sectors-bounded : BoundedTrack N (take ss.count ss.all)
-    sectors-bounded =
-        let l = list-accepted layout bytes N T H ss.count e in
-        rw sectors-are (sectors-on layout sound bytes N few (enough-cells layout bytes N T H ss.count e) l.2)
+  abbrev N : ℕ
+  N = t.cells.count
 
-    pub survey-given : (array after : List ℕ) (count : ℕ)
-        → Added (replicate 3604 0) 0 (joined (of_kind layout (cell bytes N) N T (take ss.count ss.all)) kinds) after count
-        → (gives count ≡ survey_answer layout bytes N T H)
-        × ((ss.count ≡ sectors_given (survey_answer layout bytes N T H) (length (sectors_of layout bytes N))) × (after ≡ array_after (survey_answer layout bytes N T H) (findings_of layout bytes N T) array))
-    unfolding findings_of
-    survey-given array after count added =
-        let l = list-accepted layout bytes N T H ss.count e in
-        let is = array-is (findings_of layout bytes N T) (replicate 3604 0) after count (rw sectors-are at added) in
-        rw (survey-follows.accepted ss.count e, is.0) (refl, (l.0, is.1))
+  accepted : (ss.count ≡ length (sectors_of layout bytes N)) × (ss.count ≤ 64) × (N ≤ 131072)
+  accepted = list-accepted layout bytes N t.track t.side ss.count (sym e)
+
+  pub count-few : ss.count ≤ 64
+  count-few = accepted.1
+
+  few : length (sectors_of layout bytes N) ≤ 64
+  few = omega (arith, accepted.0, accepted.1)
+
+  sectors-are : take ss.count ss.all ≡ sectors_of layout bytes N
+  unfolding sectors_beside
+  sectors-are = sectors-kept layout bytes N ss (rw (← e) at are) few
+
+  pub sectors-bounded : BoundedTrack N (take ss.count ss.all)
+  sectors-bounded = rw sectors-are (sectors-on layout (sound density) bytes N few (enough-cells layout bytes N t.track t.side ss.count (sym e)) accepted.2)
+
+  pub survey-given : (array after : List ℕ) (count : ℕ)
+      → Added (replicate 3604 0) 0 (joined (of_kind layout (cell bytes N) N t.track (take ss.count ss.all)) kinds) after count
+      → (gives count ≡ survey_answer layout bytes N t.track t.side)
+      × ((ss.count ≡ sectors_given (survey_answer layout bytes N t.track t.side) (length (sectors_of layout bytes N)))
+      × (after ≡ array_after (survey_answer layout bytes N t.track t.side) (findings_of layout bytes N t.track) array))
+  unfolding findings_of
+  survey-given array after count added =
+      let is = array-is (findings_of layout bytes N t.track) (replicate 3604 0) after count (rw sectors-are at added) in
+      rw ((survey-follows layout (sound density) bytes N t.track t.side).accepted ss.count (sym e), is.0) (refl, (accepted.0, is.1))

@@ -8,18 +8,15 @@ use native.Mathlib.Numerals.{add-one}
 use native.Mathlib.Omega.{arith}
 use lib.Dec.{T as T', ltb, ltb→lt}
 use lib.ListN.{length, get_or, set, take, drop, length-set, take-append-drop}
-use lib.Seq.{length-take-le}
-use Rattle.basis.specs.Lists.{listed, joined}
+use Rattle.basis.specs.Lists.{listed, joined, written_over}
 use Rattle.basis.proofs.Lists.{is-listed, listed_more}
 use Rattle.basis.proofs.Tables.{below, passes-below}
-use Rattle.findings.specs.Calls.{findings_answer, list_after}
 use Rattle.finding_list.specs.Calls.{numbers_of}
 use Rattle.finding_list.specs.Findings.{kinds, row_at, found_by, found_at, of_kind, findings_of}
-use Rattle.findings.specs.PrivateContracts.{count_written, finding_at}
+use Rattle.findings.specs.PrivateContracts.{finding_at, Numbered}
 use Rattle.finding_rules.specs.declared.Row.{Row}
 use Rattle.finding_list.specs.declared.Finding.{Finding}
 use Rattle.levels.specs.Levels.{levels}
-use Rattle.findings.proofs.Outcome.{written-few, findings-written}
 use Rattle.cells.specs.CellsAndBytes.{cell}
 use Rattle.layouts.specs.declared.Layout.{Layout}
 use Rattle.sector_records.specs.Sectors.{sectors_of}
@@ -32,11 +29,6 @@ no_finding = record { kind = 0; level = 0; place = 0; detail = 0 }
 abbrev pub Narrow : List Finding → Type 0
 Narrow [] = Unit {0}
 Narrow (x ∷ xs) = ((x.kind < 256) × (x.level < 256)) × Narrow xs
-
-narrow-take : (c : ℕ) (xs : List Finding) → Narrow xs → Narrow (take c xs)
-narrow-take zero xs h = tt
-narrow-take (suc c) [] h = tt
-narrow-take (suc c) (x ∷ xs) h = (h.0, narrow-take c xs h.1)
 
 narrow-append : (xs ys : List Finding) → Narrow xs → Narrow ys → Narrow (xs ++ ys)
 narrow-append [] ys h l = l
@@ -103,17 +95,15 @@ unfolding listed
 filled_is f list zero h = refl
 filled_is f list (suc i) h = rw add-one at (listed_more f no_finding i (f i) list (filled f list i) (filled_is f list i (omega arith)) h refl)
 
-module _ (layout : Layout) (bytes : List ℕ) (N T H : ℕ) where
+module _ (layout : Layout) (bytes : List ℕ) (N T : ℕ) where
   findings-narrow : Narrow (findings_of layout bytes N T)
   unfolding findings_of of_kind found_at
   findings-narrow =
       narrow-joined _ kinds (λ k h. narrow-joined _ _ (λ i l. narrow-found k h (row_at layout (cell bytes N) N T (sectors_of layout bytes N) k i)))
 
-  -- the caller's list after as many stores as the answer has the call write
-  pub list_is : (list : List Finding) (numbers : List ℕ) (c : ℕ) → c ≡ count_written (findings_answer layout bytes N T H (length list)) → c ≤ length list
-      → take (4 * c) numbers ≡ numbers_of (take c (findings_of layout bytes N T)) → filled (finding_at numbers) list c ≡ list_after layout bytes N T H list
-  list_is list numbers c e h n =
+  -- the caller's list after all stores
+  pub list_is : (list : List Finding) (numbers : List ℕ) (count : ℕ) → Numbered numbers count (length list) (findings_of layout bytes N T)
+      → filled (finding_at numbers) list count ≡ written_over (findings_of layout bytes N T) list
+  list_is list numbers count n =
       let xs = findings_of layout bytes N T in
-      let l : length (take c xs) ≡ c = length-take-le c xs (omega (arith, written-few layout bytes N T H (length list))) in
-      let s : listed (finding_at numbers) c ≡ take c xs = rw l at (front_is (take c xs) numbers (narrow-take c xs findings-narrow) (rw l n)) in
-      filled_is (finding_at numbers) list c h ∙ rw (s, e) (findings-written layout bytes N T H (length list) list)
+      rw n.all (filled_is (finding_at numbers) list (length xs) (omega (arith, n.all, n.fits)) ∙ rw (front_is xs numbers findings-narrow (rw n.all at n.front)))

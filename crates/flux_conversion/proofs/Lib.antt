@@ -1,4 +1,3 @@
-pub mod Writing
 pub mod Ending
 pub mod Accepted
 pub mod Reading

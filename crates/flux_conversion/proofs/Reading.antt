@@ -1,15 +1,15 @@
 -- What a track file that is written reads: its place, its number of cells, its packed cells, and no timings. Assumes nothing.
-use Prim.Native.Nat.{ℕ, ◌+◌, ◌/◌, ◌%◌, ◌*◌, ◌<◌, ◌≤◌}
-use mathlib.Core.Path.{◌≡◌, refl, sym, ◌∙◌, ap}
-use mathlib.Core.List.{List, [], ◌∷◌, ◌++◌, append_assoc}
+use Prim.Native.Nat.{ℕ, ◌+◌, ◌/◌, ◌%◌, ◌*◌, ◌<◌}
+use mathlib.Core.Path.{◌≡◌, refl, ◌∙◌, ap}
+use mathlib.Core.List.{List, ◌++◌, append_assoc}
 use native.Mathlib.Nat.{div-div-eq-div-mul, div-add-mod', mod-eq_of_lt}
 use native.Mathlib.Omega.{arith}
 use lib.ListN.{length, take, drop, length-append}
 use lib.Seq.{take_at, drop_at}
 use Rattle.basis.specs.Bytes.{four_bytes, number}
 use Rattle.cells.specs.CellsAndBytes.{bytes_for}
-use Rattle.track_file.specs.TrackFile.{place_count, track_of, side_of, cell_count, packed_bytes, flux_section, flux_count}
-use Rattle.flux_conversion.specs.Conversion.{in_four_bytes, front_of, file_with, new_length}
+use Rattle.track_file.specs.TrackFile.{place_count, track_of, side_of, cell_count, packed_bytes, flux_section, flux_count, in_four_bytes, front_of, file_with}
+use Rattle.flux_conversion.specs.Conversion.{new_length}
 
 -- a number in four bytes
 four-parts : (n a b d r s t : ℕ) → a * 256 + r ≡ n → b * 256 + s ≡ a → d * 256 + t ≡ b → four_bytes r s t d ≡ n

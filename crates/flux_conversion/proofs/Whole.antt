@@ -4,7 +4,7 @@ use mathlib.Core.Path.{◌≡◌, refl, sym, ◌∙◌, ap, subst}
 use mathlib.Core.Bool.{Bool, true, false, cond}
 use mathlib.Core.List.{List, [], ◌∷◌, ◌++◌}
 use native.Mathlib.Omega.{arith}
-use borrow.Author.Tests.{lt-ltb, le-ltb, ltb-true, ltb-false}
+use borrow.Author.Tests.{le-ltb, ltb-false}
 use lib.Dec.{ltb}
 use lib.IntN.{ℤ}
 use lib.ListN.{length, take, drop, replicate, length-append, length-drop, length-replicate}
@@ -18,19 +18,19 @@ use Rattle.flux_timings.specs.Timings.{first_out}
 use Rattle.separation.specs.Separation.{cells_of, cells_judged, separation}
 use Rattle.separation.specs.Demand3.{Reversal, Tolerable, taken, cells_in_all, refusal_table, Demand3}
 use Rattle.separation.proofs.Promise.{promised}
-use Rattle.taken_timings.proofs.Taking.{separation-judged, judged-in-room}
+use Rattle.taken_timings.proofs.Taking.{separation-judged}
 use Rattle.taken_timings.proofs.TimingCells.{never}
 use Rattle.track_file.specs.Portions.{start_cells, whole_of}
-use Rattle.track_file.specs.TrackFile.{Content, track_of, side_of, cell_count, packed_bytes}
+use Rattle.track_file.specs.TrackFile.{Content, track_of, side_of, cell_count, packed_bytes, file_with}
 use Rattle.flux_reader.specs.declared.FluxReader.{FluxReader}
-use Rattle.flux_file.specs.FluxFile.{flux_section, timings, flux_count, refused_at_once, flux_count_refused, not_a_flux_file, some_cells, placed, flux_answer, flux_cells, flux_answer_in, flux_buffer}
-use Rattle.flux_file.specs.Portions.{start_of, reader_after, cells_after, reader_through, cells_through, WholeFluxFile}
+use Rattle.flux_file.specs.FluxFile.{flux_section, timings, flux_count, refused_at_once, not_a_flux_file, some_cells, placed, flux_answer, flux_cells, flux_answer_in, flux_buffer}
+use Rattle.flux_file.specs.Portions.{start_of, reader_after, cells_after, WholeFluxFile}
 use Rattle.flux_file.proofs.Portions.{in-one-portion}
 use Rattle.flux_file.proofs.Staged.{length-numbers}
-use Rattle.flux_conversion.specs.Conversion.{file_with, new_file, new_length, in_room, conversion, converted}
+use Rattle.flux_conversion.specs.Conversion.{new_file, in_room, conversion, converted}
 use Rattle.flux_conversion.specs.Demand3.{ConversionDemand3}
 use Rattle.flux_conversion.specs.Portions.{conversion_of, new_file_of, conversion_in, WholeConversion}
-use Rattle.flux_conversion.proofs.Accepted.{Accepts, accepts, whole-flux, timings-judged}
+use Rattle.flux_conversion.proofs.Accepted.{accepts, timings-judged}
 use Rattle.flux_conversion.proofs.Ending.{Told}
 use Rattle.flux_conversion.proofs.Reading.{count-read, cells-read}
 

@@ -1,13 +1,14 @@
 // An old flux file, written anew with the cells that the separator makes of its timings.
 #![tactic(auto)]
 
-ghost use Rattle.std.specs.Prelude.{◌≡◌, ◌≤◌, length, Ok};
+ghost use Rattle.std.specs.Prelude.{◌≡◌, length};
 ghost use Rattle.refusals.specs.RefusedCalls.{answer_of, buffer_after};
 ghost use Rattle.track_file.specs.Portions.{read_answer};
 ghost use Rattle.flux_file.specs.Portions.{finish_answer};
 ghost use Rattle.flux_conversion.specs.Conversion.{conversion, converted};
 ghost use Rattle.flux_conversion.specs.Demand3.{ConversionDemand3};
 ghost use Rattle.flux_conversion.specs.Portions.{conversion_of, new_file_of, WholeConversion};
+ghost use Rattle.flux_conversion.specs.PrivateContracts.{FewCells};
 
 use flux_reader::FluxReader;
 use refusals::Refusal;
@@ -34,16 +35,21 @@ pub fn convert(reader: FluxReader, cells: &[u8], out: &mut [u8]) -> Result<usize
     ensures out { out.new ≡ buffer_after (conversion_of (finish_answer reader) cells.now (length out.old)) (new_file_of (finish_answer reader) cells.now) out.old }
     ensures file { WholeConversion reader cells.now (answer_of result) out.old out.new }
 {
-    let read = flux_file::finish(reader)?;
-    convert_read(read, cells, out)
+    convert_read(flux_file::finish(reader), cells, out)
 }
 
 // The conversion of a file that gives this.
-fn convert_read(read: FileCells, cells: &[u8], out: &mut [u8]) -> Result<usize, Refusal>
-    requires { read.count ≤ 131072 }
-    ensures answer { answer_of result ≡ conversion_of (read_answer (Ok read)) cells.now (length out.old) }
-    ensures out { out.new ≡ buffer_after (conversion_of (read_answer (Ok read)) cells.now (length out.old)) (new_file_of (read_answer (Ok read)) cells.now) out.old }
+#[tactic(auto, unfolding(crate::specs::Portions::conversion_of, crate::specs::Portions::new_file_of, crate::specs::Conversion::in_room, refusals::specs::RefusedCalls::buffer_after))]
+fn convert_read(
+    read: Result<FileCells, Refusal>,
+    cells: &[u8],
+    out: &mut [u8],
+) -> Result<usize, Refusal>
+    requires { FewCells (read_answer read) }
+    ensures answer { answer_of result ≡ conversion_of (read_answer read) cells.now (length out.old) }
+    ensures out { out.new ≡ buffer_after (conversion_of (read_answer read) cells.now (length out.old)) (new_file_of (read_answer read) cells.now) out.old }
 {
+    let read = read?;
     if cells.len() < track_file::ROOM {
         return Err(Refusal::NoRoom(track_file::ROOM));
     }

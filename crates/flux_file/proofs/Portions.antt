@@ -106,13 +106,13 @@ chunk-at (suc k) (suc i) bytes h =
 
 -- a whole timing that is not the last, as timing i of those that the portion has whole, of which the first `end` are taken
 pub timing-fed : {portion cells₀ : List ℕ} {reader₀ : FluxReader} {cells : List ℕ} {place : Place} {left : ℕ} {taken : Result Taken ℕ} {i : ℕ} (k end : ℕ)
-    → Fed portion cells₀ reader₀ (drop (4 * i) portion) cells (Timings place left Empty taken) → i < end → end ≤ k → 4 * k ≤ length portion → 1 < left
+    → Fed portion cells₀ reader₀ (drop (4 * i) portion) cells (Timings place left Empty taken) → i < end → end ≤ k → 4 * k ≤ length portion → 1 < left → {fewer : ℕ} → fewer ≡ left - 1
     → {chunk : List ℕ} → chunk ≡ get_or (take end (first_chunks 4 k portion)) i []
     → {t : ℕ} → t ≡ four_bytes (get_or chunk 0 0) (get_or chunk 1 0) (get_or chunk 2 0) (get_or chunk 3 0)
     → {next : Result Taken ℕ} {after : List ℕ} → next ≡ taken_after taken t → after ≡ taken_cells taken t cells
-    → Fed portion cells₀ reader₀ (drop (4 * (i + 1)) portion) after (Timings place (left - 1) Empty next)
+    → Fed portion cells₀ reader₀ (drop (4 * (i + 1)) portion) after (Timings place fewer Empty next)
 unfolding reader_after cells_after reader_after_byte cells_after_byte number_after in_timing in_timing_cells
-timing-fed {portion} {cells = cells} {place} {left} {taken} {i} k end fed h m l some {chunk} is {t} number {next} {after} e f =
+timing-fed {portion} {cells = cells} {place} {left} {taken} {i} k end fed h m l some less {chunk} is {t} number {next} {after} e f =
     let here = drop (4 * i) portion in
     let n : 4 * i + 4 ≡ 4 * (i + 1) = omega arith in
     let rest : here ≡ get_or chunk 0 0 ∷ get_or chunk 1 0 ∷ get_or chunk 2 0 ∷ get_or chunk 3 0 ∷ drop (4 * (i + 1)) portion =
@@ -122,6 +122,6 @@ timing-fed {portion} {cells = cells} {place} {left} {taken} {i} k end fed h m l 
     ∙ ap (λ (x : List ℕ). get_or chunk 0 0 ∷ get_or chunk 1 0 ∷ get_or chunk 2 0 ∷ get_or chunk 3 0 ∷ x) (drop-drop 4 (4 * i) portion ∙ ap (λ (m : ℕ). drop m portion) n) in
     let step = more-timings place left next some in
     record {
-      to_reader = rw (step, e, number) (ap (reader_after (Timings place left Empty taken)) (sym rest) ∙ fed.to_reader);
-      to_cells = rw (step, e, f, number) (ap (λ (x : List ℕ). cells_after (Timings place left Empty taken) x cells) (sym rest) ∙ fed.to_cells);
+      to_reader = rw (less, step, e, number) (ap (reader_after (Timings place left Empty taken)) (sym rest) ∙ fed.to_reader);
+      to_cells = rw (less, step, e, f, number) (ap (λ (x : List ℕ). cells_after (Timings place left Empty taken) x cells) (sym rest) ∙ fed.to_cells);
     }

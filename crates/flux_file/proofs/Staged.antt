@@ -1,6 +1,6 @@
 -- What the bytes of a file give, taken one by one, section after section. Assumes nothing.
 use Prim.Native.Nat.{ℕ, zero, suc, ◌+◌, ◌-◌, ◌*◌, ◌≤◌}
-use mathlib.Core.Path.{◌≡◌, refl, sym, ◌∙◌, ap, subst}
+use mathlib.Core.Path.{◌≡◌, refl, sym, ◌∙◌, ap}
 use mathlib.Core.Bool.{Bool, true, false, cond}
 use mathlib.Core.List.{List, [], ◌∷◌}
 use native.Mathlib.Omega.{arith}
@@ -10,7 +10,7 @@ use lib.Dec.{eqb, ltb}
 use lib.IntN.{pos}
 use lib.ListN.{length, drop}
 use Rattle.refusals.specs.RefusedCalls.{Answer, refused_with}
-use Rattle.refusals.specs.RefusedCalls.Answer.{gives, refused}
+use Rattle.refusals.specs.RefusedCalls.Answer.{refused}
 use Rattle.refusals.specs.declared.Refusal.{Refusal}
 use Rattle.refusals.specs.declared.Refusal.TheVariants.{TooManyTimings, NotATrackFile as NoTrackFile}
 use Rattle.separation.specs.Separation.{separation}

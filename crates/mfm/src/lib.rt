@@ -116,11 +116,11 @@ fn write_by_table(table: &[u16; 512], bytes: &[u8], before: bool, cells: &mut [u
     ensures { cells.new ≡ written_over (coded_by table.now (cond before 1 0) bytes.now) cells.old }
 {
     let mut last = u8::from(before);
-    for (i, byte) in bytes.iter().enumerate() {
-        let [high, low] = entry(table, last, *byte).to_be_bytes();
+    for (i, &byte) in bytes.iter().enumerate() {
+        let [high, low] = entry(table, last, byte).to_be_bytes();
         cells[2 * i] = high;
         cells[2 * i + 1] = low;
-        last = *byte;
+        last = byte;
     }
 }
 
@@ -147,15 +147,11 @@ fn sixteen_cells(cells: Cells, p: usize) -> u64
 {
     let bytes = cells.bytes;
     let k = p / 8;
-    if p < cells.count {
-        if 16 <= cells.count - p {
-            if k + 2 < bytes.len() {
-                let three = u64::from(bytes[k]) * 65536
-                    + u64::from(bytes[k + 1]) * 256
-                    + u64::from(bytes[k + 2]);
-                return (three >> (8 - p % 8)) % 65536;
-            }
-        }
+    if p < cells.count && 16 <= cells.count - p && k + 2 < bytes.len() {
+        let three = u64::from(bytes[k]) * 65536
+            + u64::from(bytes[k + 1]) * 256
+            + u64::from(bytes[k + 2]);
+        return (three >> (8 - p % 8)) % 65536;
     }
     cells.word(p, 16)
 }

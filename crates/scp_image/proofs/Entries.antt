@@ -1,38 +1,13 @@
 -- The entries of an image: the loops over them, and where their blocks lie. Assumes nothing.
-use Rattle.std.proofs.Common.{◌≡◌, ℕ, zero, suc, ◌+◌, ◌-◌, ◌/◌, ◌%◌, ◌<◌, ◌≤◌, min, Bool, true, false, cond, not, ◌&&◌, eqb, ltb, List, ◌++◌, length, drop, set, sym, refl, ap, ◌∙◌, ⊎_elim, le_trans, eq-or-lt_of_le, zero-add, add-one, arith, length-set, ltb-false, ltb-true, le-ltb, eq-eqb, ne_eqb}
+use Rattle.std.proofs.Common.{◌≡◌, ℕ, zero, suc, ◌+◌, ◌-◌, ◌<◌, ◌≤◌, min, Bool, true, false, cond, Some, None, not, ◌&&◌, eqb, ltb, List, ◌++◌, length, drop, set, sym, refl, ap, ◌∙◌, ⊎_elim, le_trans, eq-or-lt_of_le, zero-add, arith, length-set, ltb-false, ltb-true, le-ltb, lt-ltb, ne_eqb}
+use mir.Val.{bool_byte}
 use Rattle.basis.specs.Lists.{listed, written_over}
 use Rattle.basis.specs.Search.{least, count}
 use Rattle.basis.proofs.Bools.{and_right}
 use Rattle.basis.proofs.Lists.{length-listed, listed_more}
 use Rattle.basis.proofs.Search.{least_step, least-hit, least-end}
-use Rattle.scp_image.specs.Entries.{start_of, nearer, end_among, end_of, bad_entry, first_bad, place_number}
-
-module _ (image : List ℕ) (limit e : ℕ) where
-  pub beside_none : limit ≡ end_among image limit e 0
-  unfolding end_among
-  beside_none = refl
-
-  -- the end beside one entry more
-  pub beside-more : (k : ℕ) {start other end next : ℕ} → start ≡ start_of image e → other ≡ start_of image k → end ≡ end_among image limit e k
-      → next ≡ nearer e k start other end → next ≡ end_among image limit e (k + 1)
-  unfolding end_among
-  beside-more k s o h n = n ∙ rw (s, o, h, add-one k)
-
-  pub at-the-end : {end k : ℕ} → (k ≤ 168) × (end ≡ end_among image limit e k) → 168 ≤ k → end ≡ end_of image limit e
-  at-the-end {end} {k} so_far h =
-      let l = so_far.0 in
-      let is : k ≡ 168 = omega arith in
-      so_far.1 ∙ ap (end_among image limit e) is
-
--- the two cases of a start beside another
-module _ (e f start other end : ℕ) where
-  pub cut_short : (not (eqb f e) && (not (ltb other start) && ltb other end)) ≡ true → other ≡ nearer e f start other end
-  unfolding nearer
-  cut_short t = rw t refl
-
-  pub not-cut : (not (eqb f e) && (not (ltb other start) && ltb other end)) ≡ false → end ≡ nearer e f start other end
-  unfolding nearer
-  not-cut t = rw t refl
+use Rattle.scp_image.specs.Header.{place_below}
+use Rattle.scp_image.specs.Entries.{start_of, nearer, end_among, bad_entry, first_bad, place_number}
 
 -- a start cuts the end short, and never puts it off
 pub nearer-le : (e f start other end : ℕ) → nearer e f start other end ≤ end
@@ -72,85 +47,83 @@ module _ (image : List ℕ) (limit e : ℕ) where
 
 -- the search for a bad entry: none before e is
 module _ (image : List ℕ) (limit : ℕ) where
-  abbrev pub NoneBefore : ℕ → Type 0
-  NoneBefore e = (e ≤ 168) × (least (bad_entry image limit) (168 - e) e ≡ first_bad image limit)
+  module _ {e : ℕ} (so_far : least (bad_entry image limit) (168 - e) e ≡ first_bad image limit) where
+    pub none_more : e < 168 → bad_entry image limit e ≡ false → least (bad_entry image limit) (168 - (e + 1)) (e + 1) ≡ first_bad image limit
+    none_more h f = sym (least_step (bad_entry image limit) e 168 h f) ∙ so_far
 
-  module _ {e : ℕ} (so_far : NoneBefore e) where
-    pub none_more : {r : Bool} → e < 168 → r ≡ bad_entry image limit e → r ≡ false → NoneBefore (e + 1)
-    none_more h is f = (omega arith, sym (least_step (bad_entry image limit) e 168 h (sym is ∙ f)) ∙ so_far.1)
+    pub found_bad : e < 168 → bad_entry image limit e ≡ true → Some e ≡ place_below 168 (first_bad image limit)
+    found_bad h t =
+        let is : e ≡ first_bad image limit = sym (least-hit (bad_entry image limit) e 168 h t) ∙ so_far in
+        rw (← is, lt-ltb e 168 h)
 
-    pub found-bad : {r : Bool} → e < 168 → r ≡ bad_entry image limit e → r ≡ true → e ≡ first_bad image limit
-    found-bad h is t = sym (least-hit (bad_entry image limit) e 168 h (sym is ∙ t)) ∙ so_far.1
+    pub found_none : 168 ≤ e → None ≡ place_below 168 (first_bad image limit)
+    found_none h =
+        let is : e ≡ first_bad image limit = sym (least-end (bad_entry image limit) e 168 h) ∙ so_far in
+        rw (← is, le-ltb e 168 h)
 
-    pub found_none : 168 ≤ e → e ≡ first_bad image limit
-    found_none h = sym (least-end (bad_entry image limit) e 168 h) ∙ so_far.1
-
--- the numbers that are given, by whether they are a start or an end
-module _ (image : List ℕ) (limit i : ℕ) {start : ℕ} (is : start ≡ start_of image (i / 2)) where
-  pub a-start : i % 2 ≡ 0 → start ≡ place_number image limit i
-  unfolding place_number
-  a-start h = rw (eq-eqb (i % 2) 0 h, is)
-
-  module _ (odd : i % 2 ≡ 0 → ⊥) where
-    pub no_end : start ≡ 0 → 0 ≡ place_number image limit i
-    unfolding place_number
-    no_end h = rw (ne_eqb (i % 2) 0 odd, ← is, eq-eqb start 0 h)
-
-    pub an-end : {end : ℕ} → (start ≡ 0 → ⊥) → end ≡ end_of image limit (i / 2) → end ≡ place_number image limit i
-    unfolding place_number
-    an-end h e = rw (ne_eqb (i % 2) 0 odd, ← is, ne_eqb start 0 h, e)
+-- where a search found nothing
+pub none-below : (bound place : ℕ) → None ≡ place_below bound place → bound ≤ place
+none-below bound place e = go (ltb place bound) refl e
+  where
+    go : (x : Bool) → ltb place bound ≡ x → None ≡ cond x (Some place) None → bound ≤ place
+    go true x e = absurd cc
+    go false x e = ltb-false place bound x
 
 -- the first i numbers are written
 module _ (image : List ℕ) (limit : ℕ) where
-  pub record Written (list₀ : List ℕ) (end : ℕ) (list : List ℕ) (i : ℕ) : Type 0 where
-    pub within : i ≤ end
+  pub record Written (list₀ list : List ℕ) (i : ℕ) : Type 0 where
     pub long : length list ≡ length list₀
     pub front : list ≡ listed (place_number image limit) i ++ drop i list₀
 
-  pub none_written : (list : List ℕ) (end : ℕ) → Written list end list 0
+  pub none_written : (list : List ℕ) → Written list list 0
   unfolding listed
-  none_written list end = record { within = omega arith; long = refl; front = refl }
+  none_written list = record { long = refl; front = refl }
 
-  module _ {list₀ : List ℕ} {end : ℕ} {list : List ℕ} {i : ℕ} (so_far : Written list₀ end list i) where
-    pub one_written : {number : ℕ} → i < end → end ≤ length list₀ → number ≡ place_number image limit i → Written list₀ end (set list i number) (i + 1)
-    one_written h room is =
-        let k : i < length list₀ = omega arith in
+  module _ {list₀ list : List ℕ} {i : ℕ} (so_far : Written list₀ list i) where
+    pub one_written : {number : ℕ} → i < length list₀ → number ≡ place_number image limit i → Written list₀ (set list i number) (i + 1)
+    one_written h is =
         record {
-          within = omega arith;
           long = simp length-set so_far.long;
-          front = listed_more (place_number image limit) 0 i _ list₀ _ so_far.front k is;
+          front = listed_more (place_number image limit) 0 i _ list₀ _ so_far.front h is;
         }
 
-    pub all-written : end ≤ i → end ≡ min (length list₀) 336 → list ≡ written_over (listed (place_number image limit) (min (length list₀) 336)) list₀
-    all-written h is =
-        let w = so_far.within in
-        let e : i ≡ min (length list₀) 336 = omega arith in
+    pub all_written : i ≡ min (length list₀) 336 → list ≡ written_over (listed (place_number image limit) (min (length list₀) 336)) list₀
+    all_written e =
         let n : length (listed (place_number image limit) i) ≡ i = length-listed (place_number image limit) i in
         so_far.front ∙ ap (λ (k : ℕ). listed (place_number image limit) i ++ drop k list₀) (sym n) ∙ ap (λ (k : ℕ). written_over (listed (place_number image limit) k) list₀) e
+
+-- a truth as a number
+pub one_or_none : (x : Bool) → bool_byte x ≡ cond x 1 0
+one_or_none true = refl
+one_or_none false = refl
 
 -- the first e of q places are counted
 module _ (test : ℕ → Bool) (q : ℕ) where
   pub record Tallied (passed e : ℕ) : Type 0 where
-    pub within : e ≤ q
     pub few : passed ≤ e
     pub left : passed + count test (q - e) e ≡ count test q 0
 
-  pub none-tallied : Tallied 0 0
-  none-tallied =
+  pub none_tallied : Tallied 0 0
+  none_tallied =
       let s : q - 0 ≡ q = omega arith in
-      record { within = omega arith; few = omega arith; left = rw (zero-add, s) refl }
+      record { few = omega arith; left = rw (zero-add, s) refl }
 
   module _ {passed e : ℕ} (so_far : Tallied passed e) where
-    pub one-tallied : {one : ℕ} → e < q → one ≡ cond (test e) 1 0 → one ≤ 1 → Tallied (passed + one) (e + 1)
+    pub one_tallied : {one : ℕ} → e < q → one ≡ cond (test e) 1 0 → Tallied (passed + one) (e + 1)
     unfolding count
-    one-tallied {one} h o small =
+    one_tallied {one} h o =
         let n : q - e ≡ suc (q - (e + 1)) = omega arith in
         let c : count test (q - e) e ≡ one + count test (q - (e + 1)) (e + 1) = rw (n, o) refl in
-        record { within = omega arith; few = omega (arith, so_far.few); left = omega (arith, so_far.left, c) }
+        let small : one ≤ 1 = rw o (at_most_one (test e)) in
+        record { few = omega (arith, so_far.few); left = omega (arith, so_far.left, c) }
+      where
+        at_most_one : (x : Bool) → cond x 1 0 ≤ 1
+        at_most_one true = omega arith
+        at_most_one false = omega arith
 
-    pub all-tallied : q ≤ e → passed ≡ count test q 0
+    pub all_tallied : q ≤ e → passed ≡ count test q 0
     unfolding count
-    all-tallied h =
+    all_tallied h =
         let n : q - e ≡ 0 = omega arith in
         let c : count test (q - e) e ≡ 0 = rw n refl in
         omega (arith, so_far.left, c)

@@ -1,15 +1,15 @@
 -- What follows of the entries that are given and of the sum. Assumes nothing.
-use Rattle.std.proofs.Common.{◌≡◌, ℕ, ◌+◌, ◌-◌, ◌*◌, ◌<◌, ◌≤◌, Bool, true, false, cond, ◌&&◌, ◌||◌, ltb, List, ◌++◌, sym, refl, ap, ◌∙◌, inl, inr, le_trans, lt_of_not-le, arith, ltb-false}
+use Rattle.std.proofs.Common.{◌≡◌, ℕ, ◌+◌, ◌-◌, ◌*◌, ◌<◌, ◌≤◌, Bool, true, false, cond, None, ◌&&◌, ◌||◌, ltb, List, ◌++◌, sym, refl, ap, ◌∙◌, inl, inr, le_trans, lt_of_not-le, arith, ltb-false}
 use native.Mathlib.Decide.{dec_le}
 use Rattle.basis.proofs.Bools.{or_left, or_right}
 use Rattle.basis.proofs.Search.{least-before}
 use Rattle.refusals.specs.RefusedCalls.Answer.{gives}
-use Rattle.scp_image.specs.Header.{revolutions_of, first_track, last_track, flags_of, heads_of, has_footer}
+use Rattle.scp_image.specs.Header.{revolutions_of, first_track, last_track, flags_of, heads_of, has_footer, place_below}
 use Rattle.scp_image.specs.Entries.{start_of, is_there, blocks_end, limit_of, end_of, other_side, misplaced, bad_entry, first_bad}
 use Rattle.scp_image.specs.CheckSum.{total, sum_after}
 use Rattle.scp_image.specs.Laws.{Within, Apart, WellPlaced, Carried, AllSummed}
 use Rattle.scp_image.specs.Laws.Carried.{none, more}
-use Rattle.scp_image.proofs.Entries.{end-in-limit, ends-before}
+use Rattle.scp_image.proofs.Entries.{end-in-limit, ends-before, none-below}
 use Rattle.scp_image.proofs.Sums.{total-append}
 
 limit-within : (flags n : ℕ) → blocks_end flags n ≤ n
@@ -50,6 +50,12 @@ module _ (image : List ℕ) (n : ℕ) (none : 168 ≤ first_bad image (limit_of 
   -- 19.12: where no entry is bad, each block is within the image, and any two are apart
   pub well-placed : (tracks : ℕ) → WellPlaced image n (gives tracks)
   well-placed tracks = (within, λ e f h k d there also. apart e f h k d)
+
+-- the same from what the search for a bad entry found, in a head that is the image's
+pub placed : {image head : List ℕ} {n m : ℕ} → head ≡ image → m ≡ n → None ≡ place_below 168 (first_bad head (limit_of head m)) → (tracks : ℕ)
+    → WellPlaced image n (gives tracks)
+placed {head = head} {m = m} h l found tracks =
+    rw (← h, ← l) (well-placed head m (none-below 168 (first_bad head (limit_of head m)) found) tracks)
 
 -- two portions, one after the other
 sum-of-two : (sum : ℕ) (first second : List ℕ) → sum_after (sum_after sum first) second ≡ sum_after sum (first ++ second)

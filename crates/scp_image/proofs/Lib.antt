@@ -2,4 +2,3 @@ pub mod Judging
 pub mod Entries
 pub mod Sums
 pub mod Laws
-pub mod Calls

@@ -5,7 +5,7 @@
 --                                                     track  track                                        4 bytes    4 bytes
 --
 -- n is the length of the whole image. The main property: the call gives the ten numbers of the header, or a refusal. Assumes nothing.
-use Rattle.std.specs.Prelude.{ℕ, ◌+◌, ◌/◌, ◌%◌, Bool, cond, not, ◌&&◌, ◌||◌, List, [], ◌∷◌, length, take, drop, ◌==◌, nat_lt, slice_index, Option, Some, None}
+use Rattle.std.specs.Prelude.{ℕ, ◌/◌, ◌%◌, Bool, cond, not, ◌&&◌, ◌||◌, List, [], ◌∷◌, length, take, drop, ◌==◌, nat_lt, slice_index, Option, Some, None}
 use Rattle.basis.specs.Bytes.{number}
 use Rattle.refusals.specs.RefusedCalls.{Answer, refused_with, buffer_after}
 use Rattle.refusals.specs.RefusedCalls.Answer.{gives}

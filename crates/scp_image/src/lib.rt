@@ -8,7 +8,7 @@ ghost use Rattle.basis.specs.Lists.{listed, written_over};
 ghost use Rattle.basis.specs.Search.{count};
 ghost use Rattle.refusals.specs.RefusedCalls.{answer_of, answer_by};
 ghost use Rattle.refusals.specs.RefusedCalls.Answer.{gives};
-ghost use Rattle.scp_image.specs.Header.{not_an_image, may_change, fault_among, fault_of, header_judged, header_numbers, header_answer, header_after, place_below};
+ghost use Rattle.scp_image.specs.Header.{may_change, fault_among, fault_of, header_judged, header_numbers, header_answer, header_after, place_below};
 ghost use Rattle.scp_image.specs.Entries.{start_of, is_there, limit_of, nearer, end_of, other_side, misplaced, bad_entry, first_bad, place_number, entries_answer, entries_after};
 ghost use Rattle.scp_image.specs.CheckSum.{sum_after, check_answer};
 ghost use Rattle.scp_image.specs.Laws.{WellPlaced, AllSummed};
@@ -25,6 +25,7 @@ struct Head<'a> {
 }
 
 // The ten numbers of the header, to the front of a list (rule 9.71).
+#[tactic(auto, unfolding(crate::specs::Header::header_judged, refusals::specs::RefusedCalls::buffer_after))]
 pub fn image_header(
     first: &[u8],
     image_length: usize,
@@ -39,6 +40,7 @@ pub fn image_header(
 }
 
 // Where the block of each entry begins, and before what it has to end, to the front of a list (rule 9.72).
+#[tactic(auto, unfolding(crate::specs::Header::header_judged, refusals::specs::RefusedCalls::buffer_after))]
 pub fn image_entries(
     first: &[u8],
     image_length: usize,
@@ -69,6 +71,7 @@ pub fn image_sum(sum: u32, portion: &[u8]) -> u32
 }
 
 // Whether the sum of the bytes is the one that the header says (rule 9.74).
+#[tactic(auto, unfolding(crate::specs::Header::header_judged))]
 pub fn image_check(first: &[u8], image_length: usize, sum: u32) -> Result<usize, Refusal>
     ensures { answer_of result ≡ check_answer first.now image_length sum }
 {
@@ -80,11 +83,15 @@ pub fn image_check(first: &[u8], image_length: usize, sum: u32) -> Result<usize,
 }
 
 // The head of an image, with the two refusals that all calls on one have (rules 19.5 and 19.6).
+#[tactic(auto, unfolding(crate::specs::Header::header_judged, crate::specs::Header::not_an_image))]
 fn judge(first: &[u8], image_length: usize) -> Result<Head<'_>, Refusal>
     ensures first { answer_by (λ head. head.first) result ≡ header_judged first.now image_length (gives first.entry) }
     ensures length { answer_by (λ head. head.image_length) result ≡ header_judged first.now image_length (gives image_length) }
 {
-    if not_an_image(first, image_length) {
+    if first.len() < 688 || image_length < 688 || image_length > 4_294_967_295 {
+        return Err(Refusal::NotAnImage);
+    }
+    if !first.starts_with(b"SCP") {
         return Err(Refusal::NotAnImage);
     }
     let head = Head {
@@ -95,16 +102,6 @@ fn judge(first: &[u8], image_length: usize) -> Result<Head<'_>, Refusal>
         None => Ok(head),
         Some(place) => Err(Refusal::ImageHeader(place)),
     }
-}
-
-// Whether the bytes are no image (rule 19.5).
-fn not_an_image(first: &[u8], image_length: usize) -> bool
-    ensures { result ≡ not_an_image first.now image_length }
-{
-    first.len() < 688
-        || image_length < 688
-        || image_length > 4_294_967_295
-        || !first.starts_with(b"SCP")
 }
 
 impl<'a> Head<'a> {
@@ -118,6 +115,7 @@ impl<'a> Head<'a> {
         )
     }
 
+    #[tactic(auto, unfolding(crate::specs::Header::header_numbers))]
     fn numbers(self) -> [u32; 10]
         ensures { result ≡ header_numbers self.entry.first.now }
     {
@@ -137,6 +135,7 @@ impl<'a> Head<'a> {
     }
 
     // The number of four bytes at a place, the lowest first.
+    #[tactic(auto, using(crate::proofs::Judging::number_here))]
     fn number_at(self, place: usize) -> u32
         requires { place ≤ 684 }
         ensures { result ≡ number (drop place self.entry.first.now) }
@@ -158,6 +157,7 @@ impl<'a> Head<'a> {
     }
 
     // Where the blocks end at the latest: a footer has 48 bytes.
+    #[tactic(auto, unfolding(crate::specs::Entries::blocks_end))]
     fn limit(self) -> u32
         ensures { result ≡ limit_of self.entry.first.now self.entry.image_length }
     {
@@ -168,6 +168,7 @@ impl<'a> Head<'a> {
     }
 
     // Before what the block of an entry has to end.
+    #[tactic(auto, unfolding(crate::specs::Entries::end_among))]
     fn end_of(self, entry: usize) -> u32
         requires { entry < 168 }
         ensures { result ≡ end_of self.entry.first.now (limit_of self.entry.first.now self.entry.image_length) entry }
@@ -217,6 +218,7 @@ impl<'a> Head<'a> {
         }
     }
 
+    #[tactic(auto, unfolding(crate::specs::Entries::place_number))]
     fn place_number(self, i: usize) -> u32
         requires { i < 336 }
         ensures { result ≡ place_number self.entry.first.now (limit_of self.entry.first.now self.entry.image_length) i }
@@ -240,6 +242,7 @@ impl<'a> Head<'a> {
     }
 }
 
+#[tactic(auto, unfolding(crate::specs::Header::fault_among))]
 fn fault_among(
     revolutions: u8,
     first: u8,
@@ -275,16 +278,18 @@ fn fault_among(
     None
 }
 
+#[tactic(auto, unfolding(crate::specs::Entries::nearer))]
 fn nearer(entry: usize, other_entry: usize, start: u32, other: u32, end: u32) -> u32
     ensures { result ≡ nearer entry other_entry start other end }
 {
-    if other_entry != entry && !(other < start) && other < end {
+    if other_entry != entry && start <= other && other < end {
         other
     } else {
         end
     }
 }
 
+#[tactic(auto, unfolding(crate::specs::Entries::misplaced))]
 fn misplaced(
     revolutions: u8,
     first: u8,

@@ -14,7 +14,7 @@ use Rattle.standard_input.specs.Reading.{bytes_read, is_end, Brought, SomeRead}
 use Rattle.standard_input.specs.Reading.Brought.{none, more}
 use Rattle.scp_track.specs.InputRead.{InputRead}
 use Rattle.scp_track.specs.InputRead.InputRead.{stops, goes_on}
-use Rattle.scp_track.proofs.Inputs.{InputWritten}
+use Rattle.lines.specs.Lines.{out_after}
 
 -- reads one after another
 pub then-brought : {front middle bytes : List ℕ} → Brought front middle → Brought middle bytes → Brought front bytes
@@ -26,27 +26,27 @@ then-read : {longest : ℕ} {front middle : List ℕ} {ended : Bool} {bytes : Li
 then-read first (stops brought got room nothing) = stops (then-brought first brought) got room nothing
 then-read first (goes_on brought long) = goes_on (then-brought first brought) long
 
--- what is to be written: the input is read, and the code was handed these bytes and this yes or no
-module _ {longest : ℕ} {front : List ℕ} {revolutions k T H : ℕ} {before : List ℕ} {answer : ℕ} {out : List ℕ} where
+-- the input is read
+module _ {longest : ℕ} {front : List ℕ} {revolutions k T H : ℕ} {before : List ℕ} {size : ℕ} {after : List ℕ} where
   -- a read brought nothing
   pub listed-where-stopped : {block : List ℕ} {ended : Bool} → Brought front block → SomeRead 0 ended
-      → InputWritten block revolutions k T H before ended answer out → (answer ≤ 65536) × ListedBlock longest front revolutions k T H before answer out
+      → record { answer : size ≡ length (input_listing ended block revolutions k T H); few : size ≤ 65536; out : after ≡ out_after (input_listing ended block revolutions k T H) before }
+      → ListedBlock longest front revolutions k T H before size after
   listed-where-stopped {block} {ended} brought last w =
       let t = last.taken in
-      let read : InputRead longest front (is_end t.got) block = stops brought t.got last.room (is-empty _ t.count_is) in (
-        w.1.0,
-        record {
-          block = block;
-          ended = ended;
-          read = subst (λ (b : Bool). InputRead longest front b block) (sym t.ended_is) read;
-          answer_is = w.0;
-          out_is = w.1.1;
-        },
-      )
+      let read : InputRead longest front (is_end t.got) block = stops brought t.got last.room (is-empty _ t.count_is) in
+      record {
+        block = block;
+        ended = ended;
+        read = subst (λ (b : Bool). InputRead longest front b block) (sym t.ended_is) read;
+        answer_is = w.answer;
+        out_is = w.out;
+      }
 
   -- the longest room is full, and a further read was made
   pub listed-where-full : {block : List ℕ} {count : ℕ} {ended : Bool} → Brought front block → longest ≤ length block → SomeRead count ended
-      → InputWritten block revolutions k T H before ended answer out → (answer ≤ 65536) × ListedBlock longest front revolutions k T H before answer out
+      → record { answer : size ≡ length (input_listing ended block revolutions k T H); few : size ≤ 65536; out : after ≡ out_after (input_listing ended block revolutions k T H) before }
+      → ListedBlock longest front revolutions k T H before size after
   unfolding input_listing is_end
   listed-where-full {block} {count} {ended} brought long last w = go last.taken.got (bytes_read last.taken.got last.room) refl last.taken.ended_is
     where
@@ -57,22 +57,19 @@ module _ {longest : ℕ} {front : List ℕ} {revolutions k T H : ℕ} {before : 
       further (pos (suc n)) x bytes e = refl
       further (negsuc n) x bytes e = refl
 
-      go : (got : ℤ) (bytes : List ℕ) → bytes_read got last.room ≡ bytes → ended ≡ is_end got → (answer ≤ 65536) × ListedBlock longest front revolutions k T H before answer out
+      go : (got : ℤ) (bytes : List ℕ) → bytes_read got last.room ≡ bytes → ended ≡ is_end got → ListedBlock longest front revolutions k T H before size after
       go got [] e is =
           listed-where-stopped brought (record { room = last.room; taken = record { got = got; count_is = sym (ap length e); ended_is = is } }) w
       go got (x ∷ bytes) e is =
           let no : ended ≡ false = is ∙ sym (further got x bytes e) in
           let n : length (bytes_read got last.room) ≡ suc (length bytes) = ap length e in
-          let w' = subst (λ (b : Bool). InputWritten block revolutions k T H before b answer out) no w in (
-            w'.1.0,
-            record {
-              block = block ++ bytes_read got last.room;
-              ended = false;
-              read = goes_on (more got last.room brought (omega (arith, n))) (omega (arith, n, length-append block (bytes_read got last.room)));
-              answer_is = w'.0;
-              out_is = w'.1.1;
-            },
-          )
+          record {
+            block = block ++ bytes_read got last.room;
+            ended = false;
+            read = goes_on (more got last.room brought (omega (arith, n))) (omega (arith, n, length-append block (bytes_read got last.room)));
+            answer_is = rw no at w.answer;
+            out_is = rw no at w.out;
+          }
 
 -- what is listed of the bytes that come after others, which were read before them
 pub listed-on : {longest : ℕ} {front middle : List ℕ} {revolutions k T H : ℕ} {before : List ℕ} {answer : ℕ} {out : List ℕ} → Brought front middle

@@ -11,6 +11,7 @@
 ghost use Rattle.std.specs.Prelude.{◌≡◌, [], ◌≤◌, length};
 ghost use Rattle.block_choice.specs.Arguments.{choice_seen};
 ghost use Rattle.lines.specs.Lines.{out_after};
+ghost use Rattle.system_calls.specs.Counts.{written_count};
 ghost use Rattle.scp_track.specs.Arguments.{ChoiceRead};
 ghost use Rattle.scp_track.specs.InputListing.{input_listing, ListedBlock};
 
@@ -49,95 +50,72 @@ fn read_choice<E: Env>(
     )
 }
 
-// What is to be written of an input of which these bytes were read, and which ended there or not.
-fn list_read(choice: Choice, block: &[u8], ended: bool, out: &mut [u8]) -> usize
-    ensures answer { result ≡ length (input_listing ended block.now choice.revolutions choice.revolution choice.track choice.side) }
-    ensures few { result ≤ 65536 }
+// What is to be written of an input of which these bytes were read, and which ended there or not: its listing, at the front of `out`, or nothing.
+#[tactic(auto, unfolding(crate::specs::InputListing::input_listing), using(crate::proofs::Inputs::nothing_written))]
+fn list_read(choice: Choice, block: &[u8], ended: bool, out: &mut [u8]) -> Option<usize>
+    ensures answer { written_count result ≡ length (input_listing ended block.now choice.revolutions choice.revolution choice.track choice.side) }
+    ensures few { written_count result ≤ 65536 }
     ensures out { out.new ≡ out_after (input_listing ended block.now choice.revolutions choice.revolution choice.track choice.side) out.old }
 {
-    if ended {
-        return block_listing::list_block(
-            block,
-            choice.revolutions as u32,
-            choice.revolution as u32,
-            choice.track as u32,
-            choice.side as u32,
-            out,
-        );
+    if !ended {
+        return None;
     }
-    0
+    Some(block_listing::list_block(
+        block,
+        u32::from(choice.revolutions),
+        u32::from(choice.revolution),
+        u32::from(choice.track),
+        u32::from(choice.side),
+        out,
+    ))
 }
 
-// Reads the block and puts its listing at the front of `out`; the answer is the number of its bytes. It is 0 where the input cannot be read to
-// its end, or has more bytes than the longest room: there is nothing to write then. A block of more revolutions than usual gets that at once.
-fn list_input<R: Read>(from: &mut R, choice: Choice, out: &mut [u8]) -> usize
-    ensures few { result ≤ 65536 }
-    ensures listing { ListedBlock 4194304 [] choice.revolutions choice.revolution choice.track choice.side out.old result out.new }
+// Reads the block and puts its listing at the front of `out`; the answer is the number of its bytes. There is none where the input cannot be read
+// to its end, or has more bytes than the longest room: there is nothing to write then. A block of more revolutions than usual gets that at once.
+fn list_input<R: Read>(from: &mut R, choice: Choice, out: &mut [u8]) -> Option<usize>
+    ensures few { written_count result ≤ 65536 }
+    ensures listing { ListedBlock 4194304 [] choice.revolutions choice.revolution choice.track choice.side out.old (written_count result) out.new }
 {
     if USUAL_REVOLUTIONS < choice.revolutions {
-        let none = [0u8; 1];
-        return list_longer(from, choice, &none[..0], out);
+        return list_longer(from, choice, &[], out);
     }
     list_usual(from, choice, out)
 }
 
-fn list_usual<R: Read>(from: &mut R, choice: Choice, out: &mut [u8]) -> usize
-    ensures few { result ≤ 65536 }
-    ensures listing { ListedBlock 4194304 [] choice.revolutions choice.revolution choice.track choice.side out.old result out.new }
+// An array so large is only made here, and lent whole: in the function that makes it, what stands in it is computed in a proof.
+fn list_usual<R: Read>(from: &mut R, choice: Choice, out: &mut [u8]) -> Option<usize>
+    ensures few { written_count result ≤ 65536 }
+    ensures listing { ListedBlock 4194304 [] choice.revolutions choice.revolution choice.track choice.side out.old (written_count result) out.new }
 {
     let mut block = [0u8; USUAL_ROOM];
-    list_usual_in(from, choice, &mut block, out)
+    read_usual(from, choice, &mut block, out)
 }
 
-// An array so large is not lent as a slice where it is made: its length is not computed in a proof.
-fn list_usual_in<R: Read>(
+// Reads the block, as far as it fits the usual room; a longer one goes on in the longest.
+fn read_usual<R: Read>(
     from: &mut R,
     choice: Choice,
     block: &mut [u8; USUAL_ROOM],
     out: &mut [u8],
-) -> usize
-    ensures few { result ≤ 65536 }
-    ensures listing { ListedBlock 4194304 [] choice.revolutions choice.revolution choice.track choice.side out.old result out.new }
-{
-    read_first(from, choice, block, out)
-}
-
-// Reads the block, as far as it fits the usual room; a longer one goes on in the longest.
-fn read_first<R: Read>(from: &mut R, choice: Choice, block: &mut [u8], out: &mut [u8]) -> usize
-    requires { length block.old ≤ 4194304 }
-    ensures few { result ≤ 65536 }
-    ensures listing { ListedBlock 4194304 [] choice.revolutions choice.revolution choice.track choice.side out.old result out.new }
+) -> Option<usize>
+    ensures few { written_count result ≤ 65536 }
+    ensures listing { ListedBlock 4194304 [] choice.revolutions choice.revolution choice.track choice.side out.old (written_count result) out.new }
 {
     let input = standard_input::read_on(from, block, 0);
-    let count = input.count;
-    if count < block.len() {
-        return list_read(choice, &block[..count], input.ended, out);
+    if input.count < block.len() {
+        return list_read(choice, &block[..input.count], input.ended, out);
     }
     list_longer(from, choice, block, out)
 }
 
 // Lists a block of which these bytes, none or those that filled the usual room, are read.
-fn list_longer<R: Read>(from: &mut R, choice: Choice, front: &[u8], out: &mut [u8]) -> usize
+fn list_longer<R: Read>(from: &mut R, choice: Choice, front: &[u8], out: &mut [u8]) -> Option<usize>
     requires { length front.now ≤ 4194304 }
-    ensures few { result ≤ 65536 }
-    ensures listing { ListedBlock 4194304 front.now choice.revolutions choice.revolution choice.track choice.side out.old result out.new }
+    ensures few { written_count result ≤ 65536 }
+    ensures listing { ListedBlock 4194304 front.now choice.revolutions choice.revolution choice.track choice.side out.old (written_count result) out.new }
 {
     let mut block = [0u8; LONGEST_ROOM];
-    list_longer_in(from, choice, front, &mut block, out)
-}
-
-fn list_longer_in<R: Read>(
-    from: &mut R,
-    choice: Choice,
-    front: &[u8],
-    block: &mut [u8; LONGEST_ROOM],
-    out: &mut [u8],
-) -> usize
-    requires { length front.now ≤ 4194304 }
-    ensures few { result ≤ 65536 }
-    ensures listing { ListedBlock 4194304 front.now choice.revolutions choice.revolution choice.track choice.side out.old result out.new }
-{
-    read_longer(from, choice, front, block, out)
+    read_longer(from, choice, front, &mut block, out)
 }
 
 // Reads on in the longest room. Where it is full, a further read tells whether the input ended there.
@@ -145,18 +123,17 @@ fn read_longer<R: Read>(
     from: &mut R,
     choice: Choice,
     front: &[u8],
-    block: &mut [u8],
+    block: &mut [u8; LONGEST_ROOM],
     out: &mut [u8],
-) -> usize
-    requires { (length front.now ≤ length block.old) × (length block.old ≡ 4194304) }
-    ensures few { result ≤ 65536 }
-    ensures listing { ListedBlock 4194304 front.now choice.revolutions choice.revolution choice.track choice.side out.old result out.new }
+) -> Option<usize>
+    requires { length front.now ≤ 4194304 }
+    ensures few { written_count result ≤ 65536 }
+    ensures listing { ListedBlock 4194304 front.now choice.revolutions choice.revolution choice.track choice.side out.old (written_count result) out.new }
 {
     basis::copy(front, block);
     let input = standard_input::read_on(from, block, front.len());
-    let count = input.count;
-    if count < block.len() {
-        return list_read(choice, &block[..count], input.ended, out);
+    if input.count < block.len() {
+        return list_read(choice, &block[..input.count], input.ended, out);
     }
     let further = standard_input::read_further(from);
     list_read(choice, block, further.ended, out)
@@ -174,12 +151,10 @@ fn main(rt: HostRuntime) {
         return;
     };
     let mut out = system_calls::large_buffer();
-    let count = list_input(&mut rt.stdin(), choice, &mut out);
-    if count == 0 {
-        let _ = rt.stderr().write_all(
+    let _ = match list_input(&mut rt.stdin(), choice, &mut out) {
+        Some(count) => rt.stdout().write_all(&out[..count]),
+        None => rt.stderr().write_all(
             b"scp_track: the block cannot be read to its end, or is longer than 4,194,304 bytes\n",
-        );
-        return;
-    }
-    let _ = rt.stdout().write_all(&out[..count]);
+        ),
+    };
 }

@@ -1,12 +1,11 @@
 -- What the contracts of private functions need: what they ask of the sectors that they are handed. Assumes nothing.
-use Rattle.std.specs.Prelude.{ℕ, ◌+◌, ◌<◌, ◌≤◌, ◌≡◌, true, List, Option, Some, None, length, get_or}
+use Rattle.std.specs.Prelude.{ℕ, ◌+◌, ◌<◌, ◌≡◌, true, List, Option, Some, None, length, get_or}
 use Rattle.sector_image.specs.Image.{is_plain, index_of}
 use Rattle.sector_records.specs.Sectors.{no_sector}
 use Rattle.sector_records.specs.declared.Sector.{Sector}
 
--- at most 64 sectors, and a plain one among them has 512 bytes, as each sector of a track does
+-- a plain sector among these has 512 bytes, as each sector of a track does
 pub record OfTrack (sectors : List Sector) : Type 0 where
-  pub few : length sectors ≤ 64
   pub plain : (i : ℕ) → i < length sectors → is_plain (get_or sectors i no_sector) ≡ true → (get_or sectors i no_sector).data_length ≡ 512
 
 -- each of the numbers 1 to 9 is there, with 512 bytes

@@ -1,13 +1,14 @@
 // The plain image of a track: the data of its nine sectors, in the order of their numbers.
 #![tactic(auto)]
 
-ghost use Rattle.std.specs.Prelude.{◌≡◌, ◌+◌, ◌≤◌, eqb, length, position};
+ghost use Rattle.std.specs.Prelude.{◌≡◌, ℕ, ◌+◌, ◌-◌, ◌<◌, ◌≤◌, Some, length, unwrap_or};
 ghost use Rattle.std.proofs.lemmas.List.Edits.{sets};
 ghost use Rattle.basis.specs.Lists.{written_over};
+ghost use Rattle.basis.specs.Search.{least};
 ghost use Rattle.cells.specs.CellsAndBytes.{cell};
 ghost use Rattle.refusals.specs.RefusedCalls.{answer_of, buffer_after};
 ghost use Rattle.sector_records.specs.Sectors.{bytes_from};
-ghost use Rattle.sector_image.specs.Image.{is_plain, fits, first_unfit, some_outside, image_judged, image_of, image_answer, image_after};
+ghost use Rattle.sector_image.specs.Image.{numbered, is_plain, fits, first_unfit, some_outside, image_judged, image_of, image_answer, image_after};
 ghost use Rattle.sector_image.specs.PrivateContracts.{OfTrack, AllThere, unfit_or_ten};
 
 use refusals::Refusal;
@@ -28,15 +29,18 @@ const MARK_LENGTH: usize = 64;
 const SIZE_CODE: u8 = 2;
 
 // Puts the plain image of a track at the front of `image` (rule 9.61).
+#[tactic(auto, using(crate::proofs::Calls::few_listed))]
 pub fn sector_image(track: Track, image: &mut [u8]) -> Result<usize, Refusal>
     ensures answer { answer_of result ≡ image_answer track.entry.cells.bytes.now track.entry.cells.count track.entry.track track.entry.side (length image.old) }
     ensures image { image.new ≡ image_after track.entry.cells.bytes.now track.entry.cells.count track.entry.track track.entry.side image.old }
 {
-    let sectors = track.sectors(Density::Double)?;
-    put_image(track.cells, &sectors.all[..sectors.count], image)
+    let found = track.sectors(Density::Double)?;
+    let listed = &found.all[..found.count];
+    put_image(track.cells, listed, image)
 }
 
 // The image of a track with these sectors.
+#[tactic(auto, unfolding(crate::specs::Image::image_judged, refusals::specs::RefusedCalls::buffer_after))]
 fn put_image(cells: Cells, sectors: &[Sector], image: &mut [u8]) -> Result<usize, Refusal>
     requires { OfTrack sectors.now }
     ensures answer { answer_of result ≡ image_judged sectors.now (length image.old) }
@@ -57,10 +61,10 @@ fn put_image(cells: Cells, sectors: &[Sector], image: &mut [u8]) -> Result<usize
 
 // The first number from 1 to 9 that stands in the way.
 fn first_unfit(sectors: &[Sector]) -> Option<usize>
-    requires { length sectors.now ≤ 64 }
-    ensures { unfit_or_ten result ≡ first_unfit sectors.now }
+    ensures first { unfit_or_ten result ≡ first_unfit sectors.now }
+    ensures inside { (number : ℕ) → result ≡ Some number → number ≤ 9 }
 {
-    for number in 1..10 {
+    for number in 1..SECTORS + 1 {
         if !fits(sectors, number as u8) {
             return Some(number);
         }
@@ -72,22 +76,31 @@ fn first_unfit(sectors: &[Sector]) -> Option<usize>
 fn fits(sectors: &[Sector], number: u8) -> bool
     ensures { result ≡ fits sectors.now number }
 {
-    match find(sectors, number) {
+    match find(sectors, number, 0) {
         None => false,
-        Some(first) => {
-            find(&sectors[first + 1..], number).is_none() && is_plain(&sectors[first])
-        }
+        Some(first) => match find(sectors, number, first + 1) {
+            Some(_) => false,
+            None => is_plain(&sectors[first]),
+        },
     }
 }
 
-// The index of the first sector with this number.
-fn find(sectors: &[Sector], number: u8) -> Option<usize>
-    ensures { result ≡ position (λ s. eqb s.number number) sectors.now }
+// The first sector from index `from` on with this number.
+fn find(sectors: &[Sector], number: u8, from: usize) -> Option<usize>
+    requires { from ≤ length sectors.now }
+    ensures least { unwrap_or result (length sectors.now) ≡ least (numbered sectors.now number) (length sectors.now - from) from }
+    ensures inside { (i : ℕ) → result ≡ Some i → i < length sectors.now }
 {
-    sectors.iter().position(|s| s.number == number)
+    for i in from..sectors.len() {
+        if sectors[i].number == number {
+            return Some(i);
+        }
+    }
+    None
 }
 
 // Whether a sector has 512 bytes with good checks.
+#[tactic(auto, unfolding(crate::specs::Image::is_plain))]
 fn is_plain(sector: &Sector) -> bool
     ensures { result ≡ is_plain sector.now }
 {
@@ -112,7 +125,7 @@ fn write_image(cells: Cells, sectors: &[Sector], image: &mut [u8])
     ensures { image.new ≡ written_over (image_of (cell cells.entry.bytes.now cells.entry.count) sectors.now) image.old }
 {
     for i in 0..SECTORS {
-        if let Some(index) = find(sectors, i as u8 + 1) {
+        if let Some(index) = find(sectors, i as u8 + 1, 0) {
             write_sector(cells, data_at(&sectors[index]), SECTOR * i, image);
         }
     }

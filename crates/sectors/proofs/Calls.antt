@@ -1,17 +1,18 @@
 -- The judgements of the calls, where they refuse and where they do not. Assumes nothing.
 use Prim.Native.Nat.{ℕ, ◌<◌, ◌≤◌}
-use mathlib.Core.Path.{◌≡◌, refl, sym, ◌∙◌}
+use mathlib.Core.Path.{◌≡◌, refl, sym, ap, ◌∙◌}
 use mathlib.Core.Bool.{Bool, true, false, cond, ◌||◌}
 use mathlib.Core.List.{List, []}
 use native.Mathlib.Omega.{arith}
-use borrow.Author.Tests.{lt-ltb, le-ltb, le-leb, lt-leb, eq-eqb, ne_eqb, ltb-false}
+use borrow.Author.Tests.{lt-ltb, le-ltb, le-leb, lt-leb, ne_eqb, ltb-false}
 use lib.Dec.{ltb, leb}
 use lib.ListN.{length}
 use Rattle.basis.proofs.Bools.{or_left, or_right}
 use Rattle.cells.specs.CellsAndBytes.{cell, bytes_for}
 use Rattle.refusals.specs.RefusedCalls.{Answer, buffer_after}
 use Rattle.refusals.specs.RefusedCalls.Answer.{gives, refused}
-use Rattle.sector_records.specs.Sectors.{no_sector, sectors_of, kept, data_bytes}
+use Rattle.sector_records.specs.Sectors.{sectors_of, kept, data_bytes}
+use Rattle.sector_records.proofs.Kept.{kept-count}
 use Rattle.sectors.specs.Calls.{track_judged, count_judged, index_judged, sectors_answer, sectors_beside, index_answer, record_beside, sector_of, DataRead, data_judged, data_answer, data_after}
 use Rattle.layouts.specs.declared.Layout.{Layout}
 use Rattle.sector_records.specs.declared.Sector.{Sector}
@@ -20,31 +21,14 @@ use Rattle.sector_records.specs.declared.Sectors.{Sectors}
 pub most-cells : (n : ℕ) → (ltb n 20000 || ltb 131072 n) ≡ false → n ≤ 131072
 most-cells n e = ltb-false 131072 n (or_right (ltb n 20000) (ltb 131072 n) e)
 
--- each judgement, where it refuses and where it goes on
+-- each judgement, where it goes on
 module _ {A : Type 0} (bytes : List ℕ) (N T H : ℕ) (next : Answer A) where
-  pub refuses-1 : (ltb 83 T || ltb 1 H) ≡ true → refused 1 0 ≡ track_judged bytes N T H next
-  unfolding track_judged
-  refuses-1 e = rw e
-
-  pub refuses-2 : (ltb 83 T || ltb 1 H) ≡ false → (ltb N 20000 || ltb 131072 N) ≡ true → refused 2 N ≡ track_judged bytes N T H next
-  unfolding track_judged
-  refuses-2 e g = rw (e, g)
-
-  pub refuses-3 : (ltb 83 T || ltb 1 H) ≡ false → (ltb N 20000 || ltb 131072 N) ≡ false → length bytes < bytes_for N
-      → refused 3 (bytes_for N) ≡ track_judged bytes N T H next
-  unfolding track_judged
-  refuses-3 e g l = rw (e, g, lt-ltb (length bytes) (bytes_for N) l)
-
   pub track-accepted : (ltb 83 T || ltb 1 H) ≡ false → (ltb N 20000 || ltb 131072 N) ≡ false → bytes_for N ≤ length bytes
       → next ≡ track_judged bytes N T H next
   unfolding track_judged
   track-accepted e g l = rw (e, g, le-ltb (length bytes) (bytes_for N) l)
 
 module _ {A : Type 0} (count : ℕ) (next : Answer A) where
-  pub refuses-4 : 64 < count → refused 4 count ≡ count_judged count next
-  unfolding count_judged
-  refuses-4 l = rw (lt-ltb 64 count l)
-
   pub count-accepted : count ≤ 64 → next ≡ count_judged count next
   unfolding count_judged
   count-accepted l = rw (le-ltb 64 count l)
@@ -57,18 +41,41 @@ module _ {A : Type 0} (count : ℕ) (next : Answer A) where
   unfolding index_judged
   index-accepted index l = rw (lt-leb count index l)
 
-module _ (s : Sector) (room : ℕ) where
-  pub refuses-12 : s.data_mark ≡ 0 → refused 12 0 ≡ data_judged s room
-  unfolding data_judged
-  refuses-12 e = rw (eq-eqb s.data_mark 0 e)
+pub data-accepted : (s : Sector) (room : ℕ) → (s.data_mark ≡ 0 → ⊥) → s.data_length ≤ room → gives (record { size = s.data_length; good = s.data_check_good }) ≡ data_judged s room
+unfolding data_judged
+data-accepted s room e l = rw (ne_eqb s.data_mark 0 e, le-ltb room s.data_length l)
 
-  pub refuses-13 : (s.data_mark ≡ 0 → ⊥) → room < s.data_length → refused 13 s.data_length ≡ data_judged s room
-  unfolding data_judged
-  refuses-13 e l = rw (ne_eqb s.data_mark 0 e, lt-ltb room s.data_length l)
+-- the sectors of a track whose number of cells was accepted, and the answer that they make
+module _ (layout : Layout) (bytes : List ℕ) (N T H : ℕ) (s : Sectors) (place : (ltb 83 T || ltb 1 H) ≡ false) (cells : (ltb N 20000 || ltb 131072 N) ≡ false) (enough : bytes_for N ≤ length bytes)
+    (e : s ≡ kept (cond (ltb 131072 N) [] (sectors_of layout bytes N))) where
+  abbrev all : List Sector
+  all = sectors_of layout bytes N
 
-  pub data-accepted : (s.data_mark ≡ 0 → ⊥) → s.data_length ≤ room → gives (record { size = s.data_length; good = s.data_check_good }) ≡ data_judged s room
-  unfolding data_judged
-  data-accepted e l = rw (ne_eqb s.data_mark 0 e, le-ltb room s.data_length l)
+  listed : s ≡ kept all
+  listed = e ∙ ap (λ (b : Bool). kept (cond b [] all)) (or_right (ltb N 20000) (ltb 131072 N) cells)
+
+  counted : s.count ≡ length all
+  counted = ap (λ (x : Sectors). x.count) listed ∙ kept-count all
+
+  pub many_sectors : 64 < s.count → refused 4 s.count ≡ sectors_answer layout bytes N T H
+  unfolding sectors_answer count_judged
+  many_sectors h =
+      let l : 64 < length all = rw (← counted) h in
+      rw counted (rw (lt-ltb 64 (length all) l) (track-accepted bytes N T H (refused 4 (length all)) place cells enough))
+
+  pub none_beside : 64 < s.count → kept [] ≡ sectors_beside (sectors_answer layout bytes N T H) all
+  unfolding sectors_beside
+  none_beside h = ap (λ (x : Answer ℕ). sectors_beside x all) (many_sectors h)
+
+  pub few_sectors : s.count ≤ 64 → gives s.count ≡ sectors_answer layout bytes N T H
+  unfolding sectors_answer
+  few_sectors h =
+      let l : length all ≤ 64 = rw (← counted) h in
+      rw counted (count-accepted (length all) (gives (length all)) l ∙ track-accepted bytes N T H (count_judged (length all) (gives (length all))) place cells enough)
+
+  pub all_beside : s.count ≤ 64 → s ≡ sectors_beside (sectors_answer layout bytes N T H) all
+  unfolding sectors_beside
+  all_beside h = listed ∙ ap (λ (x : Answer ℕ). sectors_beside x all) (few_sectors h)
 
 -- y refuses as x does, and where x is accepted it is `next`
 pub record Follows {A B : Type 0} (x : Answer A) (y next : Answer B) : Type 0 where
@@ -151,26 +158,6 @@ module _ (layout : Layout) (bytes : List ℕ) (N T H : ℕ) where
   unfolding index_answer data_answer
   read-follows index room =
       follows-track _ _ _ (follows-count _ _ _ (follows-index _ _ _ (follows-given count (data_judged (sector_of layout bytes N index) room)) count index) count) bytes N T H
-
--- an answer that is the judgement, and what stands beside it
-module _ (x a : Answer ℕ) where
-  module _ (number value : ℕ) (e : x ≡ refused number value) (g : refused number value ≡ a) where
-    pub list-refused : (s : Sectors) (sectors : List Sector) → s ≡ kept [] → (x ≡ a) × (s ≡ sectors_beside a sectors)
-    unfolding sectors_beside
-    list-refused s sectors h = (e ∙ g, rw (← g) h)
-
-    pub record-refused : (s sector : Sector) → s ≡ no_sector → (x ≡ a) × (s ≡ record_beside a sector)
-    unfolding record_beside
-    record-refused s sector h = (e ∙ g, rw (← g) h)
-
-  module _ (count : ℕ) (e : x ≡ gives count) (g : gives count ≡ a) where
-    pub list-given : (s : Sectors) (sectors : List Sector) → s ≡ kept sectors → (x ≡ a) × (s ≡ sectors_beside a sectors)
-    unfolding sectors_beside
-    list-given s sectors h = (e ∙ g, rw (← g) h)
-
-    pub record-given : (s sector : Sector) → s ≡ sector → (x ≡ a) × (s ≡ record_beside a sector)
-    unfolding record_beside
-    record-given s sector h = (e ∙ g, rw (← g) h)
 
 -- a sector by index, after a list that was accepted
 module _ (layout : Layout) (bytes : List ℕ) (N T H m : ℕ) (g : gives m ≡ sectors_answer layout bytes N T H) where

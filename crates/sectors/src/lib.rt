@@ -60,6 +60,7 @@ impl<'a> Track<'a> {
     }
 
     // The same. Where the call is not refused, the maps of the track's ones and syncs stand in two lent arrays then, for what else looks at its cells.
+    #[tactic(auto, unfolding(crate::specs::Calls::track_judged, crate::specs::Calls::count_judged, crate::specs::Calls::sectors_answer, crate::specs::Calls::sectors_beside), using(crate::proofs::Calls::many_sectors, crate::proofs::Calls::none_beside, crate::proofs::Calls::few_sectors, crate::proofs::Calls::all_beside))]
     pub fn sectors_with_maps(
         self,
         density: Density,
@@ -120,6 +121,7 @@ impl<'a> Track<'a> {
 }
 
 // Reads out a sector of the track.
+#[tactic(auto, unfolding(crate::specs::Calls::data_judged, refusals::specs::RefusedCalls::buffer_after, sector_records::specs::Sectors::data_bytes))]
 fn read_sector(
     density: Density,
     cells: Cells,
@@ -136,20 +138,16 @@ fn read_sector(
     if buffer.len() < size {
         return Err(Refusal::NoRoomForBytes(size));
     }
-    let mark = mark_length(density);
-    write_data(cells, sector.data_place as usize + mark, &mut buffer[..size]);
+    let mark = layout_of(density).mark_length;
+    write_data(
+        cells,
+        sector.data_place as usize + mark,
+        &mut buffer[..size],
+    );
     Ok(ReadOut {
         size,
         check_good: sector.data_check_good,
     })
-}
-
-// How many cells a mark has.
-fn mark_length(density: Density) -> usize
-    ensures { (result ≡ (layout_of density).mark_length) × (result ≤ 64) }
-{
-    let layout = layout_of(density);
-    layout.mark_length
 }
 
 // Decodes bytes from cell p on into all of the buffer. The place comes from a number of 32 bits, and so does the number of bytes.

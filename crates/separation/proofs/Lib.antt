@@ -1,7 +1,6 @@
 pub mod Walk
 pub mod Writing
 pub mod BorderPulses
-pub mod CellsJudged
 pub mod Answered
 pub mod Tolerance
 pub mod Recovery

@@ -1,14 +1,12 @@
--- All that the call on a list promises, from its answer and the buffer that the answer leaves; demand 3 is the tolerance law. Assumes
--- nothing.
+-- Demand 3, from the answer of the call on a list and the buffer that it leaves, by the tolerance law. Assumes nothing.
 use Prim.Native.Nat.{ℕ}
 use mathlib.Core.Path.{◌≡◌, refl, ◌∙◌, ap}
 use mathlib.Core.List.{List, [], ◌∷◌}
 use native.Mathlib.Omega.{arith}
 use borrow.Author.Tests.{le-ltb}
 use lib.ListN.{length, length-append}
-use Rattle.cells.specs.CellsAndBytes.{packed}
-use Rattle.refusals.specs.RefusedCalls.{Answer, buffer_after}
-use Rattle.separation.specs.Separation.{cells_for, cells_of, separation, separated_cells}
+use Rattle.refusals.specs.RefusedCalls.{Answer}
+use Rattle.separation.specs.Separation.{cells_for, separation, separated_cells}
 use Rattle.flux_timings.specs.Timings.{timings_judged}
 use Rattle.separation.specs.Demand3.{Reversal, cells_written, cells_in_all, refusal_table, farthest_centre, Demand3}
 use Rattle.separation.proofs.Walk.{length-for}
@@ -19,9 +17,8 @@ unfolding cells_written cells_in_all
 length-written [] = refl
 length-written (v ∷ vs) = omega (arith, length-append (cells_for v.gap) (cells_written vs), length-for v.gap, length-written vs)
 
-module _ (ts before : List ℕ) {after : List ℕ} {answer : Answer ℕ} (is-answer : answer ≡ separation ts (length before))
-    (is-after : after ≡ buffer_after answer (packed (cells_of ts)) before) where
-  demand3 : Demand3 ts answer before after
+module _ (ts before : List ℕ) {after : List ℕ} {answer : Answer ℕ} (is-answer : answer ≡ separation ts (length before)) (is-after : after ≡ separated_cells ts before) where
+  pub demand3 : Demand3 ts answer before after
   unfolding timings_judged refusal_table
   demand3 = record {
     recovers = λ D J ok p q vs within.
@@ -29,12 +26,9 @@ module _ (ts before : List ℕ) {after : List ℕ} {answer : Answer ℕ} (is-ans
         let n = ap length f.cells ∙ length-written vs in
         record {
           refusal = is-answer ∙ rw (f.in-range, le-ltb (length ts) (length ts) (omega arith), n);
-          cells = is-after ∙ ap (λ (x : List ℕ). buffer_after answer (packed x) before) f.cells;
+          cells = is-after ∙ rw (is-answer, f.cells);
           centres = f.centres;
         };
     no_border_pulses = λ D J quiet p q vs within.
         (tolerance D J (farthest_centre D J) (omega arith) (omega arith) within.0 within.1).no_borders (omega arith);
   }
-
-  pub promised : (answer ≡ separation ts (length before)) × ((after ≡ separated_cells ts before) × Demand3 ts answer before after)
-  promised = (is-answer, (is-after ∙ ap (λ (x : Answer ℕ). buffer_after x (packed (cells_of ts)) before) is-answer, demand3))

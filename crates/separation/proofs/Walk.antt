@@ -2,23 +2,24 @@
 use Prim.Native.Nat.{ℕ, zero, suc, ◌+◌, ◌*◌, ◌≤◌, ◌<◌}
 use mathlib.Core.Path.{◌≡◌, refl, sym, ◌∙◌, ap, subst}
 use mathlib.Core.Bool.{true}
-use mathlib.Core.Logic.{⊎_elim}
 use mathlib.Core.List.{List, [], ◌∷◌, ◌++◌, append_assoc, append-nil}
 use native.Mathlib.Numerals.{add-one}
 use native.Mathlib.Omega.{arith}
+use Rattle.std.specs.Prelude.{Result, Ok, Err}
 use lib.IntN.{ℤ, pos}
 use lib.ListN.{length, get_or, drop, replicate, length-append, length-replicate, drop_of_length-le}
 use Rattle.cells.proofs.Packing.{Cells}
 use Rattle.cells.proofs.Zeros.{cells-append, cells-zeros, cells-one}
-use Rattle.refusals.specs.RefusedCalls.{Answer}
 use Rattle.refusals.specs.RefusedCalls.Answer.{gives}
+use Rattle.refusals.specs.declared.Refusal.{Refusal}
 use Rattle.flux_timings.specs.Timings.{in_range, first_out}
-use Rattle.separator.specs.Rule.{cells_at, residual_after, double_half_window, step_answer_by, step_residual_by}
+use Rattle.separator.specs.Rule.{IsHalfWindow, cells_at, residual_after, double_half_window, taken_answer, step_answer_by, step_residual_by}
+use Rattle.separator.specs.declared.Step.{Step}
 use Rattle.separation.specs.Separation.{cells_for, windows_from, cells_in, cells_of_by}
-use Rattle.separator.specs.Rule.{IsHalfWindow}
 use Rattle.separator.proofs.Lifted.{Kept, kept-none, kept_next}
 use Rattle.flux_timings.proofs.Timing.{range-of}
 use Rattle.separator.proofs.MachineStep.{Steppable, cells-small}
+use Rattle.separator.proofs.Stepped.{half-low, half_high}
 use Rattle.separator.proofs.Stepping.{step-answers, step-leaves}
 use Rattle.flux_timings.proofs.FirstOut.{rest-is, all-in-range}
 
@@ -32,13 +33,6 @@ pub cells-for : (n : ℕ) → Cells (cells_for n)
 unfolding cells_for
 cells-for zero i = omega arith
 cells-for (suc k) i = cells-append (replicate k 0) (1 ∷ []) (cells-zeros k) cells-one i
-
--- half of a window is from 1,000 to 2,000 ns
-pub half-low : {half : ℕ} → IsHalfWindow half → 1000 ≤ half
-half-low is = ⊎_elim (λ e. omega (arith, e)) (λ e. omega (arith, e)) is
-
-pub half_high : {half : ℕ} → IsHalfWindow half → half ≤ 2000
-half_high is = ⊎_elim (λ e. omega (arith, e)) (λ e. omega (arith, e)) is
 
 -- the cells of the timings ts from the residual r on
 abbrev pub cells_from_by : ℕ → ℤ → List ℕ → List ℕ
@@ -79,17 +73,28 @@ pub record Turn (half : ℕ) (ts : List ℕ) (i : ℕ) (r : ℤ) (n : ℕ) (r' :
   pub cells : n ≡ cells_at half r (get_or ts i 0)
   pub residual : r' ≡ residual_after half r (get_or ts i 0)
 
--- it follows from what the step promises, and the function that takes the number of cells out of its answer
-pub turn : (half : ℕ) (ts : List ℕ) (i : ℕ) (r : ℤ) {answer : Answer ℕ} {n : ℕ} {r' : ℤ} → first_out ts ≡ length ts → i < length ts → Kept half r
-    → answer ≡ step_answer_by half r (get_or ts i 0) → r' ≡ step_residual_by half r (get_or ts i 0) → ((k : ℕ) → answer ≡ gives k → n ≡ k) → Turn half ts i r n r'
-turn half ts i r all h kept answers leaves taken =
-    let ranged = all-in-range ts all i h in
-    record {
-      here = h;
-      ranged = ranged;
-      cells = taken _ (answers ∙ step-answers half r (get_or ts i 0) kept ranged);
-      residual = leaves ∙ step-leaves half r (get_or ts i 0) kept ranged;
-    }
+-- it follows from what the step promises, where it is in range, and then the step does not refuse
+module _ (half : ℕ) (ts : List ℕ) (i : ℕ) (r : ℤ) (all : first_out ts ≡ length ts) (h : i < length ts) (kept : Kept half r) (result : Result Step Refusal)
+    (answers : taken_answer result ≡ step_answer_by half r (get_or ts i 0)) where
+  gives-cells : taken_answer result ≡ gives (cells_at half r (get_or ts i 0))
+  gives-cells = answers ∙ step-answers half r (get_or ts i 0) kept (all-in-range ts all i h)
+
+  pub turn : {step : Step} {r' : ℤ} → result ≡ Ok step → r' ≡ step_residual_by half r (get_or ts i 0) → Turn half ts i r step.cells r'
+  turn {step} is leaves =
+      let ranged = all-in-range ts all i h in
+      record {
+        here = h;
+        ranged = ranged;
+        cells = let g = rw is at gives-cells in cc;
+        residual = leaves ∙ step-leaves half r (get_or ts i 0) kept ranged;
+      }
+
+  pub no-refusal : ((step : Step) → result ≡ Ok step → ⊥) → ⊥
+  no-refusal = go result gives-cells
+    where
+      go : (x : Result Step Refusal) → taken_answer x ≡ gives (cells_at half r (get_or ts i 0)) → ((step : Step) → x ≡ Ok step → ⊥) → ⊥
+      go (Ok step) e none = none step refl
+      go (Err refusal) e none = cc
 
 -- one timing more, of n cells, that leaves the residual r'
 module _ {half : ℕ} (is-half : IsHalfWindow half) {ts : List ℕ} {at : ℕ} {r : ℤ} {i : ℕ} (w : Walked half ts at r i) {n : ℕ} {r' : ℤ} (t : Turn half ts i r n r') where

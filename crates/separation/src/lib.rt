@@ -19,7 +19,12 @@ pub const MOST_CELLS: usize = 131_072;
 const MOST_CELL_BYTES: usize = 16_384;
 
 // The whole list of timings, to cells at the front of a buffer; they are counted, and the border pulses too.
-pub fn separate(timings: &[u32], cells: &mut [u8], border_pulses: &mut usize) -> Result<usize, Refusal>
+#[tactic(auto, using(crate::proofs::Promise::demand3))]
+pub fn separate(
+    timings: &[u32],
+    cells: &mut [u8],
+    border_pulses: &mut usize,
+) -> Result<usize, Refusal>
     ensures answer { answer_of result ≡ separation timings.now (length cells.old) }
     ensures buffer { cells.new ≡ separated_cells timings.now cells.old }
     ensures border_pulses { border_pulses.new ≡ border_pulses_after (separation timings.now (length cells.old)) (border_pulses_of timings.now) border_pulses.old }
@@ -29,6 +34,7 @@ pub fn separate(timings: &[u32], cells: &mut [u8], border_pulses: &mut usize) ->
 }
 
 // The same for a track of either density. Demand 3 is claimed of double density alone.
+#[tactic(auto, using(flux_timings::proofs::Judging::judged_refused, flux_timings::proofs::Judging::judged_few, flux_timings::proofs::Judging::judged_in_range, crate::proofs::Answered::refused_buffer, crate::proofs::Answered::refused_border_pulses))]
 pub fn separate_in<W: BitWindow>(
     timings: &[u32],
     cells: &mut [u8],
@@ -55,6 +61,7 @@ pub fn separate_in<W: BitWindow>(
 }
 
 // The number of border pulses of a list of timings, without its cells (rule 3.23).
+#[tactic(auto, using(flux_timings::proofs::Judging::judged_refused, flux_timings::proofs::Judging::judged_few, flux_timings::proofs::Judging::judged_in_range, crate::proofs::Answered::pulses_counted))]
 pub fn count_border_pulses(timings: &[u32]) -> Result<usize, Refusal>
     ensures { answer_of result ≡ border_pulses_counted timings.now }
 {
@@ -84,6 +91,7 @@ fn fill<W: BitWindow>(timings: &[u32], room: &mut [u8; MOST_CELL_BYTES]) -> Coun
     let mut border_pulses: usize = 0;
     let mut separator = Separator::new();
     for timing in timings {
+        // Each is in range, so that no step refuses.
         if let Ok(step) = separator.step_on::<W>(*timing) {
             let more = step.cells as usize;
             put_cells(room, count, more);

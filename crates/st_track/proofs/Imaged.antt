@@ -3,8 +3,9 @@ use Prim.Native.Nat.{ℕ, ◌≤◌, ◌<◌}
 use mathlib.Core.Path.{◌≡◌, refl, sym, ◌∙◌, ap, subst}
 use mathlib.Core.Bool.{Bool, true, false}
 use mathlib.Core.List.{List, []}
+use mathlib.Core.Logic.{◌⊎◌, inl, inr}
 use native.Mathlib.Omega.{arith}
-use borrow.Author.Tests.{ne_eqb}
+use lib.Dec.{eqb}
 use lib.ListN.{length, take, drop}
 use lib.Seq.{take_all, take_at}
 use Rattle.basis.specs.Lists.{written_over}
@@ -14,6 +15,7 @@ use Rattle.refusals.specs.RefusedCalls.{Answer, number_of, value_of, answer_of, 
 use Rattle.refusals.specs.RefusedCalls.Answer.{gives, refused}
 use Rattle.std.specs.Prelude.{Result, Ok, Err}
 use Rattle.refusals.specs.declared.Refusal.{Refusal}
+use Rattle.refusals.specs.declared.Refusal.TheVariants.{NoPlainImage}
 use Rattle.track_file.specs.Portions.{start_of, start_cells, whole_of}
 use Rattle.file_reader.specs.declared.Reader.{Reader}
 use Rattle.track_input.specs.declared.Input.{Input}
@@ -39,15 +41,13 @@ nothing out = record { count_is = refl; front_is = refl }
 abbrev Line : (made before out : List ℕ) → ℕ → Type 0
 Line made before out n = (n ≡ length made) × ((n ≤ 20) × (out ≡ out_after made before))
 
-module _ (number value : ℕ) (before out : List ℕ) (n : ℕ) where
-  pub number-told : number ≡ 24 → (n ≡ 20) × (out ≡ out_after (number_line value) before) → Line (refusal_line number value) before out n
-  unfolding refusal_line number_line bytes_of
-  number-told e line = rw e (line.0, (omega (arith, line.0), line.1))
+-- only one refusal has the number 24
+not_24 : (refusal : Refusal) → ((number : ℕ) → refusal ≡ NoPlainImage number → ⊥) → eqb (number_of refusal) 24 ≡ false
+not_24 refusal h = grind arith
 
-  pub refusal-told : (number ≡ 24 → ⊥) → number < 0x1_0000_0000 → (n ≡ length (refused_line number)) × (out ≡ out_after (refused_line number) before)
-      → Line (refusal_line number value) before out n
-  unfolding refusal_line
-  refusal-told e fits line = rw (ne_eqb number 24 e) (line.0, (omega (arith, line.0, refused-few number fits), line.1))
+pub other-line : (refusal : Refusal) → ((number : ℕ) → refusal ≡ NoPlainImage number → ⊥) → refusal_line (number_of refusal) (value_of refusal) ≡ refused_line (number_of refusal)
+unfolding refusal_line
+other-line refusal h = rw (not_24 refusal h)
 
 -- the image of a file, or its refusal
 imaged-file : (file : List ℕ) (n : ℕ) → gives n ≡ file_image_answer 16384 65536 file → image_of_file file ≡ record { output = file_image 16384 file; message = [] }
@@ -63,7 +63,7 @@ module _ (buffer : List ℕ) (long : length buffer ≡ 16384) {first : Reader} {
     (started : (first ≡ start_of (length buffer)) × (cleared ≡ start_cells buffer)) {input : Input} {cells : List ℕ}
     (through : ReadThrough first cleared input cells) where
   abbrev Promised : (output message : ℕ) (out : List ℕ) → Type 0
-  Promised output message out = (output ≤ 65536) × ((message ≤ 65536) × ImagedInput output message out)
+  Promised output message out = record { few_output : output ≤ 65536; few_message : message ≤ 65536; image : ImagedInput output message out }
 
   imaged : (outputs : Outputs) → outputs_of_input input through.reads ≡ outputs → {output message : ℕ} {out : List ℕ} → AtFront outputs.output output out
       → AtFront outputs.message message out → ImagedInput output message out
@@ -84,18 +84,17 @@ module _ (buffer : List ℕ) (long : length buffer ≡ 16384) {first : Reader} {
     module _ {n : ℕ} {out : List ℕ} (line : (n ≡ 46) × (out ≡ out_after unreadable_line before)) where
       unreadable : outputs_of_input input through.reads ≡ record { output = []; message = unreadable_line } → Promised 0 n out
       unfolding unreadable_line bytes_of
-      unreadable e = (
-        omega arith,
-        (omega (arith, line.0), imaged _ e (nothing out) (at_front unreadable_line before (omega (arith, room)) line.0 line.1)),
-      )
+      unreadable e =
+          record {
+            few_output = omega arith;
+            few_message = omega (arith, line.0);
+            image = imaged _ e (nothing out) (at_front unreadable_line before (omega (arith, room)) line.0 line.1);
+          }
 
-      pub still_open : {reader : Reader} → input ≡ Open reader → Promised 0 n out
+      pub not_ended : ((reader : Reader) × (input ≡ Open reader)) ⊎ (input ≡ Failed) → Promised 0 n out
       unfolding outputs_of_input
-      still_open e = unreadable (rw e)
-
-      pub read-failed : input ≡ Failed → Promised 0 n out
-      unfolding outputs_of_input
-      read-failed e = unreadable (rw e)
+      not_ended (inl (reader, e)) = unreadable (rw e)
+      not_ended (inr e) = unreadable (rw e)
 
     module _ {reader : Reader} (ended : input ≡ Ended reader) (answer : Result ℕ Refusal) {made : List ℕ} (whole : WholeImage reader cells (answer_of answer) before made) where
       told : (answer_of answer ≡ file_image_answer 16384 65536 file) × (made ≡ buffer_after (answer_of answer) (file_image 16384 file) before)
@@ -107,32 +106,32 @@ module _ (buffer : List ℕ) (long : length buffer ≡ 16384) {first : Reader} {
       unfolding outputs_of_input
       of-file = rw ended
 
-      pub has-image : {n : ℕ} → answer ≡ Count n → Promised n 0 made
+      pub has-image : {n : ℕ} → answer ≡ Ok n → Promised n 0 made
       unfolding buffer_after
       has-image {n} e =
           let given = rw e at told in
           let long = image-long 16384 65536 n file (sym given.0) in
-          let image = file_image 16384 file in (
-            omega (arith, long.0),
-            (
-              omega arith,
-              imaged _ (of-file ∙ imaged-file file n given.0)
-                  record {
-                    count_is = long.0 ∙ sym long.1;
-                    front_is = rw (given.1, long.0, ← long.1) (take_at image (drop (length image) before) (length image) refl);
-                  }
-                  (nothing made),
-            ),
-          )
+          let image = file_image 16384 file in
+          record {
+            few_output = omega (arith, long.0);
+            few_message = omega arith;
+            image =
+                imaged _ (of-file ∙ imaged-file file n given.0)
+                record {
+                  count_is = long.0 ∙ sym long.1;
+                  front_is = rw (given.1, long.0, ← long.1) (take_at image (drop (length image) before) (length image) refl);
+                }
+                (nothing made);
+          }
 
-      pub is-refused : {refusal : Refusal} {n : ℕ} {out : List ℕ} → answer ≡ Refused refusal
+      pub is-refused : {refusal : Refusal} {n : ℕ} {out : List ℕ} → answer ≡ Err refusal
           → Line (refusal_line (number_of refusal) (value_of refusal)) made out n → length made ≡ 65536 → Promised 0 n out
       is-refused {refusal} {n} {out} e line same =
-          let given = rw e at told in (
-            omega arith,
-            (
-              omega (arith, line.1.0),
-              imaged _ (of-file ∙ refused-file file (number_of refusal) (value_of refusal) given.0) (nothing out)
-                  (at_front (refusal_line (number_of refusal) (value_of refusal)) made (omega (arith, same, line.0, line.1.0)) line.0 line.1.1),
-            ),
-          )
+          let given = rw e at told in
+          record {
+            few_output = omega arith;
+            few_message = omega (arith, line.1.0);
+            image =
+                imaged _ (of-file ∙ refused-file file (number_of refusal) (value_of refusal) given.0) (nothing out)
+                (at_front (refusal_line (number_of refusal) (value_of refusal)) made (omega (arith, same, line.0, line.1.0)) line.0 line.1.1);
+          }

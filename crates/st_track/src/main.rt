@@ -40,6 +40,7 @@ fn image_input<R: Read>(
 }
 
 // Writes the line of a refusal.
+#[tactic(auto, unfolding(crate::specs::ImageOfInput::number_line, crate::specs::ImageOfInput::refusal_line, lines::specs::Lines::bytes_of))]
 fn write_refusal(refusal: Refusal, out: &mut [u8]) -> usize
     ensures answer { result ≡ length (refusal_line (number_of refusal) (value_of refusal)) }
     ensures few { result ≤ 20 }
@@ -52,6 +53,7 @@ fn write_refusal(refusal: Refusal, out: &mut [u8]) -> usize
 }
 
 // Writes the line of refusal 24, with the number that stands in the way.
+#[tactic(auto, unfolding(crate::specs::ImageOfInput::number_line, lines::specs::Lines::bytes_of))]
 fn write_number(value: usize, out: &mut [u8]) -> usize
     ensures answer { result ≡ 20 }
     ensures out { out.new ≡ out_after (number_line value) out.old }
@@ -63,6 +65,7 @@ fn write_number(value: usize, out: &mut [u8]) -> usize
 }
 
 // The last decimal digit of a number, as a character.
+#[tactic(auto, unfolding(lines::specs::Lines::digit))]
 fn last_digit(n: usize) -> u8
     ensures { result ≡ digit n }
 {
@@ -70,6 +73,7 @@ fn last_digit(n: usize) -> u8
 }
 
 // Writes the line of an input that cannot be read to its end.
+#[tactic(auto, unfolding(crate::specs::ImageOfInput::unreadable_line, lines::specs::Lines::bytes_of))]
 fn write_unreadable(out: &mut [u8]) -> usize
     ensures answer { result ≡ 46 }
     ensures out { out.new ≡ out_after unreadable_line out.old }

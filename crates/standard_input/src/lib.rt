@@ -19,6 +19,7 @@ pub fn read_on<R: Read>(input: &mut R, room: &mut [u8], from: usize) -> Input
     ensures { ReadOn (take from room.old) room.new result.count result.ended }
 {
     let mut count = from.min(room.len());
+    // No counted loop: what a turn adds is what its read brings.
     while count < room.len() {
         let more = read_once(input, &mut room[count..]);
         if more.count == 0 {

@@ -5,7 +5,7 @@ use mathlib.Core.Bool.{Bool, true, false, cond, ◌||◌}
 use mathlib.Core.List.{List, [], ◌∷◌}
 use native.Mathlib.Omega.{arith}
 use native.Mathlib.Nat.{zero-add}
-use borrow.Author.Tests.{lt-ltb, le-ltb, ltb-false, ne_eqb}
+use borrow.Author.Tests.{lt-ltb, ltb-false, ne_eqb}
 use lib.Dec.{eqb, ltb}
 use lib.ListN.{length, take, drop, length-drop}
 use lib.Seq.{length-take-le}
@@ -102,24 +102,31 @@ whole-list bytes list = go (portion_answer fresh_reader bytes (length list)) ref
     go (refused number value) e = refl
 
 -- all that the call promises
-abbrev pub BlockPromised : (block : List ℕ) (revolutions k : ℕ) (list : List ℕ) → Answer ℕ → List ℕ → Type 0
-BlockPromised block revolutions k list answer after =
-    (answer ≡ block_answer block revolutions k (length list)) × (after ≡ block_timings block revolutions k list)
+abbrev pub BlockPromised : (block : List ℕ) (revolutions k : ℕ) (before : List ℕ) → Answer ℕ → List ℕ → Type 0
+BlockPromised block revolutions k before gave after =
+    record { answer : gave ≡ block_answer block revolutions k (length before); list : after ≡ block_timings block revolutions k before }
+
+-- what the judgement of a block says that gives something of it
+module _ (block : List ℕ) (revolutions : ℕ) {A : Type 0} {x : A} (y : A) where
+  judged-gives : gives x ≡ cond (not_a_track_block block revolutions) (refused 16 0) (gives y) → (not_a_track_block block revolutions ≡ false) × (x ≡ y)
+  judged-gives e = go (not_a_track_block block revolutions) e
+    where
+      go : (b : Bool) → gives x ≡ cond b (refused 16 0) (gives y) → (b ≡ false) × (x ≡ y)
+      go true e = absurd cc
+      go false e = (refl, cc)
+
+  pub judged-block : gives x ≡ cond (not_a_track_block block revolutions) (refused 16 0) (gives y) → not_a_track_block block revolutions ≡ false
+  judged-block e = (judged-gives e).0
+
+  pub judged-table : gives x ≡ cond (not_a_track_block block revolutions) (refused 16 0) (gives y) → x ≡ y
+  judged-table e = (judged-gives e).1
 
 module _ (block : List ℕ) (revolutions k : ℕ) (list : List ℕ) where
   block-promised : {answer : Answer ℕ} {after : List ℕ} → answer ≡ block_answer block revolutions k (length list) → after ≡ buffer_after answer (revolution_timings block k) list
       → BlockPromised block revolutions k list answer after
-  block-promised e f = (e, f ∙ ap (λ (a : Answer ℕ). buffer_after a (revolution_timings block k) list) e)
-
-  pub no_block : not_a_track_block block revolutions ≡ true → BlockPromised block revolutions k list (refused 16 0) list
-  unfolding block_judged buffer_after
-  no_block e = block-promised (rw e) refl
+  block-promised e f = record { answer = e; list = f ∙ ap (λ (a : Answer ℕ). buffer_after a (revolution_timings block k) list) e }
 
   module _ (block-is : not_a_track_block block revolutions ≡ false) where
-    pub no-revolution : revolutions ≤ k → BlockPromised block revolutions k list (refused 17 0) list
-    unfolding block_judged buffer_after
-    no-revolution h = block-promised (rw (block-is, le-ltb k revolutions h)) refl
-
     module _ (has : k < revolutions) where
       judged-on : {next : Answer ℕ} → next ≡ block_judged block revolutions k next
       unfolding block_judged

@@ -1,4 +1,4 @@
-pub mod Table
+pub mod Revolutions
 pub mod Block
 pub mod Laws
 pub mod Examples

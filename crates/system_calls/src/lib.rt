@@ -27,6 +27,7 @@ pub fn large_buffer() -> [u8; 65536]
 }
 
 // One read, of as much as there is and the room holds: how many bytes it put at the front of the room, or -1 where it failed.
+// It stays a number: the rules of the programs are stated on it (`ReadAnswers` here, `bytes_read` above).
 pub fn read<R: Read>(from: &mut R, room: &mut [u8]) -> isize
     ensures { ReadAnswers (length room.new) result }
 {

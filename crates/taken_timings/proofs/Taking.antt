@@ -21,22 +21,22 @@ use Rattle.separator.proofs.MachineStep.{cells-small}
 use Rattle.separator.proofs.Stepping.{step-refused, step-answers, step-leaves}
 use Rattle.separation.proofs.Walk.{length-for, cells_from}
 use Rattle.taken_timings.specs.Timings.{timing_cells, taken_step, taken_after, step_cells, taken_cells, timings_answer}
-use Rattle.taken_timings.specs.declared.TakenTimings.{TakenTimings}
-use Rattle.taken_timings.specs.declared.TakenTimings.TheVariants.{InRange, OutOfRange}
+use Rattle.taken_timings.specs.declared.Taken.{Taken}
+use Rattle.std.specs.Prelude.{Result, Ok, Err}
 use Rattle.taken_timings.proofs.Steps.{count-more}
 
 -- the timings one after another
-abbrev pub taken_over : TakenTimings → List ℕ → TakenTimings
+abbrev pub taken_over : Result Taken ℕ → List ℕ → Result Taken ℕ
 taken_over taken [] = taken
 taken_over taken (t ∷ ts) = taken_over (taken_after taken t) ts
 
-abbrev pub cells_over : TakenTimings → List ℕ → List ℕ → List ℕ
+abbrev pub cells_over : Result Taken ℕ → List ℕ → List ℕ → List ℕ
 cells_over taken [] buffer = buffer
 cells_over taken (t ∷ ts) buffer = cells_over (taken_after taken t) ts (taken_cells taken t buffer)
 
 -- i timings with `at` cells taken, and the residual r
-abbrev pub took_with : ℕ → ℕ → ℤ → TakenTimings
-took_with i at r = InRange i at (record { residual = r })
+abbrev pub took_with : ℕ → ℕ → ℤ → Result Taken ℕ
+took_with i at r = Ok (record { timings = i; cells = at; separator = record { residual = r } })
 
 -- one timing in range
 module _ (i at : ℕ) (r : ℤ) (t : ℕ) (kept : Kept double_half_window r) (ranged : in_range t ≡ true) (small : at ≤ 5000 * i) (few : i < 65536) where
@@ -58,11 +58,11 @@ module _ (i at : ℕ) (r : ℤ) (t : ℕ) (kept : Kept double_half_window r) (ra
   unfolding taken_cells step_cells
   one-cells buffer = rw (step-answers double_half_window r t kept ranged)
 
-out-taken : (i at : ℕ) (r : ℤ) (t : ℕ) → in_range t ≡ false → taken_after (took_with i at r) t ≡ OutOfRange i
+out-taken : (i at : ℕ) (r : ℤ) (t : ℕ) → in_range t ≡ false → taken_after (took_with i at r) t ≡ Err i
 unfolding taken_after taken_step
 out-taken i at r t e = rw (← (step-refused double_half_window r t e).0)
 
-stays_out : (index : ℕ) (ts : List ℕ) → taken_over (OutOfRange index) ts ≡ OutOfRange index
+stays_out : (index : ℕ) (ts : List ℕ) → taken_over (Err index) ts ≡ Err index
 unfolding taken_after
 stays_out index [] = refl
 stays_out index (t ∷ ts) = stays_out index ts
@@ -110,13 +110,13 @@ over-answer (t ∷ ts) i at r kept few small = go (in_range t) refl (over-answer
         let l = n-small i at r t kept e small (omega arith) in
         let m = length_more r t ts in
         let d : (at + n) + length (cells_from (residual_after double_half_window r t) ts) ≡ at + length (cells_from r (t ∷ ts)) = omega arith in
-        ap (λ (x : TakenTimings). timings_answer (taken_over x ts)) (one-taken i at r t kept e small (omega arith))
+        ap (λ (x : Result Taken ℕ). timings_answer (taken_over x ts)) (one-taken i at r t kept e small (omega arith))
         ∙ more (i + 1) (at + n) (residual_after double_half_window r t) (kept_next 1000 (omega arith) r t kept) (omega arith) (omega arith)
         ∙ told-later i (first_out ts) (length ts) _ _ d
         ∙ ap (λ (x : ℕ). told i x (suc (length ts)) (at + length (cells_from r (t ∷ ts)))) (sym (first-later t ts e))
     go false e more =
         let z : i ≡ i + 0 = omega arith in
-        ap (λ (x : TakenTimings). timings_answer (taken_over x ts)) (out-taken i at r t e) ∙ ap timings_answer (stays_out i ts)
+        ap (λ (x : Result Taken ℕ). timings_answer (taken_over x ts)) (out-taken i at r t e) ∙ ap timings_answer (stays_out i ts)
         ∙ ap (λ (x : ℕ). refused 8 x) z
         ∙ rw (first-here t ts e, lt-ltb 0 (suc (length ts)) (omega arith))
 

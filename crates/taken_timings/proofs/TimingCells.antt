@@ -21,7 +21,8 @@ use Rattle.separator.proofs.Lifted.{Kept, kept-none, kept_next}
 use Rattle.separation.proofs.Walk.{length-for, cells-for, cells_from}
 use Rattle.separation.proofs.Writing.{front_of, front-with-timing, front-cleared, front-whole}
 use Rattle.taken_timings.specs.Timings.{timing_cells, taken_after, taken_cells}
-use Rattle.taken_timings.specs.declared.TakenTimings.{TakenTimings}
+use Rattle.std.specs.Prelude.{Result}
+use Rattle.taken_timings.specs.declared.Taken.{Taken}
 use Rattle.taken_timings.proofs.Steps.{count-more}
 use native.Mathlib.Nat.{min-eq_left}
 use Rattle.basis.specs.Lists.{written_over}
@@ -57,7 +58,7 @@ module _ (needed : ℕ) (most : needed ≤ 16384) (rest : List ℕ) where
           let l = n-small i at r t kept e small (omega arith) in
           let m = length_more r t ts in
           let f = first-later t ts e in
-          ap (λ (x : TakenTimings). cells_over x ts (taken_cells (took_with i at r) t (front_of q needed rest))) (one-taken i at r t kept e small (omega arith))
+          ap (λ (x : Result Taken ℕ). cells_over x ts (taken_cells (took_with i at r) t (front_of q needed rest))) (one-taken i at r t kept e small (omega arith))
           ∙ ap (cells_over (took_with (i + 1) (at + n) r') ts)
           (one-cells i at r t kept e small (omega arith) (front_of q needed rest) ∙ within-most at n (front_of q needed rest) (omega arith)
           ∙ front-with-timing q bits needed rest at n long (omega arith))

@@ -29,6 +29,7 @@ pub fn none_taken() -> Result<Taken, usize>
 }
 
 // A timing more: it is stepped, and its cells are put after those so far. After one outside its range no more are.
+#[tactic(auto, unfolding(crate::specs::Timings::taken_after, crate::specs::Timings::taken_step, crate::specs::Timings::taken_cells, crate::specs::Timings::step_cells))]
 pub fn take_timing(
     taken: Result<Taken, usize>,
     timing: u32,
@@ -38,20 +39,17 @@ pub fn take_timing(
     ensures buffer { cells.new ≡ taken_cells taken timing cells.old }
 {
     let mut taken = taken?;
-    match taken.separator.step::<DoubleDensity>(timing) {
-        Ok(step) => {
-            put_cells(cells, taken.cells, step.cells);
-            Ok(Taken {
-                timings: add_count(taken.timings, 1),
-                cells: add_count(taken.cells, step.cells),
-                separator: taken.separator,
-            })
-        }
-        Err(_) => Err(taken.timings),
-    }
+    let Ok(step) = taken.separator.step::<DoubleDensity>(timing) else {
+        return Err(taken.timings);
+    };
+    put_cells(cells, taken.cells, step.cells);
+    taken.timings = add_count(taken.timings, 1);
+    taken.cells = add_count(taken.cells, step.cells);
+    Ok(taken)
 }
 
 // What the timings give in all: the number of their cells, or a refusal.
+#[tactic(auto, unfolding(crate::specs::Timings::timings_answer))]
 pub fn count_taken(taken: Result<Taken, usize>) -> Result<usize, Refusal>
     ensures { answer_of result ≡ timings_answer taken }
 {
@@ -68,6 +66,7 @@ pub fn count_taken(taken: Result<Taken, usize>) -> Result<usize, Refusal>
 
 // Puts the cells of a timing at cell `at`, where zeros stand: all that changes is a one at the last of them. Past 131,072 cells the file
 // is refused, and nothing is put.
+#[tactic(auto, unfolding(crate::specs::Timings::timing_cells))]
 fn put_cells(cells: &mut [u8], at: usize, count: u32)
     ensures { cells.new ≡ timing_cells at count cells.old }
 {
@@ -81,6 +80,7 @@ fn put_cells(cells: &mut [u8], at: usize, count: u32)
 }
 
 // A count and more. A count that no file reaches stays, so that nothing can overflow in any state.
+#[tactic(auto, unfolding(crate::specs::Timings::count_after))]
 fn add_count(count: usize, more: u32) -> usize
     ensures { result ≡ count_after count more }
 {

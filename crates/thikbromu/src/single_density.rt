@@ -1,4 +1,5 @@
 // Tracks of single density (FM): each routine takes, gives and refuses what its namesake without `fm` does. Demand 3 is not claimed.
+// The pairs are names of the C interface; what a pair does is one function over the density.
 ghost use Rattle.std.specs.Prelude.{◌≡◌, ◌/◌, length};
 ghost use Rattle.layouts.specs.Layouts.{single_density};
 ghost use Rattle.separator.specs.Rule.{single_half_window, step_answer_by, step_offset_by, step_residual_by};

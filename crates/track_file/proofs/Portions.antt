@@ -88,8 +88,8 @@ all-fed {rest = byte ∷ behind} fed e = let z : ⊥ = omega arith in absurd z
 -- a byte of packed cells that is not the last, as the byte i of the first `end`
 pub packed-fed : {portion cells₀ : List ℕ} {reader₀ : Reader} {cells : List ℕ} {place : Place} {count at i : ℕ} (end : ℕ)
     → Fed portion cells₀ reader₀ (drop i portion) cells (PackedCells place count at) → i < end → end ≤ length portion → at + 1 < bytes_for count
-    → {after : List ℕ} → after ≡ set cells at (get_or (take end portion) i 0)
-    → Fed portion cells₀ reader₀ (drop (i + 1) portion) after (PackedCells place count (at + 1))
+    → {next : ℕ} → next ≡ at + 1 → {after : List ℕ} → after ≡ set cells at (get_or (take end portion) i 0)
+    → Fed portion cells₀ reader₀ (drop (i + 1) portion) after (PackedCells place count next)
 unfolding reader_after_byte cells_after_byte
-packed-fed {portion} {place = place} {count} {at} {i} end fed h k some e =
-    byte-fed fed (byte_at portion i (omega arith)) (more_bytes place count at some) (rw (← get_or-take end portion i 0 h) e)
+packed-fed {portion} {place = place} {count} {at} {i} end fed h k some n e =
+    byte-fed fed (byte_at portion i (omega arith)) (ap (PackedCells place count) n ∙ more_bytes place count at some) (rw (← get_or-take end portion i 0 h) e)

@@ -114,16 +114,14 @@ fn feed_packed<'a>(reader: Reader, portion: &'a [u8], cells: &mut [u8]) -> Fed<'
             rest: portion,
         };
     };
-    let last = ((count as usize) + 7) / 8;
-    let left = last.saturating_sub(first as usize + 1);
+    let packed = ((count as usize) + 7) / 8;
+    let left = packed.saturating_sub(first as usize + 1);
     let end = left.min(portion.len());
-    let mut at = first;
-    for byte in &portion[..end] {
-        file_reader::put_byte(cells, at, *byte);
-        at += 1;
+    for (i, byte) in portion[..end].iter().enumerate() {
+        file_reader::put_byte(cells, first + i as u32, *byte);
     }
     Fed {
-        reader: Reader::PackedCells(place, count, at),
+        reader: Reader::PackedCells(place, count, first + end as u32),
         rest: &portion[end..],
     }
 }

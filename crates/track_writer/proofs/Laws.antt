@@ -44,13 +44,6 @@ counted-few n r c h = go (dec_le n 8192)
     go (yes l) = c.exact l
     go (no l) = absurd (omega (arith, c.more (lt_of_not-le l)))
 
-counted-many : (n r : ℕ) → UpToMost n r → 8192 < r → 8192 < n
-counted-many n r c h = go (dec_le n 8192)
-  where
-    go : Dec (n ≤ 8192) → 8192 < n
-    go (yes l) = absurd (omega (arith, c.exact l))
-    go (no l) = lt_of_not-le l
-
 -- ---- the pieces are counted by the bytes alone: neither the check word nor the runs change their number
 pub piece_count : List ℕ → ℕ
 piece_count [] = 0

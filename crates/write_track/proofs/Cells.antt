@@ -61,7 +61,7 @@ pub record Given (list cells : List ℕ) (count : ℕ) : Type 0 where
 -- the call in a room of 16,384 bytes
 module _ (list before : List ℕ) (long : length before ≡ 16384) (answer : Result ℕ Refusal) {cells : List ℕ}
     (call : (answer_of answer ≡ write_answer list before) × (cells ≡ written_after list before)) where
-  pub given : {count : ℕ} → answer ≡ Count count → Given list cells count
+  pub given : {count : ℕ} → answer ≡ Ok count → Given list cells count
   unfolding cell_count buffer_after
   given {count} e =
       let told : gives count ≡ write_answer list before = ap answer_of (sym e) ∙ call.0 in
@@ -76,7 +76,7 @@ module _ (list before : List ℕ) (long : length before ≡ 16384) (answer : Res
       }
 
   -- or it is refused with 20
-  pub too_long : {refusal : Refusal} → answer ≡ Refused refusal → (number_of refusal ≡ 20) × (131072 < cell_count list)
+  pub too_long : {refusal : Refusal} → answer ≡ Err refusal → (number_of refusal ≡ 20) × (131072 < cell_count list)
   too_long {refusal} e =
       judged-refused (cell_count list) (number_of refusal) (value_of refusal) (ap answer_of (sym e) ∙ call.0 ∙ ap (judged (cell_count list)) long)
 

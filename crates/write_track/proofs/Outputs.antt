@@ -83,21 +83,6 @@ file-made {T} {H} list track side some few {count} {packed} c p {n} {out} at =
     (rw (le-ltb 83 T track, le-ltb 1 H side, ne_eqb (length list) 0 some, le-ltb 131072 (cell_count list) few))
     record { output_is = rw (← c, ← p) at; message_is = nothing out }
 
--- an input
-module _ (T H : ℕ) (ended : Bool) (list : List ℕ) {output message : ℕ} {out : List ℕ} where
-  pub long-input : 8192 < length list → Made (outputs_of T H list) output message out → Made (outputs_of_input T H ended list) output message out
-  unfolding outputs_of_input
-  long-input h m = made_as (rw (lt-ltb 8192 (length list) h)) m
-
-  pub ended-input : length list ≤ 8192 → ended ≡ true → Made (outputs_of T H list) output message out
-      → Made (outputs_of_input T H ended list) output message out
-  unfolding outputs_of_input
-  ended-input h e m = made_as (rw (le-ltb 8192 (length list) h, e)) m
-
-  pub open-input : length list ≤ 8192 → ended ≡ false → Made unreadable output message out → Made (outputs_of_input T H ended list) output message out
-  unfolding outputs_of_input
-  open-input h e m = made_as (rw (le-ltb 8192 (length list) h, e)) m
-
 -- 13.56: what follows more than 8,192 bytes changes nothing
 pub enough-read : (T H : ℕ) (list rest : List ℕ) → 8192 < length list → outputs_of T H (list ++ rest) ≡ outputs_of T H list
 unfolding outputs_of

@@ -1,49 +1,55 @@
--- Parts that are written behind each other, and a track file of its three. Assumes nothing.
+-- A track file is written from its three parts, each behind the one before. Assumes nothing.
 use Prim.Native.Nat.{ℕ, ◌+◌, ◌-◌, ◌≤◌}
 use mathlib.Core.Path.{◌≡◌, refl, sym, ◌∙◌, ap}
-use mathlib.Core.List.{List, [], ◌++◌, append_assoc}
+use mathlib.Core.List.{List, [], ◌∷◌, ◌++◌, append_assoc}
 use native.Mathlib.Omega.{arith}
-use borrow.Rule.Slice.PartMut.{mid_of, post_of, put_mid, mid_len}
-use lib.ListN.{length, take, drop}
-use lib.Seq.{length-take-le, take_all, take_at, take-append-add}
+use borrow.Rule.Slice.PartMut.{put_mid}
+use lib.ListN.{length, get_or, drop, length-append, length-drop}
+use lib.Seq.{take_at, drop_at, drop-drop}
 use Rattle.basis.specs.Lists.{written_over}
 use Rattle.write_track.specs.FileOfList.{in_four_bytes, front_of, file_with, AtFront}
 
--- bytes that are copied to the rest of a buffer stand behind its first `at`
-module _ (out : List ℕ) (at : ℕ) (bytes : List ℕ) (fits : at + length bytes ≤ length out) where
-  abbrev rest : List ℕ
-  rest = mid_of at (length out - at) out
+-- a part more, behind what is made
+put-behind : (made bytes before : List ℕ) (at k : ℕ) → at ≡ length made → k ≡ length bytes
+    → put_mid at k (written_over made before) bytes ≡ written_over (made ++ bytes) before
+put-behind made bytes before at k e f =
+    let rest = drop (length made) before in
+    let behind : drop k (drop at (made ++ rest)) ≡ drop (length (made ++ bytes)) before =
+    ap (drop k) (drop_at made rest at (sym e)) ∙ drop-drop k (length made) before
+    ∙ ap (λ (n : ℕ). drop n before) (ap (λ (n : ℕ). length made + n) f ∙ sym (length-append made bytes)) in
+    ap (λ (l : List ℕ). l ++ (bytes ++ drop k (drop at (made ++ rest)))) (take_at made rest at (sym e))
+    ∙ ap (λ (l : List ℕ). made ++ (bytes ++ l)) behind ∙ sym (append_assoc made bytes (drop (length (made ++ bytes)) before))
 
-  pub put-behind : {part : List ℕ} → part ≡ written_over (take (length rest) bytes) rest
-      → take (at + length bytes) (put_mid at (length out - at) out part) ≡ take at out ++ bytes
-  put-behind {part} e =
-      let post = post_of at (length out - at) out in
-      let l : length (take at out) ≡ at = length-take-le at out (omega arith) in
-      let long : length rest ≡ length out - at = mid_len at (length out) out (omega arith) in
-      let all : take (length rest) bytes ≡ bytes = take_all (length rest) bytes (omega arith) in
-      let written : part ≡ bytes ++ drop (length bytes) rest = e ∙ ap (λ (b : List ℕ). written_over b rest) all in
-      ap (λ (n : ℕ). take (n + length bytes) (put_mid at (length out - at) out part)) (sym l)
-      ∙ take-append-add (take at out) (part ++ post) (length bytes)
-      ∙ ap (λ (r : List ℕ). take at out ++ r)
-      (ap (λ (p : List ℕ). take (length bytes) (p ++ post)) written
-      ∙ ap (λ (p : List ℕ). take (length bytes) p) (append_assoc bytes (drop (length bytes) rest) post)
-      ∙ take_at bytes (drop (length bytes) rest ++ post) (length bytes) refl)
-
--- what `put` promises
-abbrev Put : (before : List ℕ) (at : ℕ) (bytes after : List ℕ) (next : ℕ) → Type 0
-Put before at bytes after next = (next ≡ at + length bytes) × (take next after ≡ take at before ++ bytes)
+-- the first part, with the bytes of the number of cells
+front-filled : (T H cells : ℕ) {number front : List ℕ} → number ≡ in_four_bytes cells
+    → front ≡ 2 ∷ 0 ∷ 0 ∷ 0 ∷ T ∷ H ∷ get_or number 0 0 ∷ get_or number 1 0 ∷ get_or number 2 0 ∷ get_or number 3 0 ∷ [] → front ≡ front_of T H cells
+unfolding front_of
+front-filled T H cells e f = f ∙ ap (λ (n : List ℕ). 2 ∷ 0 ∷ 0 ∷ 0 ∷ T ∷ H ∷ get_or n 0 0 ∷ get_or n 1 0 ∷ get_or n 2 0 ∷ get_or n 3 0 ∷ []) e
 
 -- the three parts of a file
-pub file-written : (T H count : ℕ) (packed : List ℕ) {front : List ℕ} → front ≡ front_of T H count → (i j k : ℕ) (b c d : List ℕ)
-    → (i ≡ 0 + length front) × (take i b ≡ front) → Put b i packed c j → Put c j (in_four_bytes 0) d k → k ≤ length d
-    → AtFront (file_with T H count packed) k d
-unfolding file_with
-file-written T H count packed {front} e i j k b c d first second third within =
-    record {
-      within = within;
-      front_is =
-          third.1
-          ∙ ap (λ (l : List ℕ). l ++ in_four_bytes 0) (second.1 ∙ ap (λ (l : List ℕ). l ++ packed) first.1)
-          ∙ append_assoc front packed (in_four_bytes 0)
-          ∙ ap (λ (l : List ℕ). l ++ (packed ++ in_four_bytes 0)) e;
-    }
+file-written : (T H cells : ℕ) (packed before : List ℕ) {number front second third : List ℕ} → number ≡ in_four_bytes cells
+    → front ≡ 2 ∷ 0 ∷ 0 ∷ 0 ∷ T ∷ H ∷ get_or number 0 0 ∷ get_or number 1 0 ∷ get_or number 2 0 ∷ get_or number 3 0 ∷ [] → second ≡ packed → third ≡ in_four_bytes 0
+    → put_mid (10 + length packed) (10 + length packed + 4 - (10 + length packed)) (put_mid 10 (10 + length packed - 10) (front ++ drop 10 before) second) third
+    ≡ written_over (file_with T H cells packed) before
+unfolding file_with front_of
+file-written T H cells packed before n e f g =
+    let front = front_of T H cells in
+    let two = length-append front packed in
+    rw (front-filled T H cells n e, f, g)
+    (ap (λ (l : List ℕ). put_mid (10 + length packed) (10 + length packed + 4 - (10 + length packed)) l (in_four_bytes 0))
+    (put-behind front packed before 10 (10 + length packed - 10) refl (omega arith))
+    ∙ put-behind (front ++ packed) (in_four_bytes 0) before (10 + length packed) (10 + length packed + 4 - (10 + length packed)) (omega (arith, two)) (omega arith)
+    ∙ ap (λ (l : List ℕ). written_over l before) (append_assoc front packed (in_four_bytes 0)))
+
+-- and it stands at the front of a buffer with room for it
+pub file-at_front : (T H cells : ℕ) (packed before : List ℕ) → 14 + length packed ≤ length before → {number front second third : List ℕ} → number ≡ in_four_bytes cells
+    → front ≡ 2 ∷ 0 ∷ 0 ∷ 0 ∷ T ∷ H ∷ get_or number 0 0 ∷ get_or number 1 0 ∷ get_or number 2 0 ∷ get_or number 3 0 ∷ [] → second ≡ packed → third ≡ in_four_bytes 0
+    → AtFront (file_with T H cells packed) (10 + length packed + 4)
+    (put_mid (10 + length packed) (10 + length packed + 4 - (10 + length packed)) (put_mid 10 (10 + length packed - 10) (front ++ drop 10 before) second) third)
+unfolding file_with front_of
+file-at_front T H cells packed before room n e f g =
+    let file = file_with T H cells packed in
+    let made = file-written T H cells packed before n e f g in
+    let long : length file ≡ 10 + length packed + 4 =
+    omega (arith, length-append (front_of T H cells) (packed ++ in_four_bytes 0), length-append packed (in_four_bytes 0)) in
+    rw made (record { within = omega (arith, long, length-append file (drop (length file) before), length-drop (length file) before); front_is = take_at file (drop (length file) before) (10 + length packed + 4) long })

@@ -7,11 +7,11 @@
 // standard error, and nothing else. Where no track file is made, standard output gets nothing, and standard error one line.
 #![tactic(auto)]
 
-ghost use Rattle.std.specs.Prelude.{◌≡◌, ◌++◌, ◌+◌, ◌≤◌, length, take};
+ghost use Rattle.std.specs.Prelude.{◌≡◌, ◌≤◌, length};
 ghost use Rattle.block_choice.specs.Arguments.{choice_seen};
 ghost use Rattle.refusals.specs.RefusedCalls.{number_of};
 ghost use Rattle.write_track.specs.Arguments.{place_of, PlaceRead};
-ghost use Rattle.write_track.specs.FileOfList.{front_of, file_with, refusal, unreadable, output_count, message_count, outputs_of, outputs_of_input, AtFront, Made, MadeOfInput};
+ghost use Rattle.write_track.specs.FileOfList.{file_with, refusal, unreadable, output_count, message_count, outputs_of, outputs_of_input, AtFront, Made, MadeOfInput};
 
 use block_choice::Choice;
 use refusals::Refusal;
@@ -22,6 +22,8 @@ use std::io::Read;
 const LIST_ROOM: usize = track_writer::MOST_PIECES + 1;
 
 const CELL_ROOM: usize = 2 * track_writer::MOST_PIECES;
+
+const OUT_ROOM: usize = 65_536;
 
 // Where the bytes at the front of a buffer go, and how many they are: a track file to standard output, or a line to standard error.
 #[derive(Clone, Copy, Debug)]
@@ -41,6 +43,7 @@ fn read_place<E: Env>(env: &E, first: &mut [u8], second: &mut [u8]) -> Option<Ch
 
 // The place that two words name, where the program was started with so many, its own name among them. They are taken as the last two of the
 // four words that choose of a track block.
+#[tactic(auto, unfolding(crate::specs::Arguments::place_of, block_choice::specs::Arguments::choice_of, block_choice::specs::Arguments::argument_of, block_choice::specs::Arguments::argument_from))]
 fn place_of(words: usize, first: &[u8], second: &[u8]) -> Option<Choice>
     ensures { choice_seen result ≡ place_of words first.now second.now }
 {
@@ -55,28 +58,26 @@ fn write_input<R: Read>(
     from: &mut R,
     track: u8,
     side: u8,
-    list: &mut [u8],
-    cells: &mut [u8],
-    out: &mut [u8],
+    list: &mut [u8; LIST_ROOM],
+    cells: &mut [u8; CELL_ROOM],
+    out: &mut [u8; OUT_ROOM],
 ) -> Written
-    requires { (length list.old ≡ 8193) × (length cells.old ≡ 16384) × (length out.old ≡ 65536) }
     ensures { MadeOfInput track side (output_count result) (message_count result) out.new }
 {
     let input = standard_input::read_on(from, list, 0);
-    let count = input.count;
-    write_read(track, side, &list[..count], input.ended, cells, out)
+    write_read(track, side, &list[..input.count], input.ended, cells, out)
 }
 
 // What is to be written of an input of which these bytes were read, and which ended there or not.
+#[tactic(auto, unfolding(crate::specs::FileOfList::outputs_of_input))]
 fn write_read(
     track: u8,
     side: u8,
     list: &[u8],
     ended: bool,
-    cells: &mut [u8],
-    out: &mut [u8],
+    cells: &mut [u8; CELL_ROOM],
+    out: &mut [u8; OUT_ROOM],
 ) -> Written
-    requires { (length cells.old ≡ 16384) × (length out.old ≡ 65536) }
     ensures { Made (outputs_of_input track side ended list.now) (output_count result) (message_count result) out.new }
 {
     if track_writer::MOST_PIECES < list.len() {
@@ -89,8 +90,13 @@ fn write_read(
 }
 
 // What is to be written of a list.
-fn write_list(track: u8, side: u8, list: &[u8], cells: &mut [u8], out: &mut [u8]) -> Written
-    requires { (length cells.old ≡ 16384) × (length out.old ≡ 65536) }
+fn write_list(
+    track: u8,
+    side: u8,
+    list: &[u8],
+    cells: &mut [u8; CELL_ROOM],
+    out: &mut [u8; OUT_ROOM],
+) -> Written
     ensures { Made (outputs_of track side list.now) (output_count result) (message_count result) out.new }
 {
     if 83 < track {
@@ -99,68 +105,45 @@ fn write_list(track: u8, side: u8, list: &[u8], cells: &mut [u8], out: &mut [u8]
     if 1 < side {
         return write_refusal(Refusal::TrackOrSide, out);
     }
-    if list.len() == 0 {
+    if list.is_empty() {
         return write_refusal(Refusal::NotATrackFile, out);
     }
     match track_writer::write_track(list, cells) {
-        Ok(count) => Written::Output(write_file(track, side, count, &cells[..count / 8], out)),
+        Ok(count) => {
+            let length = write_file(track, side, count, &cells[..count / 8], out);
+            Written::Output(length)
+        }
         Err(refusal) => write_refusal(refusal, out),
     }
 }
 
-// Puts a track file at the front of `out`: the place, the cells, and no timings.
-fn write_file(track: u8, side: u8, count: usize, cells: &[u8], out: &mut [u8]) -> usize
-    requires { (length cells.now ≤ 16384) × (length out.old ≡ 65536) }
+// Puts a track file at the front of `out`: the place, the cells, and no timings. The answer is how many bytes it has.
+fn write_file(track: u8, side: u8, count: usize, cells: &[u8], out: &mut [u8; OUT_ROOM]) -> usize
+    requires count { count ≤ 131072 }
+    requires cells { length cells.now ≤ 16384 }
     ensures { AtFront (file_with track side count cells.now) result out.new }
 {
-    let front = front_of(track, side, count);
-    let next = put(out, 0, &front);
-    let next = put(out, next, cells);
-    put(out, next, b"\0\0\0\0")
-}
-
-// The bytes of a track file before its packed cells: the place with its count, and the number of cells.
-fn front_of(track: u8, side: u8, count: usize) -> [u8; 10]
-    ensures { result ≡ front_of track side count }
-{
-    [
-        2,
-        0,
-        0,
-        0,
-        track,
-        side,
-        (count % 256) as u8,
-        (count / 256 % 256) as u8,
-        (count / 65_536 % 256) as u8,
-        (count / 16_777_216 % 256) as u8,
-    ]
-}
-
-// Writes bytes behind the first `at` of `out`; the answer is the place after them.
-fn put(out: &mut [u8], at: usize, bytes: &[u8]) -> usize
-    requires { at + length bytes.now ≤ length out.old }
-    ensures place { result ≡ at + length bytes.now }
-    ensures front { take result out.new ≡ take at out.old ++ bytes.now }
-{
-    basis::copy(bytes, &mut out[at..]);
-    at + bytes.len()
+    let [a, b, c, d] = (count as u32).to_le_bytes();
+    let end = 10 + cells.len();
+    out[..10].copy_from_slice(&[2, 0, 0, 0, track, side, a, b, c, d]);
+    out[10..end].copy_from_slice(cells);
+    out[end..end + 4].copy_from_slice(&[0; 4]);
+    end + 4
 }
 
 // Puts the line of a refusal at the front of `out`.
-fn write_refusal(refusal: Refusal, out: &mut [u8]) -> Written
-    requires { length out.old ≡ 65536 }
-    ensures { Made (refusal (number_of refusal)) (output_count result) (message_count result) out.new }
+fn write_refusal(reason: Refusal, out: &mut [u8; OUT_ROOM]) -> Written
+    ensures { Made (refusal (number_of reason)) (output_count result) (message_count result) out.new }
 {
-    Written::Message(lines::refused_line(out, refusal.number()))
+    Written::Message(lines::refused_line(out, reason.number()))
 }
 
 // Puts the line of an input that cannot be read to its end at the front of `out`.
-fn write_unreadable(out: &mut [u8]) -> Written
-    requires { length out.old ≡ 65536 }
+fn write_unreadable(out: &mut [u8; OUT_ROOM]) -> Written
     ensures { Made unreadable (output_count result) (message_count result) out.new }
 {
-    Written::Message(put(out, 0, b"write_track: the list cannot be read to its end\n"))
+    out[..48].copy_from_slice(b"write_track: the list cannot be read to its end\n");
+    Written::Message(48)
 }
 
 fn main(rt: HostRuntime) {

@@ -24,12 +24,6 @@ loop-w-preserved c =
           (eight-at a.bytes.now a.count w _ (search rules) c.eight_bytes.ensures ∙ word_ones f (cell-lt a.bytes.now a.count) 64 (64 * w)),
     )
 
-pub loop-w-2-init : goal.loop-w-2-init
-loop-w-2-init c =
-    let i = c.loop-w.invariant in
-    let e : c.loop-w.w ≡ c.min-whole.result = omega arith in
-    (i.0, rw e at i.1)
-
 pub loop-w-2-preserved : goal.loop-w-2-preserved
 loop-w-2-preserved c =
     let a = c.args.cells in

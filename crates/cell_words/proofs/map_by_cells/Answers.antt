@@ -8,9 +8,6 @@ use Rattle.cell_words.proofs.Tests.{front_stands, front-first, front-more, front
 use borrow.Author.Rules.{rules}
 use Rattle.cell_words.proofs.map_by_cells.Goals as goal
 
-pub loop-k-init : goal.loop-k-init
-loop-k-init c = (search rules, search rules, λ f bit h u first. first)
-
 pub loop-k-preserved : goal.loop-k-preserved
 loop-k-preserved c = (
   search rules,

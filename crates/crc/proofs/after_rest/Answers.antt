@@ -1,10 +1,7 @@
 -- `crc::after_rest` meets its contract: what is left of the bytes takes the word so far to the end. Assumes nothing.
-use mathlib.Core.Path.{refl, sym, ◌∙◌}
+use mathlib.Core.Path.{sym, ◌∙◌}
 use Rattle.crc.proofs.Bytes.{turn, end}
 use Rattle.crc.proofs.after_rest.Goals as goal
-
-pub loop-byte-init : goal.loop-byte-init
-loop-byte-init c = refl
 
 pub loop-byte-preserved : goal.loop-byte-preserved
 loop-byte-preserved c =

@@ -3,11 +3,7 @@ use Rattle.disk_listing.proofs.Gathering.{small-after, one-file-more}
 use Rattle.disk_listing.proofs.next_file.Goals as goal
 
 pub with_file-requires : goal.with_file-requires
-with_file-requires g c =
-    let p = c.requires in
-    small-after p.0 c.take_file-file.ensures p.1 p.2
+with_file-requires g c = small-after c.requires.gathered c.take_file-file.ensures c.requires.room c.requires.more
 
 pub returns : goal.returns
-returns g c =
-    let p = c.requires in
-    one-file-more p.0 c.take_file-file.ensures p.1 p.3 p.4 c.with_file.ensures
+returns g c = one-file-more c.requires.gathered c.take_file-file.ensures c.requires.room c.told-tracks c.told-findings c.with_file.ensures

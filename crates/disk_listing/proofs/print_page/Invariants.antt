@@ -1,12 +1,6 @@
 -- `disk_listing::print_page` meets its contract: the parts before `part` are printed. Assumes nothing but the contract of the system's `write`.
-use Prim.Native.Nat.{◌-◌, ◌≤◌}
-use mathlib.Core.Path.{◌≡◌}
-use lib.ListN.{length}
 use Rattle.disk_listing.proofs.Printing.{PartsPrinted}
 use Rattle.disk_listing.proofs.print_page.Given as goal
 
 abbrev pub invariant-loop-part : goal.invariant-loop-part
-invariant-loop-part g l = PartsPrinted l.tracks l.findings l.total l.part × (l.part ≤ 169) × (length l.out ≡ length l.initial.out)
-
-abbrev pub decreases-loop-part : goal.decreases-loop-part
-decreases-loop-part g l = 169 - l.part
+invariant-loop-part g l = PartsPrinted l.tracks l.findings l.total l.part

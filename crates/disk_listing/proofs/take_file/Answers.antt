@@ -6,6 +6,3 @@ pub returns-in-Err : goal.returns-in-Err
 returns-in-Err g c =
     let a = c.args in
     no-file a.tracks.now a.findings.now a.at a.from
-
-pub returns-in-Ok : goal.returns-in-Ok
-returns-in-Ok g c = c.take_input.ensures

@@ -1,9 +1,8 @@
 -- `listing::list_track` meets its contract. Assumes nothing.
 use Prim.Native.Nat.{ℕ}
-use mathlib.Core.Path.{sym, ap, ◌∙◌}
+use mathlib.Core.Path.{sym}
 use native.Mathlib.Omega.{arith}
 use lib.ListN.{replicate, length-replicate}
-use Rattle.refusals.specs.RefusedCalls.{answer_of, number_of, value_of}
 use Rattle.listing.proofs.Track.{few_cells, few_findings, few-sectors, few-header, refusal-written, listing-written}
 use Rattle.listing.proofs.list_track.Goals as goal
 
@@ -11,36 +10,37 @@ use Rattle.listing.proofs.list_track.Goals as goal
 three : {A B C : Type 0} → A × (B × C) → record { answer : A; few : B; out : C }
 three p = record { answer = p.0; few = p.1.0; out = p.1.1 }
 
+pub overflow_cast-cells : goal.overflow_cast-cells
+overflow_cast-cells c =
+    let t = c.args.track in
+    record { fits = omega (arith, few_cells t.cells.bytes.now t.cells.count t.track t.side _ (sym c.in-Ok.ensures.answer)) }
+
 pub overflow_cast-sectors : goal.overflow_cast-sectors
 overflow_cast-sectors c =
-    let a = c.args in
-    record { fits = omega (arith, few-sectors a.bytes.now a.n a.track a.side _ (sym c.findings_as_numbers-found.ensures.answer ∙ ap answer_of c.in-Count.is) _ c.findings_as_numbers-found.ensures.sectors) }
-
-pub overflow_cast-n : goal.overflow_cast-n
-overflow_cast-n c =
-    let a = c.args in
-    record { fits = omega (arith, few_cells a.bytes.now a.n a.track a.side _ (sym c.findings_as_numbers-found.ensures.answer ∙ ap answer_of c.in-Count.is)) }
+    let t = c.args.track in
+    record { fits = omega (arith, few-sectors t.cells.bytes.now t.cells.count t.track t.side _ (sym c.in-Ok.ensures.answer) _ c.in-Ok.ensures.sectors) }
 
 pub overflow_cast-count : goal.overflow_cast-count
 overflow_cast-count c =
-    let a = c.args in
-    record { fits = omega (arith, few_findings a.bytes.now a.n a.track a.side _ (sym c.findings_as_numbers-found.ensures.answer ∙ ap answer_of c.in-Count.is)) }
+    let t = c.args.track in
+    record { fits = omega (arith, few_findings t.cells.bytes.now t.cells.count t.track t.side _ (sym c.in-Ok.ensures.answer)) }
 
 pub write_lines-requires : goal.write_lines-requires
 write_lines-requires c =
-    let a = c.args in
-    let few = few-header a.bytes.now a.n a.track a.side _ (sym c.findings_as_numbers-found.ensures.answer ∙ ap answer_of c.in-Count.is) _ c.findings_as_numbers-found.ensures.sectors c.ranges.side.fits in
-    (omega (arith, c.header-at.ensures.answer, few), few_findings a.bytes.now a.n a.track a.side _ (sym c.findings_as_numbers-found.ensures.answer ∙ ap answer_of c.in-Count.is))
+    let t = c.args.track in
+    let e = sym c.in-Ok.ensures.answer in (
+      omega (arith, c.header-at.ensures.answer, few-header t.cells.bytes.now t.cells.count t.track t.side _ e _ c.in-Ok.ensures.sectors),
+      few_findings t.cells.bytes.now t.cells.count t.track t.side _ e,
+    )
 
-pub returns-in-Refused : goal.returns-in-Refused
-returns-in-Refused c =
-    let a = c.args in
-    let e = sym c.findings_as_numbers-found.ensures.answer ∙ ap answer_of c.in-Refused.is in
-    three (refusal-written a.bytes.now a.n a.track a.side a.out.now (number_of c.in-Refused.refusal) (value_of c.in-Refused.refusal) e c.number.ensures c.number.type_inv (c.refused_line.ensures.answer, c.refused_line.ensures.out))
+pub returns-in-Err : goal.returns-in-Err
+returns-in-Err c =
+    let t = c.args.track in
+    three (refusal-written t.cells.bytes.now t.cells.count t.track t.side c.args.out.now _ _ (sym c.in-Err.ensures.answer) c.number.ensures c.number.type_inv (c.refused_line.ensures.answer, c.refused_line.ensures.out))
 
-pub returns-in-Count : goal.returns-in-Count
-returns-in-Count c =
-    let a = c.args in
-    let f = c.findings_as_numbers-found.ensures in
-    three (listing-written a.bytes.now a.n a.track a.side _ (sym c.findings_as_numbers-found.ensures.answer ∙ ap answer_of c.in-Count.is) _ f.sectors a.out.now (replicate 3604 0) _ c.ranges.side.fits (length-replicate {A = ℕ} 3604 0) f.list
+pub returns-in-Ok : goal.returns-in-Ok
+returns-in-Ok c =
+    let t = c.args.track in
+    let f = c.in-Ok.ensures in
+    three (listing-written t.cells.bytes.now t.cells.count t.track t.side _ (sym f.answer) _ f.sectors c.args.out.now (replicate 3604 0) _ (length-replicate {A = ℕ} 3604 0) f.list
     (c.header-at.ensures.answer, c.header-at.ensures.out) c.write_lines.ensures)

@@ -2,19 +2,9 @@
 use Prim.Native.Nat.{◌/◌, ◌%◌}
 use mathlib.Core.Path.{◌≡◌, refl}
 use native.Mathlib.Omega.{arith}
-use lib.ListN.{length, get_or, length-set}
-use Rattle.mfm.proofs.Cells.{cast-bit}
-use Rattle.mfm.proofs.Coder.{coded_none, coded-more, coded-all}
+use lib.ListN.{length, get_or}
+use Rattle.mfm.proofs.Coder.{coded-more, coded-all}
 use Rattle.mfm.proofs.write_by_table.Goals as goal
-
-pub loop-i-init : goal.loop-i-init
-loop-i-init c = rw (c.from-last.ensures, cast-bit c.args.before) (coded_none _ _ _ _)
-
-pub bounds-cells-i : goal.bounds-cells-i
-bounds-cells-i c = omega (arith, c.loop-i.invariant.long)
-
-pub bounds-cells-i-in-loop-i : goal.bounds-cells-i-in-loop-i
-bounds-cells-i-in-loop-i c = simp length-set (omega (arith, c.loop-i.invariant.long))
 
 pub loop-i-preserved : goal.loop-i-preserved
 loop-i-preserved c =
@@ -24,9 +14,6 @@ loop-i-preserved c =
     let low : get_or c.to_be_bytes.result 1 0 ≡ w % 256 = rw c.to_be_bytes.ensures refl in
     rw (high, low)
     (coded-more a.table.now a.bytes.now a.cells.now _ c.loop-i.cells _ c.loop-i.i w c.loop-i.invariant c.loop-i-test.true c.requires c.entry.ensures)
-
-pub shape_of-cells : goal.shape_of-cells
-shape_of-cells c = c.loop-i.invariant.long
 
 pub returns : goal.returns
 returns c =

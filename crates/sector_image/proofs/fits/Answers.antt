@@ -1,20 +1,19 @@
 -- `sector_image::fits` meets its contract, by what the searches for the first and the second sector of the number find. Assumes nothing.
-use Prim.Native.Nat.{◌<◌}
+use mathlib.Core.Path.{refl}
 use native.Mathlib.Omega.{arith}
-use Rattle.sector_image.specs.PrivateContracts.{sectors_in}
+use lib.ListN.{length}
 use Rattle.sector_image.proofs.Conditions.{fits-none, fits-twice, fits-once}
-use Rattle.sector_image.proofs.Kept.{length-kept, kept-sector}
 use Rattle.sector_image.proofs.fits.Goals as goal
 
-pub returns-then-ss-first : goal.returns-then-ss-first
-returns-then-ss-first c =
-    fits-none (sectors_in c.args.ss) c.args.number c.args.ss.count (length-kept c.args.ss c.requires) _ c.find-first.ensures c.if-ss-first.true
+pub returns-in-None : goal.returns-in-None
+returns-in-None c = fits-none c.args.sectors.now c.args.number (length c.args.sectors.now) refl _ c.in-None.ensures.least (omega arith)
 
-pub returns-then-find-ss : goal.returns-then-find-ss
-returns-then-find-ss c =
-    fits-twice (sectors_in c.args.ss) c.args.number c.args.ss.count (length-kept c.args.ss c.requires) _ _ c.find-first.ensures (omega (arith, c.if-ss-first.false)) c.find.ensures c.if-find-ss.true
+pub returns-in-Some-find : goal.returns-in-Some-find
+returns-in-Some-find c =
+    let xs = c.args.sectors.now in
+    fits-twice xs c.args.number (length xs) refl _ _ c.in-Some.ensures.least (c.find.ensures.inside _ c.in-Some.is) c.in-Some-find.ensures.least (c.find-in-Some.ensures.inside _ c.in-Some-find.is)
 
-pub returns : goal.returns
-returns c =
-    let h : c.find-first.result < c.args.ss.count = omega (arith, c.if-ss-first.false) in
-    fits-once (sectors_in c.args.ss) c.args.number c.args.ss.count (length-kept c.args.ss c.requires) _ _ c.find-first.ensures h c.find.ensures _ (omega (arith, c.if-find-ss.false)) (rw (kept-sector c.args.ss c.find-first.result h) c.is_plain.ensures)
+pub returns-in-None-find : goal.returns-in-None-find
+returns-in-None-find c =
+    let xs = c.args.sectors.now in
+    fits-once xs c.args.number (length xs) refl _ _ c.in-Some.ensures.least (c.find.ensures.inside _ c.in-Some.is) c.in-None-find.ensures.least _ (omega arith) c.is_plain.ensures

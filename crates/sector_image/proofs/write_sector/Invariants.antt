@@ -1,7 +1,5 @@
 -- `sector_image::write_sector` meets its contract: after i turns the first i bytes of the sector are stored. Assumes nothing.
-use Prim.Native.Nat.{◌-◌, ◌≤◌}
-use mathlib.Core.Path.{◌≡◌}
-use lib.ListN.{length}
+use Rattle.std.proofs.Common.{◌≡◌}
 use lib.Seq.{sets}
 use Rattle.basis.specs.Lists.{listed}
 use Rattle.cells.specs.CellsAndBytes.{cell}
@@ -9,7 +7,4 @@ use Rattle.sector_records.specs.Sectors.{byte_from}
 use Rattle.sector_image.proofs.write_sector.Given as goal
 
 abbrev pub invariant-loop-i : goal.invariant-loop-i
-invariant-loop-i l = (l.i ≤ 512) × (length l.image ≡ length l.initial.image) × (l.image ≡ sets l.initial.image l.at (listed (byte_from (cell l.bytes l.n) l.p) l.i))
-
-abbrev pub decreases-loop-i : goal.decreases-loop-i
-decreases-loop-i l = 512 - l.i
+invariant-loop-i l = l.image ≡ sets l.initial.image l.at (listed (byte_from (cell l.cells.bytes.now l.cells.count) l.p) l.i)

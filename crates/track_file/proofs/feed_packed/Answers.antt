@@ -4,8 +4,8 @@ use lib.ListN.{length-take}
 use Rattle.track_file.proofs.Portions.{packed-fed}
 use Rattle.track_file.proofs.feed_packed.Goals as goal
 
-pub loop-byte-preserved : goal.loop-byte-preserved
-loop-byte-preserved c =
-    let i = c.loop-byte.invariant in
+pub loop-i-preserved : goal.loop-i-preserved
+loop-i-preserved c =
     let t = length-take c.min-end.result c.args.portion.now in
-    (omega (arith, i.0), packed-fed c.min-end.result i.1 (omega (arith, t)) (omega (arith, c.min-end.ensures)) (omega (arith, i.0, t, c.min-end.ensures, c.saturating_sub-left.ensures)) c.put_byte.ensures)
+    packed-fed c.min-end.result c.loop-i.invariant (omega (arith, t)) (omega (arith, c.min-end.ensures)) (omega (arith, t, c.min-end.ensures, c.saturating_sub-left.ensures))
+    (omega arith) c.put_byte.ensures

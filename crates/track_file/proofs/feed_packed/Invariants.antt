@@ -6,5 +6,5 @@ use Rattle.file_reader.specs.declared.Reader.TheVariants.{PackedCells}
 use Rattle.track_file.proofs.Portions.{Fed}
 use Rattle.track_file.proofs.feed_packed.Given as goal
 
-abbrev pub invariant-loop-byte : goal.invariant-loop-byte
-invariant-loop-byte l = (l.at ≡ l.first + l.byte-index) × Fed l.portion l.initial.cells (PackedCells l.place l.count l.first) (drop l.byte-index l.portion) l.cells (PackedCells l.place l.count l.at)
+abbrev pub invariant-loop-i : goal.invariant-loop-i
+invariant-loop-i l = Fed l.portion l.initial.cells (PackedCells l.place l.count l.first) (drop l.i l.portion) l.cells (PackedCells l.place l.count (l.first + l.i))

@@ -1,10 +1,7 @@
 -- `track_writer::count_pieces` meets its contract. Assumes nothing.
-use Rattle.track_writer.proofs.Laws.{count_none, count-more, count-done, counted, counted-above}
+use Rattle.track_writer.proofs.Laws.{count-more, count-done, counted, counted-above}
 use borrow.Author.Rules.{rules}
 use Rattle.track_writer.proofs.count_pieces.Goals as goal
-
-pub loop-byte-init : goal.loop-byte-init
-loop-byte-init c = (search rules, count_none _)
 
 pub returns-then-count-gt-MOST_PIECES : goal.returns-then-count-gt-MOST_PIECES
 returns-then-count-gt-MOST_PIECES c = counted-above _ c.loop-byte.byte-index c.loop-byte.count c.if-count-gt-MOST_PIECES.true c.loop-byte.invariant.1

@@ -4,6 +4,5 @@ use Rattle.write_track.proofs.write_refusal.Goals as goal
 
 pub returns : goal.returns
 returns c =
-    let start = c in
     let line = c.refused_line in
-    refusal-made c.args.number c.ranges.number.fits c.args.out.now c.requires line.auto.out (line.ensures.answer, line.ensures.out)
+    rw (← c.number.ensures) (refusal-made c.number.result c.number.type_inv c.args.out.now c.told-out line.auto.out (line.ensures.answer, line.ensures.out))

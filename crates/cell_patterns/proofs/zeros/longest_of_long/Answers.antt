@@ -25,13 +25,13 @@ loop-p-preserved c f round h held known =
     let e : a.n - 0 ≡ a.n = omega arith in
     let first = c.least_in-first.ensures.1 (one_at f) (a.n / 64 + 1) held (search rules) (search rules) ∙ ap (λ (k : ℕ). least (one_at f) k 0) e in
     let next = λ (longer : Bool).
-        longest-next f a.n l.p _ _ l.longest l.start longer c.loop-p-test.true
-        (c.zeros_from-zeros.ensures.1 f round held first)
-        (c.least_in-p-in-loop-p.ensures.1 (long_at f a.n) (a.n / 64 + 1) known (search rules) (search rules)) in
+    longest-next f a.n l.p _ _ l.longest l.start longer c.loop-p-test.true
+    (c.zeros_from-zeros.ensures.1 f round held first)
+    (c.least_in-p-in-loop-p.ensures.1 (long_at f a.n) (a.n / 64 + 1) known (search rules) (search rules)) in
     let before = l.invariant f round h held known in
     elim c.if-longest-zeros.branch [
-    | then-longest-zeros w ↦ rw (w.longest-is, w.start-is) (next true (sym (lt-ltb _ _ w.if-longest-zeros.true)) before)
-    | else-longest-zeros w ↦ rw (w.longest-is, w.start-is) (next false (sym (le-ltb _ _ w.if-longest-zeros.false)) before)
+      | then-longest-zeros w ↦ rw (w.longest-is, w.start-is) (next true (sym (lt-ltb _ _ w.if-longest-zeros.true)) before)
+      | else-longest-zeros w ↦ rw (w.longest-is, w.start-is) (next false (sym (le-ltb _ _ w.if-longest-zeros.false)) before)
     ]
 
 pub returns : goal.returns

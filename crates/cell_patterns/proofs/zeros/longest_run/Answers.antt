@@ -12,8 +12,8 @@ pub returns-then-n-gt-MOST_CELLS : goal.returns-then-n-gt-MOST_CELLS
 returns-then-n-gt-MOST_CELLS c f round h short held long =
     let a = c.args in
     elim c.then-n-gt-MOST_CELLS.branch [
-    | then-n-gt-MOST_CELLS-via-then-n-gt-MOST_CELLS w ↦ absurd (omega (arith, w.if-n-gt-MOST_CELLS.true))
-    | then-n-gt-MOST_CELLS-via-else-n-gt-MOST_CELLS+then-not-some_zero w ↦ no-long-run f a.n _ (holds-less (one_at f) _ (a.n / 64 + 68) (a.n / 64 + 2) held (omega arith)) (w.some_zero.ensures w.if-not-some_zero.true (search rules))
+      | then-n-gt-MOST_CELLS-via-then-n-gt-MOST_CELLS w ↦ absurd (omega (arith, w.if-n-gt-MOST_CELLS.true))
+      | then-n-gt-MOST_CELLS-via-else-n-gt-MOST_CELLS+then-not-some_zero w ↦ no-long-run f a.n _ (holds-less (one_at f) _ (a.n / 64 + 68) (a.n / 64 + 2) held (omega arith)) (w.some_zero.ensures w.if-not-some_zero.true (search rules))
     ]
 
 pub returns : goal.returns

@@ -24,4 +24,4 @@ returns-then-length-eq0 c =
 pub returns : goal.returns
 returns c =
     let a = c.args in
-    c.find_in_turn.ensures ∙ ap (λ (k : ℕ). least_place a.self.bytes.now a.self.count k a.x a.from a.to) c.min-length.ensures ∙ least-capped a.self.bytes.now a.self.count a.k a.x a.from a.to
+    c.in_turn.ensures ∙ ap (λ (k : ℕ). least_place a.self.bytes.now a.self.count k a.x a.from a.to) c.min-length.ensures ∙ least-capped a.self.bytes.now a.self.count a.k a.x a.from a.to

@@ -1,6 +1,0 @@
--- `scp_image::other_side` meets its contract. Assumes nothing.
-use Rattle.std.proofs.Common.{refl}
-use Rattle.scp_image.proofs.other_side.Goals as goal
-
-pub returns : goal.returns
-returns c = refl
