@@ -6,7 +6,7 @@ use mathlib.Core.List.{List, [], ◌∷◌, ◌++◌, append-nil}
 use native.Mathlib.Omega.{arith}
 use lib.ListN.{length, get_or, take, drop, length-drop}
 use lib.Seq.{drop-drop, get_or-take}
-use Rattle.core.specs.Simd.{first_chunks}
+use Rattle.std.specs.Simd.{first_chunks}
 use Rattle.basis.specs.Bytes.{four_bytes}
 use Rattle.taken_timings.specs.Timings.{taken_after, taken_cells}
 use Rattle.file_reader.specs.Bytes.{number_after}
