@@ -67,6 +67,7 @@ fn longest_of_long(words: &[u64; WORDS], long: &[u64; WORDS], n: usize) -> Run
     let mut longest = SHORT;
     let mut start: usize = 0;
     let mut p = cell_words::least_in(long, 0, n);
+    // The next place comes from a search, so that a `for` would be no plainer.
     while p < n {
         let zeros = zeros_from(words, first, n, p);
         if longest < zeros {

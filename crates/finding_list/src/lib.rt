@@ -40,7 +40,8 @@ pub struct Found {
     pub findings: usize,
 }
 
-// The numbers of the most findings that there can be, four for each: with 64 sectors there are at most 901 (rule 7.35).
+// The numbers of the most findings that there can be, four for each: with 64 sectors there are at most 901 (rule 7.35). Numbers and no records,
+// since rule 9.18 gives them so.
 pub const NUMBERS: usize = 3604;
 
 // Every finding of a track as numbers at the front of the array: kind, level, place and detail of each, and zeros behind them (rules 9.18,
@@ -152,7 +153,7 @@ impl<'a> Surveyed<'a> {
         to
     }
 
-    // The row of a kind on sectors at one of the sectors, k being its place among these kinds.
+    // The row of a kind on sectors at one of the sectors, k being its place among these kinds: a number, as `id_rule` and `data_rule` take it.
     fn sector_rule(&self, k: usize, s: Sector) -> Row
         requires { (k < 13) × Within self.now.track.cells.count s × (self.now.apart ≡ true → some_sector (starts_in_data self.now.track.cells.count s) self.now.sectors.now ≡ false) }
         ensures { result ≡ sector_row self.now s k }

@@ -1,5 +1,5 @@
 // The table of findings (rules 7.1 to 7.21): on the track's numbers, on one sector's record, on one record beside another, and on what was
-// counted on the cells. A kind is given by its place in its group, from 0.
+// counted on the cells. A kind is given by its place in its group, from 0: a number, since the clauses speak of any k.
 #![tactic(auto)]
 
 ghost use Rattle.std.specs.Prelude.{◌≡◌, get_or};
@@ -9,7 +9,8 @@ use cell_patterns::Gaps;
 use layouts::Layout;
 use sector_records::Sector;
 
-// A row of the table: whether the rule holds, and if so at which place and with which detail.
+// A row of the table: whether the rule holds, and if so at which place and with which detail. No Option: the rows of specs/Rules have a place and
+// a detail also where the rule does not hold.
 #[derive(Clone, Copy, Debug)]
 pub struct Row {
     pub holds: bool,

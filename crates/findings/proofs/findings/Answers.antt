@@ -1,7 +1,6 @@
 -- `findings::findings` meets its contract: at the end all findings are stored. Assumes nothing.
 use mathlib.Core.Path.{◌≡◌, sym, ◌∙◌}
 use native.Mathlib.Omega.{arith}
-use borrow.Author.Rules.{rules}
 use Rattle.findings.proofs.Outcome.{kept-refused, written-given}
 use Rattle.findings.proofs.Records.{list_is}
 use Rattle.layouts.specs.Layouts.{layout_of}

@@ -1,5 +1,4 @@
 -- `finding_list::facts::Surveyed::gap_kinds` meets its contract: k of the last kinds are in the list. Assumes nothing.
-use Prim.Native.Nat.{◌+◌}
 use native.Mathlib.Omega.{arith}
 use Rattle.finding_list.proofs.Adding.{once-put, once-next, gaps-found, gaps-fit}
 use Rattle.finding_list.proofs.facts.Surveyed.gap_kinds.Goals as goal

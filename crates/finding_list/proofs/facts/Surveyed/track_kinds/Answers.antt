@@ -1,8 +1,6 @@
 -- `finding_list::facts::Surveyed::track_kinds` meets its contract: the kinds before k are in the list. Assumes nothing.
-use Prim.Native.Nat.{ℕ}
 use mathlib.Core.Path.{refl}
 use native.Mathlib.Omega.{arith}
-use lib.ListN.{length-replicate}
 use Rattle.finding_list.proofs.Adding.{none-listed, once-put, once-next, track-found, track-fits}
 use Rattle.finding_list.proofs.facts.Surveyed.track_kinds.Goals as goal
 
