@@ -10,6 +10,7 @@ use lib.Signed.{le_z, lt_z}
 use mir.Syntax.{w32}
 use mir.Val.{SFits, to_z}
 use mir.Facts.{to_z-of_z}
+use Rattle.basis.proofs.Bools.{fails}
 use Rattle.separator.specs.Rule.{double_half_window, single_half_window, least_residual, most_residual, usable}
 use Rattle.separator.proofs.Differences.{up, down, as-sub, pos-sub, neg-sub, minus-sub, sub_parts, sub_same}
 use Rattle.separator.proofs.Orders.{le_of, sub-le, lt_not_le, mag-sub}
@@ -121,3 +122,6 @@ module _ (half : ℕ) where
 -- what a step uses it uses as it is
 pub usable-again : (half : ℕ) (r : ℤ) → 0 < half → usable half (usable half r) ≡ usable half r
 usable-again half r some = kept-usable half (usable half r) (usable-kept half r some)
+
+pub usable-few : (half : ℕ) (r : ℤ) → 0 < half → half ≤ 2000 → lt_z (pos 999) (usable half r) ≡ false
+usable-few half r some small = fails (lt_z (pos 999) (usable half r)) (kept-few half (usable half r) small (usable-kept half r some))

@@ -1,13 +1,13 @@
 -- What the code of a step makes of a timing in range, from a residual that a step left: the part of the reading that is less than two
 -- windows is tested against half of one. Assumes nothing.
 use Prim.Native.Nat.{ℕ, ◌+◌, ◌*◌, ◌/◌, ◌%◌, ◌≤◌}
-use mathlib.Core.Path.{◌≡◌, sym, ◌∙◌, ap, subst}
+use mathlib.Core.Path.{◌≡◌, refl, sym, ◌∙◌, ap, subst}
 use mathlib.Core.Bool.{true, false}
 use mathlib.Core.Logic.{⊎_elim}
 use native.Mathlib.Nat.{add-zero}
 use native.Mathlib.Omega.{arith}
 use lib.IntN.{ℤ, pos, ◌+ℤ◌, ◌-ℤ◌}
-use lib.Signed.{lt_z, quot_z}
+use lib.Signed.{lt_z}
 use mir.Syntax.{w32}
 use mir.Val.{SFits, to_z}
 use mir.Facts.{to_z-of_z}
@@ -18,7 +18,7 @@ use Rattle.separator.specs.Rule.{IsHalfWindow, usable, cells_at, offset_at, halv
 use Rattle.separator.specs.declared.Step.{Step}
 use Rattle.separator.proofs.LastWindow.{none_below, one-past, below_half, past-half, offset-below, offset-past, window-less}
 use Rattle.separator.proofs.Lifted.{Kept}
-use Rattle.separator.proofs.MachineStep.{Steppable, read_back, small_is, half-fits, part, part-fits, part-is, part_small, n-is, e-is}
+use Rattle.separator.proofs.MachineStep.{Steppable, read_back, small_is, part, part-fits, part-is, part_small, n-is, e-is}
 use Rattle.separator.proofs.Residual.{usable-kept, kept-few}
 use Rattle.separator.proofs.Stepping.{step-refused, step-taken}
 
@@ -33,7 +33,7 @@ half_high is = ⊎_elim (λ e. omega (arith, e)) (λ e. omega (arith, e)) is
 pub record Stepped (half : ℕ) (r : ℤ) (t : ℕ) (step : Step) : Type 0 where
   pub answer : gives step.cells ≡ step_answer_by half r t
   pub offset : step.offset ≡ step_offset_by half r t
-  pub state : read_back (quot_z (read_back step.offset) (pos 2)) ≡ step_residual_by half r t
+  pub state : halved step.offset ≡ step_residual_by half r t
 
 -- a residual that no step left is above 999, or the timing is out of range: what a refusal promises
 pub record Kept-as-is (half : ℕ) (r : ℤ) (t : ℕ) : Type 0 where
@@ -77,18 +77,16 @@ module _ (half t : ℕ) (r : ℤ) (is-half : IsHalfWindow half) (ranged : in_ran
   fits : SFits w32 (reading half t r)
   fits = let same : reading half t r ≡ part s = to_z-of_z (part-fits s) in rw same (part-fits s)
 
-  made : {n : ℕ} {o : ℤ} {step : Step} → SFits w32 o → n ≡ cells_at half r t → o ≡ offset_at half r t → step ≡ record { cells = n; offset = o } → Stepped half r t step
-  unfolding halved
-  made {n} {o} {step} f cells offset e =
-      let held : read_back o ≡ o = to_z-of_z f in
-      let m = step-taken half r t ranged (sym is) cells offset (rw held (to_z-of_z (half-fits o f))) in
+  made : {n : ℕ} {o : ℤ} {step : Step} → n ≡ cells_at half r t → o ≡ offset_at half r t → step ≡ record { cells = n; offset = o } → Stepped half r t step
+  made cells offset e =
+      let m = step-taken half r t ranged (sym is) cells offset refl in
       rw e (record { answer = m.0; offset = m.1.0; state = m.1.1 })
 
   pub below-half : lt_z (reading half t r) (to_z w32 half) ≡ true
       → {step : Step} → step ≡ record { cells = t / (2 * half); offset = reading half t r } → Stepped half r t step
   below-half e =
       let l = below_half half (t % (2 * half) + s.kept.lifted) (part-is s) (rw (half-is is-half) at e) in
-      made fits (sym (add-zero (t / (2 * half))) ∙ ap (λ (k : ℕ). t / (2 * half) + k) (none_below half _ l) ∙ n-is s) (offset-below half _ (part-is s) l ∙ e-is s)
+      made (sym (add-zero (t / (2 * half))) ∙ ap (λ (k : ℕ). t / (2 * half) + k) (none_below half _ l) ∙ n-is s) (offset-below half _ (part-is s) l ∙ e-is s)
 
   pub from-half : lt_z (reading half t r) (to_z w32 half) ≡ false
       → {step : Step} → step ≡ record { cells = t / (2 * half) + 1; offset = read_back (reading half t r -ℤ to_z w32 (2 * half)) } → Stepped half r t step
@@ -97,5 +95,5 @@ module _ (half t : ℕ) (r : ℤ) (is-half : IsHalfWindow half) (ranged : in_ran
       let l = past-half half (t % (2 * half) + s.kept.lifted) (part-is s) below in
       let less : SFits w32 (reading half t r -ℤ to_z w32 (2 * half)) = rw (window_is is-half) (window-less half (half_high is-half) (reading half t r) fits below) in
       let back : read_back (reading half t r -ℤ to_z w32 (2 * half)) ≡ reading half t r -ℤ to_z w32 (2 * half) = to_z-of_z less in
-      made (rw back less) (ap (λ (k : ℕ). t / (2 * half) + k) (one-past half _ l (part_small s)) ∙ n-is s)
+      made (ap (λ (k : ℕ). t / (2 * half) + k) (one-past half _ l (part_small s)) ∙ n-is s)
       (back ∙ ap (λ (z : ℤ). reading half t r -ℤ z) (window_is is-half) ∙ offset-past half _ (part-is s) l (part_small s) ∙ e-is s)

@@ -1,10 +1,12 @@
 // The separator's rule, one timing at a time, on a state that is lent, for the bit window of either density.
 #![tactic(auto)]
 
-ghost use Rattle.std.specs.Prelude.{◌≡◌, ℕ};
+ghost use Rattle.std.specs.Prelude.{◌≡◌, ℕ, pos, true, false};
+ghost use Rattle.std.specs.Int.Signed.{lt_z};
 ghost use Rattle.std.proofs.Common.{rules};
-ghost use Rattle.std.specs.Prelude.{pos};
-ghost use Rattle.separator.specs.Rule.{IsHalfWindow, usable, taken_answer, offset_given, step_answer_by, step_offset_by, step_residual_by, border_pulses_at_by};
+ghost use Rattle.refusals.specs.RefusedCalls.Answer.{gives};
+ghost use Rattle.flux_timings.specs.Timings.{in_range};
+ghost use Rattle.separator.specs.Rule.{IsHalfWindow, usable, halved, taken_answer, offset_given, step_answer_by, step_offset_by, step_residual_by, border_pulses_at_by};
 
 use flux_timings::timing_in_range;
 use refusals::Refusal;
@@ -93,7 +95,7 @@ impl Separator {
             return Err(Refusal::TimingOutOfRange(0));
         }
         self.residual = usable_residual::<W>(self.residual);
-        self.step_on::<W>(timing)
+        Ok(self.advance::<W>(timing))
     }
 
     // One timing from a residual that a step left: a loop over timings need not ask for that each time. Of another residual nothing is promised.
@@ -102,16 +104,27 @@ impl Separator {
         ensures offset { usable W.HALF self.old.residual ≡ self.old.residual → offset_given result ≡ step_offset_by W.HALF self.old.residual timing }
         ensures state { usable W.HALF self.old.residual ≡ self.old.residual → self.new.residual ≡ step_residual_by W.HALF self.old.residual timing }
     {
-        // The sum below fits where the residual is no more.
         if !timing_in_range(timing) || MOST_RESIDUAL < self.residual {
             return Err(Refusal::TimingOutOfRange(0));
         }
+        Ok(self.advance::<W>(timing))
+    }
+
+    // What a timing in range gives, from a residual that a step left; with one above 999 the sum need not fit. It is no Result: one that is
+    // handed on as another goes by way of memory, and then a step takes twice the time.
+    fn advance<W: BitWindow>(&mut self, timing: u32) -> Step
+        requires timed { in_range timing ≡ true }
+        requires few { lt_z (pos 999) self.old.residual ≡ false }
+        ensures cells { usable W.HALF self.old.residual ≡ self.old.residual → gives result.cells ≡ step_answer_by W.HALF self.old.residual timing }
+        ensures offset { usable W.HALF self.old.residual ≡ self.old.residual → result.offset ≡ step_offset_by W.HALF self.old.residual timing }
+        ensures state { usable W.HALF self.old.residual ≡ self.old.residual → self.new.residual ≡ step_residual_by W.HALF self.old.residual timing }
+    {
         // u of rule 3.3 without the timing's whole windows: a division of u would make each step wait for the one before it.
-        let half = W::HALF;
-        let window = 2 * half;
+        let half_window = W::HALF;
+        let window = 2 * half_window;
         let part = (timing % window) as i32 + self.residual;
         let whole = timing / window;
-        let step = if part < half as i32 {
+        let step = if part < half_window as i32 {
             Step {
                 cells: whole,
                 offset: part,
@@ -122,8 +135,8 @@ impl Separator {
                 offset: part - window as i32,
             }
         };
-        self.residual = step.offset / 2;
-        Ok(step)
+        self.residual = half(step.offset);
+        step
     }
 }
 
@@ -131,12 +144,25 @@ impl Separator {
 fn usable_residual<W: BitWindow>(residual: i32) -> i32
     ensures { result ≡ usable W.HALF residual }
 {
-    let half = W::HALF;
-    let least = -((half / 2) as i32);
-    let most = ((half - 1) / 2) as i32;
+    let half_window = W::HALF;
+    let least = -((half_window / 2) as i32);
+    let most = ((half_window - 1) / 2) as i32;
     if least <= residual && residual <= most {
         residual
     } else {
         0
+    }
+}
+
+// Half of an offset, rounded towards zero: what `/ 2` gives, in three steps where the compiler makes five of that, each of which the next
+// timing waits for. A shift rounds down, which below zero is away from it, so there one is added first: the timing 5001
+// has the offset -999 and leaves -499, not -500.
+fn half(offset: i32) -> i32
+    ensures { result ≡ halved offset }
+{
+    if offset < 0 {
+        (offset + 1) >> 1
+    } else {
+        offset >> 1
     }
 }

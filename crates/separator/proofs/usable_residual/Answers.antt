@@ -7,12 +7,12 @@ use Rattle.separator.proofs.usable_residual.Goals as goal
 
 pub returns-then-residual-most : goal.returns-then-residual-most
 returns-then-residual-most g c =
-    let e = c.HALF-half.ensures in
+    let e = c.HALF-half_window.ensures in
     tested-in _ (half_high g.met.W.BitWindow.is_half) c.ranges.residual (rw e at c.if-least-residual.true) (rw e at c.if-residual-most.true)
 
 pub returns-else-least-residual : goal.returns-else-least-residual
 returns-else-least-residual g c =
-    let e = c.HALF-half.ensures in
+    let e = c.HALF-half_window.ensures in
     tested-out _ (half_high g.met.W.BitWindow.is_half) c.ranges.residual
     (
     elim c.else-least-residual.branch [

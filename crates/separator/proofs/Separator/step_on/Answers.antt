@@ -2,8 +2,8 @@
 use mathlib.Core.Path.{◌≡◌, sym, ◌∙◌}
 use native.Mathlib.Omega.{arith}
 use Rattle.separator.specs.Rule.{usable}
-use Rattle.separator.proofs.Stepped.{Stepped, Kept-as-is, out-of-range, too-much, below-half, from-half}
-use Rattle.separator.proofs.Separator.step_on.Goals.{then-part-half, else-part-half, then-not-timing_in_range-via-then-not-timing_in_range, then-not-timing_in_range-via-else-not-timing_in_range+then-self-gt-MOST_RESIDUAL}
+use Rattle.separator.proofs.Stepped.{Kept-as-is, out-of-range, too-much}
+use Rattle.separator.proofs.Separator.step_on.Goals.{then-not-timing_in_range-via-then-not-timing_in_range, then-not-timing_in_range-via-else-not-timing_in_range+then-self-gt-MOST_RESIDUAL}
 use Rattle.separator.proofs.Separator.step_on.Goals as goal
 
 pub returns-then-not-timing_in_range : goal.returns-then-not-timing_in_range
@@ -16,15 +16,3 @@ returns-then-not-timing_in_range g c =
           too-much g.met.W.BitWindow.is_half (record { sfits = omega arith }) is w.if-self-gt-MOST_RESIDUAL.true
     ] in
     record { answer = λ is. (kept is).answer; offset = λ is. (kept is).offset; state = λ is. (kept is).state }
-
-pub returns : goal.returns
-returns g c =
-    let e = c.HALF-half.ensures in
-    let ranged = sym c.timing_in_range.ensures ∙ c.if-not-timing_in_range.false in
-    let made : usable g.W.BitWindow.HALF c.args.self.now.residual ≡ c.args.self.now.residual → Stepped g.W.BitWindow.HALF c.args.self.now.residual c.args.timing c.if-part-half.step =
-    λ is.
-    elim c.if-part-half.branch [
-      | then-part-half w ↦ below-half _ _ _ g.met.W.BitWindow.is_half ranged is (rw e at w.if-part-half.true) (rw e at w.step-is)
-      | else-part-half w ↦ from-half _ _ _ g.met.W.BitWindow.is_half ranged is (rw e at w.if-part-half.false) (rw e at w.step-is)
-    ] in
-    record { answer = λ is. (made is).answer; offset = λ is. (made is).offset; state = λ is. (made is).state }
