@@ -18,7 +18,11 @@ module _ (block : List ℕ) (revolutions k T H : ℕ) where
   -- what the code writes: the cells' listing, or the line of a refusal
   abbrev pub Written : List ℕ → ℕ → List ℕ → Type 0
   Written before r after =
-      (r ≡ length (block_listing block revolutions k T H)) × ((r ≤ 65536) × (after ≡ out_after (block_listing block revolutions k T H) before))
+      record {
+        answer : r ≡ length (block_listing block revolutions k T H);
+        few : r ≤ 65536;
+        out : after ≡ out_after (block_listing block revolutions k T H) before;
+      }
 
   module _ {room : List ℕ} (room-is : room ≡ room_for_cells) where
     listing-is : (answer : Answer ℕ) (cells : List ℕ) → answer ≡ block_separation block revolutions k (length room) → cells ≡ block_cells block revolutions k room
@@ -29,20 +33,20 @@ module _ (block : List ℕ) (revolutions k T H : ℕ) where
         ∙ ap (λ (b : List ℕ). printed_cells (block_separation block revolutions k (length room_for_cells)) b T H) (left ∙ ap (block_cells block revolutions k) room-is))
 
     -- the cells are counted
-    pub cells-written : {separated : Result ℕ Refusal} {count : ℕ} → separated ≡ Count count → answer_of separated ≡ block_separation block revolutions k (length room)
-        → {cells : List ℕ} → cells ≡ block_cells block revolutions k room → (out : List ℕ) {after : List ℕ} {r : ℕ}
-        → (r ≡ length (listing_of cells count T H)) × ((r ≤ 65536) × (after ≡ out_after (listing_of cells count T H) out)) → Written out r after
+    pub cells-written : {separated : Result ℕ Refusal} {count : ℕ} → separated ≡ Ok count → answer_of separated ≡ block_separation block revolutions k (length room)
+        → {cells : List ℕ} → cells ≡ block_cells block revolutions k room → (before : List ℕ) {after : List ℕ} {r : ℕ} → r ≡ length (listing_of cells count T H)
+        → r ≤ 65536 → after ≡ out_after (listing_of cells count T H) before → Written before r after
     unfolding printed_cells
-    cells-written {count = count} e is {cells} left out w =
+    cells-written {count = count} e is {cells} left before n few w =
         let l : block_listing block revolutions k T H ≡ listing_of cells count T H = listing-is (gives count) cells (ap answer_of (sym e) ∙ is) left in
-        rw l w
+        record { answer = rw l n; few = few; out = rw l w }
 
-    pub refusal-written : {separated : Result ℕ Refusal} {refusal : Refusal} → separated ≡ Refused refusal
+    pub refusal-written : {separated : Result ℕ Refusal} {refusal : Refusal} → separated ≡ Err refusal
         → answer_of separated ≡ block_separation block revolutions k (length room) → {cells : List ℕ} → cells ≡ block_cells block revolutions k room
-        → {number : ℕ} → number ≡ number_of refusal → number < 0x1_0000_0000 → (before : List ℕ) {after : List ℕ} {r : ℕ}
-        → (r ≡ length (refused_line number)) × (after ≡ out_after (refused_line number) before) → Written before r after
+        → {number : ℕ} → number ≡ number_of refusal → number < 0x1_0000_0000 → (before : List ℕ) {after : List ℕ} {r : ℕ} → r ≡ length (refused_line number)
+        → after ≡ out_after (refused_line number) before → Written before r after
     unfolding printed_cells
-    refusal-written {separated} {refusal} e is {cells} left {number} n fits before w =
+    refusal-written {separated} {refusal} e is {cells} left {number} n fits before a w =
         let l : block_listing block revolutions k T H ≡ refused_line number
         = listing-is (refused_with refusal) cells (ap answer_of (sym e) ∙ is) left ∙ ap refused_line (sym n) in
-        rw l (w.0, (omega (arith, w.0, refused-few number fits), w.1))
+        record { answer = rw l a; few = omega (arith, a, refused-few number fits); out = rw l w }

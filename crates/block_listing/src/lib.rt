@@ -42,6 +42,7 @@ pub fn list_block(
 }
 
 // Room for 131,072 cells.
+#[tactic(auto, unfolding(crate::specs::BlockListing::room_for_cells))]
 fn room_for_cells() -> [u8; 16384]
     ensures { result ≡ room_for_cells }
 {

@@ -1,7 +1,7 @@
 -- Bytes without a value of 0: each value ends a timing, and it is in range. Assumes nothing.
 use Prim.Native.Nat.{ℕ, zero, suc, ◌+◌, ◌-◌, ◌*◌, ◌/◌, ◌≤◌, ◌<◌, min}
 use mathlib.Core.Path.{◌≡◌, refl, sym, ◌∙◌, ap}
-use mathlib.Core.Bool.{true, false, cond, not, ◌&&◌}
+use mathlib.Core.Bool.{true, false, not, ◌&&◌}
 use mathlib.Core.List.{List, [], ◌∷◌}
 use native.Mathlib.Decide.{dec_le}
 use native.Mathlib.Nat.{add-zero, lt_of_not-le, min-eq_left, min-eq_right}
@@ -9,8 +9,8 @@ use native.Mathlib.Omega.{arith}
 use Rattle.std.specs.Prelude.{Option, Some, None}
 use borrow.Author.Tests.{not-true, eqb-false, ne_eqb, le-leb, le-ltb}
 use lib.Dec.{eqb}
-use lib.ListN.{length, set, get_or, drop, take, length-set, length-drop}
-use lib.Seq.{sets, set_out, take_all}
+use lib.ListN.{length, set, get_or, drop, length-set, length-drop}
+use lib.Seq.{sets, set_out}
 use Rattle.basis.proofs.Bools.{and_left, and_right}
 use Rattle.flux_timings.specs.Timings.{in_range}
 use Rattle.flux_timings.specs.Timings.{first_out}

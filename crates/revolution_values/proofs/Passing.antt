@@ -6,10 +6,10 @@ use mathlib.Core.List.{List, [], ◌∷◌, ◌++◌}
 use Rattle.std.specs.Prelude.{Option, Some, None, slice_get}
 use native.Mathlib.Omega.{arith}
 use native.Mathlib.Decide.{dec_le}
-use native.Mathlib.Nat.{add-zero, zero-add, add_assoc, lt_of_not-le, min-le_right, min-eq_left}
+use native.Mathlib.Nat.{add-zero, zero-add, lt_of_not-le, min-le_right, min-eq_left}
 use borrow.Author.Tests.{eq-eqb, ne_eqb, lt-ltb, le-ltb, ltb-true, ltb-false}
 use lib.Dec.{eqb, ltb}
-use lib.ListN.{length, set, get_or, drop, length-append, length-drop, drop_of_length-le}
+use lib.ListN.{length, set, get_or, drop, length-append, length-drop}
 use lib.Seq.{sets, length-sets, drop-cons}
 use Rattle.flux_timings.specs.Timings.{in_range}
 use Rattle.flux_timings.specs.Timings.{first_out}
@@ -170,14 +170,15 @@ module _ (zeros count : ℕ) (out : Option ℕ) (value : ℕ) (list : List ℕ) 
       }
 
 -- one timing more
+pub out-in : (count timing : ℕ) (out : Option ℕ) → in_range timing ≡ true → out ≡ first_out_after count out (timing ∷ [])
+unfolding first_out_after first_out
+out-in count timing (Some first) r = refl
+out-in count timing None r = rw r
+
 module _ (count timing : ℕ) (out : Option ℕ) where
   pub out-before : {first : ℕ} → out ≡ Some first → out ≡ first_out_after count out (timing ∷ [])
   unfolding first_out_after
   out-before e = rw e
-
-  pub out-in : out ≡ None → in_range timing ≡ true → None ≡ first_out_after count out (timing ∷ [])
-  unfolding first_out_after first_out
-  out-in e r = rw (e, r)
 
   pub out-out : out ≡ None → in_range timing ≡ false → Some count ≡ first_out_after count out (timing ∷ [])
   unfolding first_out_after first_out
@@ -216,13 +217,12 @@ pub record Reaches (zeros count : ℕ) (out : Option ℕ) (bytes list : List ℕ
 
 -- the state of the loop over values after i of them
 pub record AtValue (zeros count : ℕ) (out : Option ℕ) (values list : List ℕ) (z c : ℕ) (o : Option ℕ) (i : ℕ) (l : List ℕ) : Type 0 where
-  pub few_zeros : z ≤ 7
   pub count_low : c ≤ count + i
   pub long : length l ≡ length list
   pub reaches : Reaches zeros count out values list z c o (drop (2 * i) values) l
 
-pub at-start : (zeros count : ℕ) (out : Option ℕ) (values list : List ℕ) → zeros ≤ 7 → AtValue zeros count out values list zeros count out 0 list
-at-start _ count out values list h = record { few_zeros = h; count_low = omega arith; long = refl; reaches = record { onward = λ p. p } }
+pub at-start : (zeros count : ℕ) (out : Option ℕ) (values list : List ℕ) → AtValue zeros count out values list zeros count out 0 list
+at-start _ count out values list = record { count_low = omega arith; long = refl; reaches = record { onward = λ p. p } }
 
 -- at most 7 zeros are counted
 pub zeros-few : (zeros value : ℕ) → (unfinished_after_value zeros value).zeros ≤ 7
@@ -232,9 +232,6 @@ zeros-few zeros value = go (eqb value 0)
     go : (x : Bool) → cond x (min (zeros + 1) 7) 0 ≤ 7
     go true = min-le_right (zeros + 1) 7
     go false = omega arith
-
-passed-zeros-few : {zeros count : ℕ} {out : Option ℕ} {value : ℕ} {list : List ℕ} {z c : ℕ} {o : Option ℕ} {l : List ℕ} → PassedValue zeros count out value list z c o l → z ≤ 7
-passed-zeros-few {zeros} {value = value} v = subst (λ (u : Unfinished). u.zeros ≤ 7) (sym v.zeros_are) (zeros-few zeros value)
 
 -- two bytes more at byte i
 pub two-more : (bytes : List ℕ) (i : ℕ) → 2 ≤ length bytes - i → drop i bytes ≡ get_or bytes i 0 ∷ get_or bytes (i + 1) 0 ∷ drop (i + 2) bytes
@@ -251,7 +248,6 @@ at_next {values = values} {z = z} {c = c} {o = o} {i = i} {l = l} at h {value = 
     let s = two-more values (2 * i) (omega arith) in
     let j : 2 * (i + 1) ≡ 2 * i + 2 = omega arith in
     record {
-      few_zeros = passed-zeros-few v;
       count_low = omega (arith, v.count_is, one-timing z value, at.count_low);
       long = ap length v.list_is ∙ length-sets l c (timings_of_value z value) ∙ at.long;
       reaches =
@@ -281,10 +277,9 @@ module _ (unfinished : Unfinished) (list : List ℕ) where
       subst (λ (h : Option ℕ). PassedOver (record { held = h; zeros = unfinished.zeros }) 0 None (low ∷ rest) list next total first after) (sym e)
       (passed-held high low is v p)
 
--- what the pass keeps: few zeros, and at most one timing more
-pub value-few : {zeros count : ℕ} {out : Option ℕ} {value : ℕ} {list : List ℕ} {z c : ℕ} {o : Option ℕ} {l : List ℕ} → PassedValue zeros count out value list z c o l
-    → (z ≤ 7) × (c ≤ count + 1)
-value-few {zeros} {count} {value = value} v = (passed-zeros-few v, omega (arith, v.count_is, one-timing zeros value))
+-- a value ends at most one timing more
+pub value-few : {zeros count : ℕ} {out : Option ℕ} {value : ℕ} {list : List ℕ} {z c : ℕ} {o : Option ℕ} {l : List ℕ} → PassedValue zeros count out value list z c o l → c ≤ count + 1
+value-few {zeros} {value = value} v = omega (arith, v.count_is, one-timing zeros value)
 
 -- a pass from the first of some bytes on, where no timing came before
 pub out-of-all : (ts : List ℕ) → first_out_after 0 None ts ≡ out_among ts

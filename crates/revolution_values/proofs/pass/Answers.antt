@@ -1,5 +1,5 @@
 -- `revolution_values::pass` meets its contract. Assumes nothing.
-use Rattle.std.proofs.Common.{◌∙◌, sym}
+use Rattle.std.proofs.Common.{◌∙◌}
 use Rattle.revolution_values.proofs.Passing.{out-of-all}
 use Rattle.revolution_values.proofs.pass.Goals as goal
 

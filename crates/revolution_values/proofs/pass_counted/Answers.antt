@@ -5,8 +5,7 @@ use Rattle.revolution_values.proofs.pass_counted.Goals as goal
 
 pub pass_values-requires-in-Some-split_first : goal.pass_values-requires-in-Some-split_first
 pass_values-requires-in-Some-split_first c =
-    let few = value-few c.pass_value-seen.ensures in
-    (few.0, omega (arith, few.1, c.in-Some-split_first.ensures.cases.1))
+    omega (arith, value-few c.pass_value-seen.ensures, c.in-Some-split_first.ensures.cases.1)
 
 pub returns-in-None : goal.returns-in-None
 returns-in-None c = pass-from-nothing _ _ c.in-None.is c.pass_values.ensures

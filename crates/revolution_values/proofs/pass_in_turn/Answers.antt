@@ -4,7 +4,7 @@ use Rattle.revolution_values.proofs.Passing.{at-start, at_next, at-end}
 use Rattle.revolution_values.proofs.pass_in_turn.Goals as goal
 
 pub loop-i-init : goal.loop-i-init
-loop-i-init c = at-start _ _ _ _ _ c.requires.0
+loop-i-init c = at-start _ _ _ _ _
 
 pub loop-i-preserved : goal.loop-i-preserved
 loop-i-preserved c = at_next c.loop-i.invariant c.loop-i-test.true c.two_bytes.ensures c.pass_value-seen.ensures
