@@ -110,17 +110,12 @@ impl<'a> Surveyed<'a> {
         requires { numbers.old ≡ replicate 3604 0 }
         ensures { ListedBefore self.now 5 numbers.new result }
     {
+        let layout = layout_of(self.density);
         let cells = self.track.cells.count as u32;
         let sectors = self.sectors.len() as u32;
         let mut to = 0;
         for k in 0..TRACK_RULES {
-            let row = finding_rules::track_rule(
-                layout_of(self.density),
-                k,
-                cells,
-                sectors,
-                self.track.track,
-            );
+            let row = finding_rules::track_rule(layout, k, cells, sectors, self.track.track);
             to = put(numbers, to, k, row);
         }
         to

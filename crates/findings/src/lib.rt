@@ -57,11 +57,11 @@ fn in_room(
     ensures sectors { sectors_found result ≡ sectors_given (findings_answer (layout_of density) track.entry.cells.bytes.now track.entry.cells.count track.entry.track track.entry.side room) (length (sectors_of (layout_of density) track.entry.cells.bytes.now track.entry.cells.count)) }
     ensures numbers { (count : ℕ) → findings_answer (layout_of density) track.entry.cells.bytes.now track.entry.cells.count track.entry.track track.entry.side room ≡ gives count → Numbered numbers.new count room (findings_of (layout_of density) track.entry.cells.bytes.now track.entry.cells.count track.entry.track) }
 {
-    let found = finding_list::survey(density, numbers, track)?;
-    if room < found.findings {
-        return Err(Refusal::ListTooShort(found.findings));
+    let listed = finding_list::survey(density, numbers, track)?;
+    if room < listed.findings {
+        return Err(Refusal::ListTooShort(listed.findings));
     }
-    Ok(found)
+    Ok(listed)
 }
 
 // Finding i of those that stand in the numbers.

@@ -22,15 +22,11 @@ pub fn list_track(track: Track, out: &mut [u8]) -> usize
     match findings::findings_as_numbers(Density::Double, track, &mut numbers) {
         Err(refusal) => lines::refused_line(out, refusal.number()),
         Ok(found) => {
-            let at = lines::header(
-                out,
-                track.track,
-                track.side,
-                track.cells.count as u32,
-                found.sectors as u32,
-                found.findings as u32,
-            );
-            write_lines(out, at, &numbers, found.findings)
+            let cells = track.cells.count as u32;
+            let sectors = found.sectors as u32;
+            let count = found.findings;
+            let at = lines::header(out, track.track, track.side, cells, sectors, count as u32);
+            write_lines(out, at, &numbers, count)
         }
     }
 }

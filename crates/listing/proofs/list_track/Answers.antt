@@ -10,18 +10,18 @@ use Rattle.listing.proofs.list_track.Goals as goal
 three : {A B C : Type 0} → A × (B × C) → record { answer : A; few : B; out : C }
 three p = record { answer = p.0; few = p.1.0; out = p.1.1 }
 
-pub overflow_cast-track : goal.overflow_cast-track
-overflow_cast-track c =
+pub overflow_cast-cells : goal.overflow_cast-cells
+overflow_cast-cells c =
     let t = c.args.track in
     record { fits = omega (arith, few_cells t.cells.bytes.now t.cells.count t.track t.side _ (sym c.in-Ok.ensures.answer)) }
 
-pub overflow_cast-found : goal.overflow_cast-found
-overflow_cast-found c =
+pub overflow_cast-sectors : goal.overflow_cast-sectors
+overflow_cast-sectors c =
     let t = c.args.track in
     record { fits = omega (arith, few-sectors t.cells.bytes.now t.cells.count t.track t.side _ (sym c.in-Ok.ensures.answer) _ c.in-Ok.ensures.sectors) }
 
-pub overflow_cast-found-in-Ok : goal.overflow_cast-found-in-Ok
-overflow_cast-found-in-Ok c =
+pub overflow_cast-count : goal.overflow_cast-count
+overflow_cast-count c =
     let t = c.args.track in
     record { fits = omega (arith, few_findings t.cells.bytes.now t.cells.count t.track t.side _ (sym c.in-Ok.ensures.answer)) }
 
