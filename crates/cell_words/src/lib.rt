@@ -74,7 +74,8 @@ fn each_word<F: Fn(u64, u64, u64, u64) -> u64>(
     }
 }
 
-// The map of the places where a test passes, or of those where it fails.
+// The map of the places where a test passes, or of those where it fails. Not by each_word: it can make all the words of a map, and after the
+// last no word follows.
 pub fn like_map(words: &[u64; WORDS], passes: bool, map: &mut [u64; WORDS], m: usize)
     ensures { (t : ℕ → Bool) → Holds t words.now m → m ≤ 2116 → length map.old ≡ 2116 → MapOf (like_at passes t) map.new m }
 {

@@ -87,7 +87,7 @@ impl<'a> Cells<'a> {
     }
 }
 
-// A word x of k cells that is looked for, from 1 to 64, on a track that has cells.
+// A search for the word x of k cells, 1 to 64 of them, on a track that has cells.
 #[derive(Clone, Copy)]
 struct Search<'a> {
     cells: Cells<'a>,

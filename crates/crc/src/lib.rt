@@ -31,7 +31,7 @@ pub fn check_word_from(word: u16, bytes: &[u8]) -> u16
         return after_rest(word, bytes);
     }
     let table = step_table();
-    after_bytes(&table, word, bytes)
+    Steps { table: &table }.after_bytes(word, bytes)
 }
 
 // The check word after one byte more.
@@ -47,18 +47,45 @@ fn step_table() -> [u64; 256]
     STEPS
 }
 
-// The check word after bytes, four at a turn.
-fn after_bytes(table: &[u64; 256], word: u16, bytes: &[u8]) -> u16
-    requires { table.now ≡ step_table }
-    ensures { result ≡ check_word_from word bytes.now }
-{
-    let (fours, rest) = bytes.as_chunks::<4>();
-    let mut so_far = word;
-    for four in fours {
-        let [a, b, c, d] = *four;
-        so_far = after_four(table, so_far, a, b, c, d);
+// The table, as it is lent to the loop.
+#[derive(Clone, Copy)]
+struct Steps<'a> {
+    table: &'a [u64; 256],
+    ghost is: { table.now ≡ step_table },
+}
+
+impl<'a> Steps<'a> {
+    // The check word after bytes, four at a turn.
+    fn after_bytes(self, word: u16, bytes: &[u8]) -> u16
+        ensures { result ≡ check_word_from word bytes.now }
+    {
+        let (fours, rest) = bytes.as_chunks::<4>();
+        let mut so_far = word;
+        for four in fours {
+            let [a, b, c, d] = *four;
+            so_far = self.after_four(so_far, a, b, c, d);
+        }
+        after_rest(so_far, rest)
     }
-    after_rest(so_far, rest)
+
+    // After four bytes. The step is linear over exclusive or, so what each byte does to the word can be looked up by itself: the first has three
+    // more bytes after it, the last none.
+    fn after_four(self, word: u16, a: u8, b: u8, c: u8, d: u8) -> u16
+        ensures { result ≡ after_byte (after_byte (after_byte (after_byte word a) b) c) d }
+    {
+        let first = (word / 256) ^ u16::from(a);
+        let second = (word % 256) ^ u16::from(b);
+        (self.entry(first, 3) ^ self.entry(second, 2))
+            ^ (self.entry(u16::from(c), 1) ^ self.entry(u16::from(d), 0))
+    }
+
+    // The check word whose high byte is `high` and whose low byte is 0, after a zero byte and `more` others.
+    fn entry(self, high: u16, more: usize) -> u16
+        requires { (high < 256) × (more < 4) }
+        ensures { result ≡ after_zeros (more + 1) (high * 256) }
+    {
+        ((self.table[usize::from(high)] >> (16 * more)) % 65536) as u16
+    }
 }
 
 // The check word after bytes, one by one.
@@ -72,27 +99,7 @@ fn after_rest(word: u16, bytes: &[u8]) -> u16
     so_far
 }
 
-// After four bytes. The step is linear over exclusive or, so what each byte does to the word can be looked up by itself: the first has three
-// more bytes after it, the last none.
-fn after_four(table: &[u64; 256], word: u16, a: u8, b: u8, c: u8, d: u8) -> u16
-    requires { table.now ≡ step_table }
-    ensures { result ≡ after_byte (after_byte (after_byte (after_byte word a) b) c) d }
-{
-    let first = (word / 256) ^ u16::from(a);
-    let second = (word % 256) ^ u16::from(b);
-    (entry(table, first, 3) ^ entry(table, second, 2))
-        ^ (entry(table, u16::from(c), 1) ^ entry(table, u16::from(d), 0))
-}
-
-// The check word whose high byte is `high` and whose low byte is 0, after a zero byte and `more` others.
-fn entry(table: &[u64; 256], high: u16, more: usize) -> u16
-    requires { (table.now ≡ step_table) × (high < 256) × (more < 4) }
-    ensures { result ≡ after_zeros (more + 1) (high * 256) }
-{
-    ((table[usize::from(high)] >> (16 * more)) % 65536) as u16
-}
-
-// The same after one zero byte, by shifts: the bits of 1021h.
+// The check word whose high byte is `high` and whose low byte is 0, after one zero byte, by shifts: the bits of 1021h.
 fn after_high(high: u16) -> u16
     requires { high < 256 }
     ensures { result ≡ after_zeros 1 (high * 256) }

@@ -9,7 +9,7 @@ const LEVELS: [u8; 22] = [
     1, 1, 3, 2, 2, 1, 1, 2, 2, 2, 2, 2, 1, 1, 1, 1, 1, 1, 3, 3, 1, 1,
 ];
 
-// The level of a kind, which is given by its index, from 0; 0 where no kind has that index.
+// The level of a kind, which is given by its index, from 0; 0 where no kind has that index. It stays a number, since the clause speaks of any.
 #[tactic(auto, unfolding(crate::specs::Levels::levels))]
 pub fn level(k: usize) -> u32
     ensures { result ≡ get_or levels k 0 }

@@ -23,6 +23,65 @@ struct Writer {
     run: bool,
 }
 
+impl Writer {
+    // The writer after a byte of the list.
+    #[tactic(auto, unfolding(crate::specs::PrivateContracts::next))]
+    fn step(self, byte: u8) -> Writer
+        ensures { result ≡ next self byte }
+    {
+        let word = self.word;
+        match byte {
+            0xF5 => {
+                let before = if self.run { word } else { crc::START };
+                Writer {
+                    word: crc::step(before, 0xA1),
+                    odd: true,
+                    run: true,
+                }
+            }
+            0xF6 => Writer {
+                word: crc::step(word, 0xC2),
+                odd: false,
+                run: false,
+            },
+            0xF7 => {
+                let [high, low] = word.to_be_bytes();
+                Writer {
+                    word: crc::step(crc::step(word, high), low),
+                    odd: low % 2 == 1,
+                    run: false,
+                }
+            }
+            _ => Writer {
+                word: crc::step(word, byte),
+                odd: byte % 2 == 1,
+                run: false,
+            },
+        }
+    }
+
+    // Puts the cells of a byte of the list at `at`, and gives the place behind them. The table is that by which bytes are coded.
+    #[tactic(auto, unfolding(crate::specs::PrivateContracts::packed_for))]
+    fn put_byte(self, table: &[u16; 512], byte: u8, cells: &mut [u8], at: usize) -> usize
+        requires { (table.now ≡ cell_table) × (at + length (packed_for self byte) ≤ length cells.old) }
+        ensures { (result ≡ at + length (packed_for self byte)) × (cells.new ≡ take at cells.old ++ (packed_for self byte ++ drop (at + length (packed_for self byte)) cells.old)) }
+    {
+        let odd = self.odd;
+        match byte {
+            0xF5 => put(cells, at, 0x4489),
+            0xF6 => put(cells, at, 0x5224),
+            0xF7 => {
+                let [high, low] = self.word.to_be_bytes();
+                put(cells, at, mfm::cells_by(table, odd, high));
+                put(cells, at + 2, mfm::cells_by(table, high % 2 == 1, low));
+                return at + 4;
+            }
+            _ => put(cells, at, mfm::cells_by(table, odd, byte)),
+        }
+        at + 2
+    }
+}
+
 // Writes what `list` asks for to the front of `cells`, and counts the cells.
 #[tactic(auto, unfolding(crate::specs::Calls::judged, crate::specs::WriteTrack::cell_count, refusals::specs::RefusedCalls::buffer_after))]
 pub fn write_track(list: &[u8], cells: &mut [u8]) -> Result<usize, Refusal>
@@ -73,66 +132,9 @@ fn write_list(list: &[u8], cells: &mut [u8])
     };
     let mut at: usize = 0;
     for &byte in list {
-        at = put_byte(&table, writer, byte, cells, at);
-        writer = step(writer, byte);
+        at = writer.put_byte(&table, byte, cells, at);
+        writer = writer.step(byte);
     }
-}
-
-// The writer after a byte of the list.
-#[tactic(auto, unfolding(crate::specs::PrivateContracts::next))]
-fn step(writer: Writer, byte: u8) -> Writer
-    ensures { result ≡ next writer byte }
-{
-    let word = writer.word;
-    match byte {
-        0xF5 => {
-            let before = if writer.run { word } else { crc::START };
-            Writer {
-                word: crc::step(before, 0xA1),
-                odd: true,
-                run: true,
-            }
-        }
-        0xF6 => Writer {
-            word: crc::step(word, 0xC2),
-            odd: false,
-            run: false,
-        },
-        0xF7 => {
-            let [high, low] = word.to_be_bytes();
-            Writer {
-                word: crc::step(crc::step(word, high), low),
-                odd: low % 2 == 1,
-                run: false,
-            }
-        }
-        _ => Writer {
-            word: crc::step(word, byte),
-            odd: byte % 2 == 1,
-            run: false,
-        },
-    }
-}
-
-// Puts the cells of a byte of the list at `at`, and gives the place behind them. The table is that by which bytes are coded.
-#[tactic(auto, unfolding(crate::specs::PrivateContracts::packed_for))]
-fn put_byte(table: &[u16; 512], writer: Writer, byte: u8, cells: &mut [u8], at: usize) -> usize
-    requires { (table.now ≡ cell_table) × (at + length (packed_for writer byte) ≤ length cells.old) }
-    ensures { (result ≡ at + length (packed_for writer byte)) × (cells.new ≡ take at cells.old ++ (packed_for writer byte ++ drop (at + length (packed_for writer byte)) cells.old)) }
-{
-    let odd = writer.odd;
-    match byte {
-        0xF5 => put(cells, at, 0x4489),
-        0xF6 => put(cells, at, 0x5224),
-        0xF7 => {
-            let [high, low] = writer.word.to_be_bytes();
-            put(cells, at, mfm::cells_by(table, odd, high));
-            put(cells, at + 2, mfm::cells_by(table, high % 2 == 1, low));
-            return at + 4;
-        }
-        _ => put(cells, at, mfm::cells_by(table, odd, byte)),
-    }
-    at + 2
 }
 
 // Puts sixteen cells at a place, as two bytes.

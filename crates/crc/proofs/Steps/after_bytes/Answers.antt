@@ -1,10 +1,10 @@
--- `crc::after_bytes` meets its contract: what is left of the bytes takes the word so far to the end. Assumes nothing.
+-- `Steps::after_bytes` meets its contract: what is left of the bytes takes the word so far to the end. Assumes nothing.
 use Prim.Native.Nat.{◌*◌, ◌/◌}
 use mathlib.Core.Path.{◌≡◌, sym, ◌∙◌}
 use native.Mathlib.Omega.{arith}
 use lib.ListN.{length}
 use Rattle.crc.proofs.Bytes.{chunk-turn}
-use Rattle.crc.proofs.after_bytes.Goals as goal
+use Rattle.crc.proofs.Steps.after_bytes.Goals as goal
 
 pub loop-four-preserved : goal.loop-four-preserved
 loop-four-preserved c =

@@ -1,8 +1,8 @@
--- `crc::after_four` meets its contract: each byte's part of the word is looked up by itself (Linear). Assumes nothing.
+-- `Steps::after_four` meets its contract: each byte's part of the word is looked up by itself (Linear). Assumes nothing.
 use mathlib.Core.Path.{sym}
 use native.Mathlib.Omega.{arith}
 use Rattle.crc.proofs.Linear.{four_bytes}
-use Rattle.crc.proofs.after_four.Goals as goal
+use Rattle.crc.proofs.Steps.after_four.Goals as goal
 
 pub returns : goal.returns
 returns c =

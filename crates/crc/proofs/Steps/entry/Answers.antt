@@ -1,4 +1,4 @@
--- `crc::entry` meets its contract: the table has its rule at each index. Assumes nothing.
+-- `Steps::entry` meets its contract: the table has its rule at each index. Assumes nothing.
 use Prim.Native.Nat.{ℕ, zero, suc, ◌+◌, ◌*◌, ◌/◌, ◌%◌, ◌^◌, ◌<◌}
 use mathlib.Core.Path.{◌≡◌, refl, ap, ◌∙◌}
 use native.Mathlib.Omega.{arith}
@@ -6,7 +6,7 @@ use Rattle.basis.specs.Lists.{listed}
 use Rattle.basis.proofs.Tables.{entry-of}
 use Rattle.crc.specs.PrivateContracts.{after_zeros, step_entry, step_table}
 use Rattle.crc.proofs.Linear.{zeros-lt}
-use Rattle.crc.proofs.entry.Goals as goal
+use Rattle.crc.proofs.Steps.entry.Goals as goal
 
 table_is : step_table ≡ listed step_entry 256
 unfolding step_table
@@ -38,5 +38,5 @@ field_is high more h = go more h
 pub returns : goal.returns
 returns c =
     let s = c in
-    let e = entry-of c.args.table.now step_entry 256 (rw c.requires.0 table_is) c.args.high c.requires.1 in
-    rw c.from.ensures (ap (λ (x : ℕ). x / 2 ^ (16 * c.args.more) % 65536) e) ∙ field_is c.args.high c.args.more c.requires.2
+    let e = entry-of c.args.self.table.now step_entry 256 (rw c.args.self.is table_is) c.args.high c.requires.0 in
+    rw c.from.ensures (ap (λ (x : ℕ). x / 2 ^ (16 * c.args.more) % 65536) e) ∙ field_is c.args.high c.args.more c.requires.1
