@@ -1,6 +1,6 @@
 -- What a track and a file add to the lists, from what the calls promise. Assumes nothing.
 use Prim.Native.Nat.{ℕ, ◌*◌, ◌≤◌}
-use mathlib.Core.Path.{◌≡◌, refl, sym, ap, ◌∙◌}
+use mathlib.Core.Path.{◌≡◌, refl, ap, ◌∙◌}
 use mathlib.Core.List.{List, [], ◌∷◌}
 use native.Mathlib.Omega.{arith}
 use lib.ListN.{length, take, drop}
@@ -15,7 +15,7 @@ use Rattle.finding_list.proofs.Numbers.{length-numbers}
 use Rattle.layouts.specs.Layouts.{double_density}
 use Rattle.layouts.proofs.Soundness.{sound}
 use Rattle.layouts.specs.declared.Density.TheVariants.{Double}
-use Rattle.refusals.specs.RefusedCalls.{Answer, refused_with, buffer_after}
+use Rattle.refusals.specs.RefusedCalls.{Answer, buffer_after}
 use Rattle.refusals.specs.RefusedCalls.Answer.{gives, refused}
 use Rattle.refusals.specs.declared.Refusal.{Refusal}
 use Rattle.track_file.specs.Portions.{read_answer, finish_answer, reader_through, cells_through, whole_of}

@@ -138,7 +138,7 @@ fn read_sector(
     if buffer.len() < size {
         return Err(Refusal::NoRoomForBytes(size));
     }
-    let mark = mark_length(density);
+    let mark = layout_of(density).mark_length;
     write_data(
         cells,
         sector.data_place as usize + mark,
@@ -148,14 +148,6 @@ fn read_sector(
         size,
         check_good: sector.data_check_good,
     })
-}
-
-// How many cells a mark has.
-fn mark_length(density: Density) -> usize
-    ensures { (result ≡ (layout_of density).mark_length) × (result ≤ 64) }
-{
-    let layout = layout_of(density);
-    layout.mark_length
 }
 
 // Decodes bytes from cell p on into all of the buffer. The place comes from a number of 32 bits, and so does the number of bytes.

@@ -1,5 +1,5 @@
 -- The track and its findings, where it is accepted. Assumes nothing.
-use Rattle.std.proofs.Common.{ℕ, ◌*◌, ◌≤◌, ◌≡◌, List, length, sym, ap, ◌∙◌, arith}
+use Rattle.std.proofs.Common.{ℕ, sym, ap, ◌∙◌, arith}
 use Rattle.std.specs.Prelude.{replicate}
 use lib.ListN.{length-replicate}
 use lib.Seq.{length-take-le}
