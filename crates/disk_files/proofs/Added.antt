@@ -1,6 +1,6 @@
 -- What a track and a file add to the lists, from what the calls promise. Assumes nothing.
 use Prim.Native.Nat.{ℕ, ◌*◌, ◌≤◌}
-use mathlib.Core.Path.{◌≡◌, refl, ap, ◌∙◌}
+use mathlib.Core.Path.{◌≡◌, refl, sym, ap, ◌∙◌}
 use mathlib.Core.List.{List, [], ◌∷◌}
 use native.Mathlib.Omega.{arith}
 use lib.ListN.{length, take, drop}
@@ -15,7 +15,8 @@ use Rattle.finding_list.proofs.Numbers.{length-numbers}
 use Rattle.layouts.specs.Layouts.{double_density}
 use Rattle.layouts.proofs.Soundness.{sound}
 use Rattle.layouts.specs.declared.Density.TheVariants.{Double}
-use Rattle.refusals.specs.RefusedCalls.{Answer, buffer_after}
+use Rattle.finding_list.specs.declared.Found.{Found}
+use Rattle.refusals.specs.RefusedCalls.{Answer, answer_by, buffer_after}
 use Rattle.refusals.specs.RefusedCalls.Answer.{gives, refused}
 use Rattle.refusals.specs.declared.Refusal.{Refusal}
 use Rattle.track_file.specs.Portions.{read_answer, finish_answer, reader_through, cells_through, whole_of}
@@ -37,6 +38,14 @@ module _ (cells : List ℕ) (N T H : ℕ) {count : ℕ} (e : findings_answer dou
 
   pub count-few : count ≤ 901
   count-few = (findings-accepted double_density (sound Double) cells N T H 901 count e).1
+
+-- the same of what a call told
+module _ (cells : List ℕ) (N T H : ℕ) {told : Result Found Refusal} (e : answer_by (λ (found : Found). found.findings) told ≡ findings_answer double_density cells N T H 901) where
+  pub accepted : {found : Found} → told ≡ Ok found → findings_answer double_density cells N T H 901 ≡ gives found.findings
+  accepted is = sym e ∙ ap (answer_by (λ (found : Found). found.findings)) is
+
+  pub few : {found : Found} → told ≡ Ok found → found.findings ≤ 901
+  few is = count-few cells N T H (accepted is)
 
 module _ (tracks after : List ℕ) (at : ℕ) (findings later : List ℕ) (from : ℕ) (cells : List ℕ) where
   module _ (N T H : ℕ) where

@@ -7,6 +7,7 @@ ghost use Rattle.lines.specs.Writing.{Wrote};
 ghost use Rattle.disk_lines.specs.EntryLines.{start_of, entry_line};
 
 // The line at the front of a lent buffer, as much of it as there is room for. The answer is the number of bytes of the whole line.
+// The clause speaks of any kind and level, so they are no enums.
 pub fn entry_line(
     out: &mut [u8],
     side: u32,
@@ -42,7 +43,7 @@ fn write_start(out: &mut [u8], side: u32, first: u32, last: u32) -> usize
     7
 }
 
-// The last decimal digit of a number, as a character.
+// The last decimal digit of a number, as a character. lines has it too, for itself: a public one there would be one promise more.
 #[tactic(auto, unfolding(lines::specs::Lines::digit))]
 fn digit(n: u32) -> u8
     ensures { result ≡ digit_of n }

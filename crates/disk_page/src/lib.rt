@@ -17,7 +17,7 @@ ghost use Rattle.lines.specs.Lines.{bytes_of};
 use refusals::Refusal;
 
 // The page of the tracks, three numbers each (track, side, how many findings), and of their findings in the same order, four numbers each
-// (kind, level, place, detail).
+// (kind, level, place, detail). Both lists are flat because C hands them over so.
 #[tactic(auto, unfolding(crate::specs::Page::page_answer, crate::specs::Page::page_after, refusals::specs::RefusedCalls::buffer_after))]
 pub fn disk_page(tracks: &[u32], findings: &[u32], out: &mut [u8]) -> Result<usize, Refusal>
     ensures answer { answer_of result ≡ page_answer tracks.now findings.now }

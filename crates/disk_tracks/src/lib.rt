@@ -9,7 +9,7 @@ ghost use Rattle.disk_tracks.specs.Judgement.{is_outside, some_outside, is_at, s
 use refusals::Refusal;
 
 // How many findings the tracks have, or why they are refused. A track is three numbers: track, side, how many findings; a finding is four: kind,
-// level, place, detail. The findings stand in the order of the tracks.
+// level, place, detail. The findings stand in the order of the tracks. Both lists are flat because C hands them over so.
 #[tactic(auto, unfolding(crate::specs::Judgement::judged))]
 pub fn judge_tracks(tracks: &[u32], findings: &[u32]) -> Result<usize, Refusal>
     ensures { answer_of result ≡ judged tracks.now findings.now }
@@ -147,7 +147,7 @@ fn is_amiss_at(track: u32, findings: &[u32], start: usize, k: usize) -> bool
     !is_later(findings[i], findings[i + 2], findings[j], findings[j + 2])
 }
 
-// A kind outside 1 to 21, or TNF on another track or with other numbers than it has.
+// A kind outside 1 to 21, or TNF on another track or with other numbers than it has. A kind is a number here, for any number may be given.
 #[tactic(auto, unfolding(crate::specs::Judgement::is_amiss))]
 fn is_amiss(track: u32, kind: u32, level: u32, place: u32, detail: u32) -> bool
     ensures { result ≡ is_amiss track kind level place detail }

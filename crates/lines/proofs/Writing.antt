@@ -1,12 +1,11 @@
 -- Bytes written one after the other. Assumes nothing.
-use Prim.Native.Nat.{ℕ, suc, ◌+◌, ◌≤◌, ◌<◌}
+use Prim.Native.Nat.{ℕ, suc, ◌+◌, ◌≤◌}
 use mathlib.Core.Path.{◌≡◌, refl, sym, ap, ◌∙◌}
 use mathlib.Core.List.{List, [], ◌∷◌, ◌++◌}
 use native.Mathlib.Nat.{add-zero}
-use native.Mathlib.Numerals.{add-one}
 use native.Mathlib.Omega.{arith}
-use lib.ListN.{length, get_or, take, drop, set, length-append}
-use lib.Seq.{sets, set_out, drop-cons}
+use lib.ListN.{length, take, set, length-append}
+use lib.Seq.{sets}
 use Rattle.basis.specs.Lists.{written_over}
 use Rattle.lines.specs.Lines.{out_after}
 use Rattle.lines.specs.Writing.{Wrote}
@@ -28,12 +27,9 @@ pub ◌then◌ : {a b c : List ℕ} {i j k m n : ℕ} {xs ys : List ℕ} → Wro
     }
 
 infixl 4 ◌then◌
--- no bytes, and one that there is no room for
+-- no bytes
 pub none : (l : List ℕ) (i m : ℕ) → Wrote l i [] m l i
 none l i m = record { bytes = refl; place = sym (add-zero i); few = omega arith }
-
-pub one_out : (l : List ℕ) (i b : ℕ) → length l ≤ i → Wrote l i (b ∷ []) 1 l (i + 1)
-one_out l i b h = record { bytes = sym (set_out l i b h); place = refl; few = omega arith }
 
 -- with a larger bound
 pub wrote-few : {a b : List ℕ} {i j m n : ℕ} {xs : List ℕ} → m ≤ n → Wrote a i xs m b j → Wrote a i xs n b j
@@ -72,11 +68,3 @@ pub wrote-front : {before made after : List ℕ} {next : ℕ} (most : ℕ) → l
     → Wrote before 0 made most after next
 wrote-front {before} {made} {after} {next} most few answer out =
     record { bytes = out ∙ sym (sets-front before made); place = answer ∙ omega arith; few = few }
-
--- a turn of the loop over the bytes of a word
-module _ (word : List ℕ) (i : ℕ) (h : i < length word) where
-  pub word-turn : (before after : List ℕ) (at next m : ℕ) → Wrote before at (get_or word i 0 ∷ []) m after next
-      → sets before at (drop i word) ≡ sets after next (drop (i + 1) word)
-  word-turn before after at next m w =
-      let e : next ≡ suc at = omega (arith, w.place) in
-      rw (add-one i, drop-cons word i 0 h, e, w.bytes)

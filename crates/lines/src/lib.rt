@@ -32,7 +32,7 @@ pub fn header(
     line.at
 }
 
-// The line of a finding, without anything before it. A number that is no kind has no name.
+// The line of a finding, without anything before it. A number that is no kind has no name; the clause speaks of any number, so `kind` is no enum.
 pub fn finding_line(out: &mut [u8], kind: u32, level: u32, place: u32, detail: u32) -> usize
     ensures answer { result ≡ length (finding_line kind level place detail) }
     ensures out { out.new ≡ out_after (finding_line kind level place detail) out.old }
