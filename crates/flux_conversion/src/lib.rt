@@ -39,7 +39,7 @@ pub fn convert(reader: FluxReader, cells: &[u8], out: &mut [u8]) -> Result<usize
 }
 
 // The conversion of a file that gives this.
-#[tactic(auto, unfolding(crate::specs::Portions::conversion_of, crate::specs::Portions::new_file_of, crate::specs::Conversion::in_room, refusals::specs::RefusedCalls::buffer_after))]
+#[tactic(auto, unfolding(crate::specs::Portions::conversion_of, crate::specs::Portions::new_file_of, crate::specs::Conversion::in_room, track_file::specs::TrackFile::written_answer, refusals::specs::RefusedCalls::buffer_after))]
 fn convert_read(
     read: Result<FileCells, Refusal>,
     cells: &[u8],
@@ -54,10 +54,6 @@ fn convert_read(
         return Err(Refusal::NoRoom(track_file::ROOM));
     }
     let bytes = (read.count + 7) / 8;
-    let needed = 14 + bytes;
-    if out.len() < needed {
-        return Err(Refusal::NoRoom(needed));
-    }
-    track_file::write_file(read.track, read.side, read.count, &cells[..bytes], out);
-    Ok(needed)
+    let count = read.count as u32;
+    track_file::write_file(read.track, read.side, count, &cells[..bytes], out)
 }

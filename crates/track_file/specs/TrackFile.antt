@@ -52,6 +52,11 @@ front_of T H cells = in_four_bytes 2 ++ (T ∷ H ∷ in_four_bytes cells)
 unfoldable pub file_with : (T H cells : ℕ) → List ℕ → List ℕ
 file_with T H cells packed = front_of T H cells ++ (packed ++ in_four_bytes 0)
 
+-- 8.10, 18.12: what is answered where a track file with these packed cells is to be written to so much room: how many bytes it has, or 10 with
+-- that number where they are more
+unfoldable pub written_answer : List ℕ → (room : ℕ) → Answer ℕ
+written_answer packed room = cond (ltb room (14 + length packed)) (refused 10 (14 + length packed)) (gives (14 + length packed))
+
 -- 10.7: how many bytes a file with this count of cells has
 abbrev pub file_length : List ℕ → ℕ
 file_length file = 14 + bytes_for (cell_count file)

@@ -4,7 +4,8 @@
 
 ghost use Rattle.std.specs.Prelude.{◌≡◌, ◌+◌, ◌≤◌, ◌<◌, length};
 ghost use Rattle.basis.specs.Lists.{written_over};
-ghost use Rattle.track_file.specs.TrackFile.{file_with};
+ghost use Rattle.refusals.specs.RefusedCalls.{answer_of, buffer_after};
+ghost use Rattle.track_file.specs.TrackFile.{file_with, written_answer};
 ghost use Rattle.track_file.specs.Portions.{start_of, start_cells, reader_after, cells_after, is_stopped, AtOnce, read_answer, finish_answer, WholeFile};
 
 use file_reader::{Number, Reader};
@@ -81,13 +82,34 @@ pub fn finish(reader: Reader) -> Result<FileCells, Refusal>
     }
 }
 
-// Puts a track file at the front of `out` (rule 10.1): the place, the cells, and no timings.
-pub fn write_file(track: u8, side: u8, count: usize, cells: &[u8], out: &mut [u8])
-    requires cells { count < 0x1_0000_0000 }
-    requires room { 14 + length cells.now ≤ length out.old }
+// Puts a track file at the front of `out` (rule 10.1): the place, the cells, and no timings. The answer is how many bytes it has. Where there is no
+// room for them, 10 is given, and nothing is put.
+#[tactic(auto, unfolding(crate::specs::TrackFile::written_answer, refusals::specs::RefusedCalls::buffer_after))]
+pub fn write_file(
+    track: u8,
+    side: u8,
+    count: u32,
+    cells: &[u8],
+    out: &mut [u8],
+) -> Result<usize, Refusal>
+    ensures answer { answer_of result ≡ written_answer cells.now (length out.old) }
+    ensures out { out.new ≡ buffer_after (written_answer cells.now (length out.old)) (file_with track side count cells.now) out.old }
+{
+    let end = 10 + cells.len();
+    let needed = end + 4;
+    if out.len() < needed {
+        return Err(Refusal::NoRoom(needed));
+    }
+    put_file(track, side, count, cells, out);
+    Ok(needed)
+}
+
+// The same, where there is room.
+fn put_file(track: u8, side: u8, count: u32, cells: &[u8], out: &mut [u8])
+    requires { 14 + length cells.now ≤ length out.old }
     ensures { out.new ≡ written_over (file_with track side count cells.now) out.old }
 {
-    let [a, b, c, d] = (count as u32).to_le_bytes();
+    let [a, b, c, d] = count.to_le_bytes();
     let end = 10 + cells.len();
     out[..10].copy_from_slice(&[2, 0, 0, 0, track, side, a, b, c, d]);
     out[10..end].copy_from_slice(cells);

@@ -11,5 +11,5 @@ overflow_add-bytes c = record { fits = omega (arith, c.requires _ (ap read_answe
 pub slice_bounds-write_file-end : goal.slice_bounds-write_file-end
 slice_bounds-write_file-end c = sym (length-take-le _ _ (omega (arith, c.if-cells-lt-ROOM.false, c.requires _ (ap read_answer c.in_ok-read.was))))
 
-pub write_file-requires-clause-cells : goal.write_file-requires-clause-cells
-write_file-requires-clause-cells c = omega (arith, c.requires _ (ap read_answer c.in_ok-read.was))
+pub overflow_cast-count : goal.overflow_cast-count
+overflow_cast-count c = record { fits = omega (arith, c.requires _ (ap read_answer c.in_ok-read.was)) }

@@ -1,6 +1,6 @@
--- `track_file::write_file` meets its contract. Assumes nothing.
+-- `track_file::put_file` meets its contract. Assumes nothing.
 use Rattle.track_file.proofs.Writing.{file-written}
-use Rattle.track_file.proofs.write_file.Goals as goal
+use Rattle.track_file.proofs.put_file.Goals as goal
 
 pub returns : goal.returns
 returns c =
