@@ -17,7 +17,7 @@ use Rattle.refusals.specs.RefusedCalls.Answer.{gives, refused}
 use Rattle.flux_timings.specs.Timings.{first_out}
 use Rattle.separation.specs.Separation.{cells_of, cells_judged, separation}
 use Rattle.separation.specs.Demand3.{Reversal, Tolerable, taken, cells_in_all, refusal_table, Demand3}
-use Rattle.separation.proofs.Promise.{promised}
+use Rattle.separation.proofs.Promise.{demand3}
 use Rattle.taken_timings.proofs.Taking.{separation-judged}
 use Rattle.taken_timings.proofs.TimingCells.{never}
 use Rattle.track_file.specs.Portions.{start_cells, whole_of}
@@ -66,14 +66,14 @@ module _ (file before : List ℕ) {after : List ℕ} {answer : Answer ℕ} (is-a
       sym
       (separation-judged ts ok.flux.some ok.flux.few (length buffer)
       ∙ rw (le-ltb (first_out ts) (length ts) (omega (arith, ok.all)), le-ltb 131072 n ok.few, le-ltb (length buffer) (bytes_for n) fits)) in
-      as-told count_is cells_are (promised ts buffer separated refl).1.1
+      as-told count_is cells_are (demand3 ts buffer separated (ap (λ (x : Answer ℕ). buffer_after x (packed (cells_of ts)) buffer) separated))
 
   refused-by-table : refused_at_once file ≡ false → not_a_flux_file file ≡ false → (D J : ℕ) → taken D J ≤ 998 → (p q : ℤ) (vs : List Reversal) → Tolerable D J p q vs ts
       → answer ≡ in_room (length before) (placed (track_of file) (side_of file) (some_cells (refusal_table (flux_count file) (cells_in_all vs) 16384)))
   refused-by-table at_once fifteen D J ok p q vs within =
       let zeros = replicate {A = ℕ} 16384 0 in
       let long : length zeros ≡ 16384 = length-replicate {A = ℕ} 16384 0 in
-      let table = ((promised ts zeros {answer = separation ts (length zeros)} refl refl).1.1.recovers D J ok p q vs within).refusal in
+      let table = ((demand3 ts zeros {answer = separation ts (length zeros)} refl refl).recovers D J ok p q vs within).refusal in
       let count = length-numbers (flux_count file) (drop 4 (flux_section file)) in
       is-answer
       ∙ ap (in_room (length before))
