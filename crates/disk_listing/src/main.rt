@@ -12,11 +12,22 @@ ghost use Rattle.disk_listing.specs.DiskOfFiles.{file_seen, printed_seen, TakenF
 ghost use Rattle.disk_listing.specs.PrivateContracts.{with_file, Small, Gathered};
 
 use refusals::Refusal;
-use std::env::Env;
+use std::env::{Env, FillError};
 use std::fs::Files;
 use std::io::Read;
 use std::{fs, io, str};
 use track_input::Input;
+
+// The length of the command line in words, of which the first is the program's name. A word for which there is no room is too long, or empty. Each program
+// that asks has a function of its own: a public one would need a clause, and no contract knows what words there are.
+fn word_count<E: Env>(env: &E) -> usize {
+    for i in 0..usize::MAX {
+        if let Err(FillError::NotPresent) = env.arg(i, &mut []) {
+            return i;
+        }
+    }
+    usize::MAX
+}
 
 // Room for one track more than a page can have. With so many the page is refused, and the files after them are not read.
 const TRACK_NUMBERS: usize = 507;
@@ -193,7 +204,7 @@ fn gather<S: Env + Files, P: Print>(
     ensures few { (result.tracks ≤ 507) × (result.findings ≤ 609076) }
     ensures files { FilesTaken (take result.tracks tracks.new) (take result.findings findings.new) result.left result.unreadable }
 {
-    let words = system_calls::word_count(system);
+    let words = word_count(system);
     let mut disk = Disk {
         tracks: 0,
         findings: 0,
@@ -281,7 +292,7 @@ fn list_disk(rt: HostRuntime, findings: &mut [u32; FINDING_NUMBERS], out: &mut [
 }
 
 fn main(rt: HostRuntime) {
-    if system_calls::word_count(&rt) < 2 {
+    if word_count(&rt) < 2 {
         let _ = rt.stderr().write_all(b"usage: disk_listing FILE..\n");
         return;
     }

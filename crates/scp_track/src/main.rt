@@ -16,8 +16,19 @@ ghost use Rattle.scp_track.specs.Arguments.{ChoiceRead};
 ghost use Rattle.scp_track.specs.InputListing.{input_listing, ListedBlock};
 
 use block_choice::Choice;
-use std::env::Env;
+use std::env::{Env, FillError};
 use std::io::Read;
+
+// The length of the command line in words, of which the first is the program's name. A word for which there is no room is too long, or empty. Each program
+// that asks has a function of its own: a public one would need a clause, and no contract knows what words there are.
+fn word_count<E: Env>(env: &E) -> usize {
+    for i in 0..usize::MAX {
+        if let Err(FillError::NotPresent) = env.arg(i, &mut []) {
+            return i;
+        }
+    }
+    usize::MAX
+}
 
 // Room for a usual block: up to five revolutions, each with some 50,000 values. The longest, as 31 revolutions with 65,536 values each, gets a
 // room of its own only where it is needed: a program pays for each page of its room, and most blocks are short.
@@ -42,7 +53,7 @@ fn read_choice<E: Env>(
     let c = system_calls::word(env, 3, third);
     let d = system_calls::word(env, 4, fourth);
     block_choice::choice_of(
-        system_calls::word_count(env),
+        word_count(env),
         &first[..a],
         &second[..b],
         &third[..c],

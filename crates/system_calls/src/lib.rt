@@ -7,7 +7,7 @@
 ghost use Rattle.std.specs.Prelude.{◌≡◌, ◌≤◌, length, replicate};
 ghost use Rattle.system_calls.specs.Counts.{ReadAnswers, count_in};
 
-use std::env::{Env, FillError};
+use std::env::Env;
 use std::io::Read;
 
 // 4,096 zeros: room for a file's name or a word of the command line.
@@ -58,15 +58,4 @@ pub fn word<E: Env>(env: &E, i: usize, room: &mut [u8]) -> usize
         Ok(count) => count.min(room.len()),
         Err(_) => 0,
     }
-}
-
-// The length of the command line in words, of which the first is the program's name. A word for which there is no room is too long, or empty.
-// Nothing is promised of the number: what words there are is not known to a contract.
-pub fn word_count<E: Env>(env: &E) -> usize {
-    for i in 0..usize::MAX {
-        if let Err(FillError::NotPresent) = env.arg(i, &mut []) {
-            return i;
-        }
-    }
-    usize::MAX
 }

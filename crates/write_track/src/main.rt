@@ -15,8 +15,19 @@ ghost use Rattle.write_track.specs.FileOfList.{file_with, refusal, unreadable, o
 
 use block_choice::Choice;
 use refusals::Refusal;
-use std::env::Env;
+use std::env::{Env, FillError};
 use std::io::Read;
+
+// The length of the command line in words, of which the first is the program's name. A word for which there is no room is too long, or empty. Each program
+// that asks has a function of its own: a public one would need a clause, and no contract knows what words there are.
+fn word_count<E: Env>(env: &E) -> usize {
+    for i in 0..usize::MAX {
+        if let Err(FillError::NotPresent) = env.arg(i, &mut []) {
+            return i;
+        }
+    }
+    usize::MAX
+}
 
 // A list of more bytes than a track can hold is refused, so that one byte more is all that need be read.
 const LIST_ROOM: usize = track_writer::MOST_PIECES + 1;
@@ -38,7 +49,7 @@ fn read_place<E: Env>(env: &E, first: &mut [u8], second: &mut [u8]) -> Option<Ch
 {
     let a = system_calls::word(env, 1, first);
     let b = system_calls::word(env, 2, second);
-    place_of(system_calls::word_count(env), &first[..a], &second[..b])
+    place_of(word_count(env), &first[..a], &second[..b])
 }
 
 // The place that two words name, where the program was started with so many, its own name among them. They are taken as the last two of the
