@@ -41,8 +41,8 @@ pub fn functions(krate: &str, file: &str, text: &str) -> Vec<Function> {
     let mut of_type = String::new();
     let lines: Vec<&str> = text.lines().collect();
     for (i, line) in lines.iter().enumerate() {
-        if let Some(rest) = line.strip_prefix("impl ") {
-            of_type = rest.trim_end_matches('{').trim().to_string();
+        if let Some(name) = implemented(line) {
+            of_type = name.to_string();
         } else if line.starts_with('}') {
             of_type.clear();
         }
@@ -80,6 +80,16 @@ fn is_of_proofs(line: &str) -> bool {
     line.strip_prefix("ghost use Rattle.")
         .and_then(|rest| rest.split_once('.'))
         .is_some_and(|(krate, path)| krate != STD && path.starts_with("proofs."))
+}
+
+/// The name of the type whose methods a line begins, without its parameters.
+fn implemented(line: &str) -> Option<&str> {
+    let rest = line.strip_prefix("impl")?;
+    let rest = match rest.strip_prefix('<') {
+        Some(parameters) => parameters.split_once('>')?.1,
+        None => rest,
+    };
+    rest.strip_prefix(' ')?.split(['<', '{', ' ']).next()
 }
 
 /// The name of the function that a line begins, and whether others see it.
@@ -150,6 +160,13 @@ mod tests {
             .all(|function| function.promises && !function.proofs));
         let with_proofs = format!("ghost use Rattle.cells.proofs.Packing.{{cell-packed}};\n{FILE}");
         assert!(functions("separator", "src/lib.rt", &with_proofs)[0].proofs);
+    }
+
+    #[test]
+    fn a_method_has_the_name_of_its_type() {
+        assert_eq!(implemented("impl Separator {"), Some("Separator"));
+        assert_eq!(implemented("impl<'a> Cells<'a> {"), Some("Cells"));
+        assert_eq!(implemented("    impl Separator {"), None);
     }
 
     #[test]
