@@ -1,6 +1,6 @@
 -- The image of a file has 4,608 bytes, and more room than that changes nothing. Assumes nothing.
-use Prim.Native.Nat.{ℕ, zero, suc, ◌+◌, ◌*◌, ◌<◌, ◌≤◌}
-use mathlib.Core.Path.{◌≡◌, refl, sym, ap, ◌∙◌}
+use Prim.Native.Nat.{ℕ, zero, suc, ◌+◌, ◌*◌, ◌<◌}
+use mathlib.Core.Path.{◌≡◌, refl, ◌∙◌}
 use mathlib.Core.Bool.{Bool, true, false, cond}
 use mathlib.Core.List.{List}
 use native.Mathlib.Omega.{arith}
@@ -15,7 +15,6 @@ use Rattle.refusals.specs.RefusedCalls.{Answer}
 use Rattle.refusals.specs.RefusedCalls.Answer.{gives, refused}
 use Rattle.sector_records.specs.Sectors.{byte_from, bytes_from, no_sector, sectors_of, data_bytes}
 use Rattle.sector_records.specs.declared.Sector.{Sector}
-use Rattle.sectors.specs.Calls.{track_judged, count_judged}
 use Rattle.sectors.proofs.Calls.{judged-accepted}
 use Rattle.sector_image.specs.Image.{index_of, first_unfit, some_outside, image_judged, image_of, image_answer}
 use Rattle.sector_image.proofs.Calls.{plain-sector}

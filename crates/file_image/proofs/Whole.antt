@@ -3,14 +3,10 @@ use Prim.Native.Nat.{ℕ}
 use mathlib.Core.Path.{◌≡◌, refl, sym, ap, ◌∙◌}
 use mathlib.Core.List.{List}
 use lib.ListN.{length}
-use Rattle.refusals.specs.RefusedCalls.{Answer, refused_with, buffer_after}
+use Rattle.refusals.specs.RefusedCalls.{Answer, buffer_after}
 use Rattle.refusals.specs.RefusedCalls.Answer.{gives, refused}
-use Rattle.refusals.specs.declared.Refusal.{Refusal}
-use Rattle.sector_image.specs.Image.{image_answer, image_after}
-use Rattle.track_file.specs.Portions.{read_answer, reader_through, cells_through, whole_of, WholeFile}
+use Rattle.track_file.specs.Portions.{whole_of, WholeFile}
 use Rattle.track_file.specs.TrackFile.{Content, file_buffer}
-use Rattle.track_file.specs.declared.FileCells.{FileCells}
-use Rattle.std.specs.Prelude.{Result, Ok, Err}
 use Rattle.file_reader.specs.declared.Reader.{Reader}
 use Rattle.file_image.specs.ImageOfFile.{image_given, image_bytes, file_image_answer, file_image, WholeImage}
 

@@ -1,20 +1,14 @@
 -- The listing of a whole file follows from what its end gives. Assumes nothing.
-use Prim.Native.Nat.{ℕ, ◌<◌, ◌≤◌}
-use mathlib.Core.Path.{◌≡◌, refl, sym, ap, ◌∙◌}
+use Prim.Native.Nat.{ℕ, ◌≤◌}
+use mathlib.Core.Path.{◌≡◌, refl, ap, ◌∙◌}
 use mathlib.Core.List.{List, [], ◌∷◌}
-use native.Mathlib.Omega.{arith}
 use lib.ListN.{length}
-use Rattle.listing.specs.Listing.{listing_of}
-use Rattle.lines.specs.Lines.{refused_line, out_after}
+use Rattle.lines.specs.Lines.{out_after}
 use Rattle.file_listing.specs.ListingOfFile.{printed_file, file_listing, WholeListing}
-use Rattle.lines.proofs.Lengths.{refused-few}
-use Rattle.refusals.specs.RefusedCalls.{Answer, number_of}
+use Rattle.refusals.specs.RefusedCalls.{Answer}
 use Rattle.refusals.specs.RefusedCalls.Answer.{gives, refused}
-use Rattle.refusals.specs.declared.Refusal.{Refusal}
-use Rattle.track_file.specs.Portions.{start_of, start_cells, reader_after, cells_after, read_answer, reader_through, cells_through, whole_of, WholeFile}
+use Rattle.track_file.specs.Portions.{start_of, start_cells, reader_after, cells_after, reader_through, cells_through, whole_of, WholeFile}
 use Rattle.track_file.specs.TrackFile.{Content, file_buffer}
-use Rattle.track_file.specs.declared.FileCells.{FileCells}
-use Rattle.std.specs.Prelude.{Result, Ok, Err}
 use Rattle.file_reader.specs.declared.Reader.{Reader}
 use Rattle.track_file.proofs.Portions.{in-one-portion}
 

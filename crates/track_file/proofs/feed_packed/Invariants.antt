@@ -1,6 +1,5 @@
 -- `track_file::feed_packed` meets its contract: after each turn what is left of the portion leads to the same end. Assumes nothing.
 use Prim.Native.Nat.{◌+◌}
-use mathlib.Core.Path.{◌≡◌}
 use lib.ListN.{drop}
 use Rattle.file_reader.specs.declared.Reader.TheVariants.{PackedCells}
 use Rattle.track_file.proofs.Portions.{Fed}
