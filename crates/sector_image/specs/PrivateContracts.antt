@@ -13,7 +13,7 @@ pub record AllThere (sectors : List Sector) : Type 0 where
   pub there : (i : ℕ) → i < 9 → index_of sectors (i + 1) < length sectors
   pub long : (i : ℕ) → i < 9 → (get_or sectors (index_of sectors (i + 1)) no_sector).data_length ≡ 512
 
--- 15.4: the first number that stands in the way, as the rules have it: 10 where none does
+-- the first number that stands in the way, as the rules have it: 10 where none does
 abbrev pub unfit_or_ten : Option ℕ → ℕ
 unfit_or_ten (Some number) = number
 unfit_or_ten None = 10

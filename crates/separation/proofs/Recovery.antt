@@ -8,7 +8,7 @@ use native.Mathlib.Omega.{arith}
 use lib.IntN.{ℤ, pos, sub_ℕ, ◌-ℤ◌}
 use lib.ListN.{length}
 use Rattle.flux_timings.specs.Timings.{in_range}
-use Rattle.separator.specs.Rule.{cells_at, offset_at, residual_after, double_half_window, border_pulses_at}
+use Rattle.separator.specs.Rule.{cells_at, offset_at, residual_after, double_half_window, border_pulses_at_by}
 use Rattle.separation.specs.Separation.{Window, windows_from, cells_in, border_pulses_in}
 use Rattle.flux_timings.specs.Timings.{first_out}
 use Rattle.separation.specs.Demand3.{Reversal, Within, Fair, Track, last, more, Centred, none, also, cells_written, Tolerable, taken}
@@ -81,7 +81,7 @@ module _ {D J error : ℕ} (ok : 8 * D + 2 * J ≤ 998) (enough : 8 * D + J ≤ 
       rw (offset-is 1000 b t) (abs-le (centre -ℤ v.place) error (omega arith) (omega arith))
 
   -- the offset is at most 8 D + 2 J, so that up to 901 the pulse is no border pulse
-  no-border : 8 * D + 2 * J ≤ 901 → border_pulses_at (offset_at double_half_window (sub_ℕ b 1000) t) ≡ 0
+  no-border : 8 * D + 2 * J ≤ 901 → border_pulses_at_by double_half_window (offset_at double_half_window (sub_ℕ b 1000) t) ≡ 0
   no-border quiet =
       let m = (t + b) % 2000 in
       let c = window-centre v.gap gap t ok carried before after fair.least fair.most gap-near timed in

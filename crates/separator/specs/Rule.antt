@@ -100,7 +100,3 @@ step_residual r t = step_residual_by double_half_window r t
 
 abbrev pub step_offset : ℤ → ℕ → ℤ
 step_offset r t = step_offset_by double_half_window r t
-
--- 3.16: the border pulses of double density
-abbrev pub border_pulses_at : ℤ → ℕ
-border_pulses_at e = border_pulses_at_by double_half_window e

@@ -38,17 +38,26 @@ pub fn functions(krate: &str, file: &str, text: &str) -> Vec<Function> {
     let imports = imports(text);
     let mut found = Vec::new();
     let mut of_type = String::new();
+    let mut in_trait = false;
     let lines: Vec<&str> = text.lines().collect();
     for (i, line) in lines.iter().enumerate() {
         if let Some(name) = implemented(line) {
             of_type = name.to_string();
+        } else if let Some(rest) = line.strip_prefix("pub trait ") {
+            of_type = rest
+                .split(['<', '{', ' ', ':'])
+                .next()
+                .unwrap_or(rest)
+                .to_string();
+            in_trait = true;
         } else if line.starts_with('}') {
             of_type.clear();
+            in_trait = false;
         }
         let Some((name, public)) = function(line.trim()) else {
             continue;
         };
-        if !public && !is_of_program(krate, name) {
+        if !public && !in_trait && !is_of_program(krate, name) {
             continue;
         }
         let contract = contract(&lines[i..]);
@@ -102,7 +111,8 @@ fn function(line: &str) -> Option<(&str, bool)> {
     Some((rest.split(['(', '<']).next()?, public.is_some()))
 }
 
-/// From a function's head up to its body, which begins with a brace on a line of its own, or ends the head's line.
+/// From a function's head up to its body, which begins with a brace on a line of its own, or ends the head's line. A function of a trait ends with a
+/// semicolon.
 fn contract(lines: &[&str]) -> String {
     let mut contract = String::new();
     for line in lines {
@@ -111,7 +121,7 @@ fn contract(lines: &[&str]) -> String {
             break;
         }
         contract.push_str(&format!("{line}\n"));
-        if !clause && line.ends_with('{') {
+        if (!clause && line.ends_with('{')) || line.ends_with(';') {
             break;
         }
     }
@@ -166,6 +176,18 @@ mod tests {
         assert_eq!(implemented("impl Separator {"), Some("Separator"));
         assert_eq!(implemented("impl<'a> Cells<'a> {"), Some("Cells"));
         assert_eq!(implemented("    impl Separator {"), None);
+    }
+
+    #[test]
+    fn what_a_public_trait_asks_for_is_promised() {
+        let found = functions(
+            "separator",
+            "src/lib.rt",
+            "ghost use Rattle.separator.specs.Rule.{limit, half};\npub trait BitWindow {\n    fn pulses(offset: i32) -> u32\n        ensures { limit result };\n\n    ghost is_half: { half };\n}\n\nfn other() {\n}\n",
+        );
+        assert_eq!(found.len(), 1);
+        assert_eq!(found[0].name, "BitWindow::pulses");
+        assert_eq!(found[0].names.len(), 1);
     }
 
     #[test]
