@@ -52,7 +52,7 @@ pub record AllReads {A : Type 0} (steps : Steps A) (first : A) (reads : List One
   pub leads : Leads steps (Open first) reads last
   pub to_end : (reader : A) → last ≡ Open reader → length reads ≡ 18446744073709551615
 
--- portions, one after another: what track_file and flux_file call so
+-- 10.12, 18.9: portions, one after another. For the formats these are what track_file and flux_file say (proofs/TrackFiles, proofs/FluxFiles)
 unfoldable pub reader_after_all : {A : Type 0} → Steps A → A → List (List ℕ) → A
 reader_after_all steps reader [] = reader
 reader_after_all steps reader (portion ∷ portions) = reader_after_all steps (steps.reader_after reader portion) portions
