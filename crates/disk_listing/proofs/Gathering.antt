@@ -18,8 +18,9 @@ use Rattle.refusals.specs.declared.Refusal.{Refusal}
 use Rattle.track_file.specs.Portions.{start_of, start_cells, finish_answer, whole_of}
 use Rattle.track_input.specs.declared.Input.{Input}
 use Rattle.track_input.specs.declared.Input.TheVariants.{Open, Ended, Failed}
+use Rattle.track_input.specs.Formats.{track_file_steps}
 use Rattle.track_input.specs.Reading.{portions_of, ReadThrough}
-use Rattle.track_input.proofs.Reading.{all-from-start, reader-from-start, cells-from-start}
+use Rattle.track_input.proofs.TrackFiles.{all-from-start, reader-from-start, cells-from-start}
 use Rattle.disk_listing.specs.declared.Disk.{Disk}
 use Rattle.disk_listing.specs.DiskOfFiles.File.{Track, Unreadable}
 use Rattle.disk_listing.specs.DiskOfFiles.File.{Refused as Refuses}
@@ -36,8 +37,8 @@ no-file tracks findings at from =
     record { outcome = unreadable; one_file = not_opened; file_is = refl; tracks_are = refl; findings_are = refl; few = omega arith }
 
 module _ (buffer : List ℕ) (long : length buffer ≡ 16384) {first : Reader} {cleared : List ℕ}
-    (started : (first ≡ start_of (length buffer)) × (cleared ≡ start_cells buffer)) {input : Input} {cells : List ℕ}
-    (through : ReadThrough first cleared input cells) where
+    (started : (first ≡ start_of (length buffer)) × (cleared ≡ start_cells buffer)) {input : Input Reader} {cells : List ℕ}
+    (through : ReadThrough track_file_steps first cleared input cells) where
   one_file : OneFile (outcome_of input through.reads)
   one_file = opened through.reads input (rw long at (all-from-start buffer started through))
 

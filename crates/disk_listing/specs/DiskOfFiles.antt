@@ -6,7 +6,9 @@ use Rattle.std.proofs.lemmas.List.Edits.{sets}
 use Rattle.disk_files.specs.TrackOfFile.{FoundTrack, track_of_file, track_numbers, finding_numbers}
 use Rattle.refusals.specs.RefusedCalls.{Answer}
 use Rattle.refusals.specs.RefusedCalls.Answer.{gives, refused}
+use Rattle.file_reader.specs.declared.Reader.{Reader}
 use Rattle.track_file.specs.Portions.{start_of, whole_of}
+use Rattle.track_input.specs.Formats.{track_file_steps}
 use Rattle.track_input.specs.Reading.{OneRead, portions_of, AllReads}
 use Rattle.track_input.specs.declared.Input.{Input}
 use Rattle.track_input.specs.declared.Input.TheVariants.{Open, Ended, Failed}
@@ -45,7 +47,7 @@ pub data Outcome : Type 0 where
   unreadable : Outcome
 
 -- 13.42, 13.44: what reads bring that led to this input: where it has ended, the track of the file which their bytes make up
-unfoldable pub outcome_of : Input → List OneRead → Outcome
+unfoldable pub outcome_of : Input Reader → List OneRead → Outcome
 outcome_of (Open reader) reads = unreadable
 outcome_of (Ended reader) reads = brings (track_of_file 16384 (whole_of (portions_of reads)))
 outcome_of Failed reads = unreadable
@@ -53,7 +55,7 @@ outcome_of Failed reads = unreadable
 -- 13.41, 13.44: a file: it cannot be opened, or there are reads of it
 pub data OneFile : Outcome → Type 0 where
   not_opened : OneFile unreadable
-  opened : (reads : List OneRead) (last : Input) → AllReads (start_of 16384) reads last → OneFile (outcome_of last reads)
+  opened : (reads : List OneRead) (last : Input Reader) → AllReads track_file_steps (start_of 16384) reads last → OneFile (outcome_of last reads)
 
 -- 13.43, 13.44: what is told of it: how many findings its track has, the number of its refusal, or that it cannot be read
 unfoldable pub told : Outcome → File

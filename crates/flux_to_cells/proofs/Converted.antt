@@ -18,7 +18,8 @@ use Rattle.refusals.specs.declared.Refusal.{Refusal}
 use Rattle.taken_timings.proofs.TimingCells.{never}
 use Rattle.track_file.specs.Portions.{start_cells, whole_of}
 use Rattle.track_file.specs.TrackFile.{Content, track_of, side_of}
-use Rattle.track_input.specs.Reading.{OneRead, portions_of}
+use Rattle.track_input.specs.Formats.{flux_file_steps}
+use Rattle.track_input.specs.Reading.{portions_of, ReadThrough}
 use Rattle.flux_reader.specs.declared.FluxReader.{FluxReader}
 use Rattle.flux_file.specs.FluxFile.{timings, flux_answer, flux_cells}
 use Rattle.flux_file.specs.Portions.{start_of}
@@ -26,10 +27,9 @@ use Rattle.flux_conversion.specs.Conversion.{new_file, new_length, in_room, conv
 use Rattle.flux_conversion.specs.Portions.{conversion_in, WholeConversion}
 use Rattle.flux_conversion.proofs.Accepted.{accepts}
 use Rattle.flux_conversion.proofs.Reading.{long-file}
-use Rattle.flux_input.specs.Reading.{ReadThrough}
-use Rattle.flux_input.specs.declared.Input.{Input}
-use Rattle.flux_input.specs.declared.Input.TheVariants.{Open, Ended, Failed}
-use Rattle.flux_input.proofs.Reading.{all-from-start, reader-from-start, cells-from-start}
+use Rattle.track_input.specs.declared.Input.{Input}
+use Rattle.track_input.specs.declared.Input.TheVariants.{Open, Ended, Failed}
+use Rattle.track_input.proofs.FluxFiles.{all-from-start, reader-from-start, cells-from-start}
 use Rattle.flux_to_cells.specs.OutputOfInput.{output_of, output_of_input, ConvertedInput}
 
 -- so many bytes stand at the front of `out`
@@ -80,8 +80,8 @@ module _ (file : List ℕ) where
       go (refused other beside) e given = ap refused_line (same_number given)
 
 module _ (buffer : List ℕ) (long : length buffer ≡ 16384) {first : FluxReader} {cleared : List ℕ}
-    (started : (first ≡ start_of (length buffer)) × (cleared ≡ start_cells buffer)) {input : Input} {cells : List ℕ}
-    (through : ReadThrough first cleared input cells) where
+    (started : (first ≡ start_of (length buffer)) × (cleared ≡ start_cells buffer)) {input : Input FluxReader} {cells : List ℕ}
+    (through : ReadThrough flux_file_steps first cleared input cells) where
   converted : (made : List ℕ) → output_of_input input through.reads ≡ made → {n : ℕ} {out : List ℕ} → AtFront made n out → ConvertedInput n out
   converted made e {n} {out} front =
       record {

@@ -7,8 +7,8 @@
 ghost use Rattle.system_calls.specs.Counts.{written_count};
 ghost use Rattle.flux_to_cells.specs.OutputOfInput.{ConvertedInput};
 
-use flux_input::Input;
 use std::io::Read;
+use track_input::Input;
 
 // Reads the input, by way of `buffer`, and then puts what is to be written at the front of `buffer`; the answer is the number of its bytes.
 // There is none where the input cannot be read to its end: there is nothing to write then.
@@ -20,7 +20,7 @@ fn convert_input<R: Read>(
     ensures { ConvertedInput (written_count result) buffer.new }
 {
     let start = flux_file::start(cells);
-    match flux_input::read_all(from, start, buffer, cells) {
+    match track_input::read_all(from, start, buffer, cells) {
         Input::Ended(reader) => match flux_conversion::convert(reader, cells, buffer) {
             Ok(count) => Some(count),
             Err(refusal) => Some(lines::refused_line(buffer, refusal.number())),

@@ -20,8 +20,9 @@ use Rattle.track_file.specs.Portions.{start_of, start_cells, whole_of}
 use Rattle.file_reader.specs.declared.Reader.{Reader}
 use Rattle.track_input.specs.declared.Input.{Input}
 use Rattle.track_input.specs.declared.Input.TheVariants.{Open, Ended, Failed}
-use Rattle.track_input.specs.Reading.{portions_of, AllReads, ReadThrough}
-use Rattle.track_input.proofs.Reading.{all-from-start, reader-from-start, cells-from-start}
+use Rattle.track_input.specs.Formats.{track_file_steps}
+use Rattle.track_input.specs.Reading.{portions_of, ReadThrough}
+use Rattle.track_input.proofs.TrackFiles.{all-from-start, reader-from-start, cells-from-start}
 use Rattle.file_image.specs.ImageOfFile.{file_image_answer, file_image, WholeImage}
 use Rattle.file_image.proofs.Length.{image-long, same-in-room}
 use Rattle.st_track.specs.ImageOfInput.{Outputs, number_line, refusal_line, unreadable_line, outputs_of, image_of_file, outputs_of_input, AtFront, ImagedInput}
@@ -60,8 +61,8 @@ unfolding image_of_file outputs_of
 refused-file file number value e = rw (← same-in-room 16384 file, ← e)
 
 module _ (buffer : List ℕ) (long : length buffer ≡ 16384) {first : Reader} {cleared : List ℕ}
-    (started : (first ≡ start_of (length buffer)) × (cleared ≡ start_cells buffer)) {input : Input} {cells : List ℕ}
-    (through : ReadThrough first cleared input cells) where
+    (started : (first ≡ start_of (length buffer)) × (cleared ≡ start_cells buffer)) {input : Input Reader} {cells : List ℕ}
+    (through : ReadThrough track_file_steps first cleared input cells) where
   abbrev Promised : (output message : ℕ) (out : List ℕ) → Type 0
   Promised output message out = record { few_output : output ≤ 65536; few_message : message ≤ 65536; image : ImagedInput output message out }
 

@@ -4,7 +4,9 @@ use Rattle.std.specs.Prelude.{ℕ, ◌≡◌, cond, List, [], ◌∷◌, ◌++�
 use Rattle.lines.specs.Lines.{bytes_of, digit, refused_line}
 use Rattle.refusals.specs.RefusedCalls.{Answer}
 use Rattle.refusals.specs.RefusedCalls.Answer.{gives, refused}
+use Rattle.file_reader.specs.declared.Reader.{Reader}
 use Rattle.track_file.specs.Portions.{start_of, whole_of}
+use Rattle.track_input.specs.Formats.{track_file_steps}
 use Rattle.track_input.specs.Reading.{OneRead, portions_of, AllReads}
 use Rattle.track_input.specs.declared.Input.{Input}
 use Rattle.track_input.specs.declared.Input.TheVariants.{Open, Ended, Failed}
@@ -48,7 +50,7 @@ unfoldable pub image_of_file : List ℕ → Outputs
 image_of_file file = outputs_of (file_image_answer 16384 4608 file) (file_image 16384 file)
 
 -- 13.31, 13.34: what is written of an input that the reads brought to this: where it has ended, that of the file which their bytes make up
-unfoldable pub outputs_of_input : Input → List OneRead → Outputs
+unfoldable pub outputs_of_input : Input Reader → List OneRead → Outputs
 outputs_of_input (Open reader) reads = record { output = []; message = unreadable_line }
 outputs_of_input (Ended reader) reads = image_of_file (whole_of (portions_of reads))
 outputs_of_input Failed reads = record { output = []; message = unreadable_line }
@@ -61,7 +63,7 @@ pub record AtFront (bytes : List ℕ) (count : ℕ) (out : List ℕ) : Type 0 wh
 -- 13.31, 13.34: there are reads of which what is to be written stands at the front of `out`, with so many bytes for each of the two
 pub record ImagedInput (output message : ℕ) (out : List ℕ) : Type 0 where
   pub reads : List OneRead
-  pub last : Input
-  pub all : AllReads (start_of 16384) reads last
+  pub last : Input Reader
+  pub all : AllReads track_file_steps (start_of 16384) reads last
   pub output_is : AtFront (outputs_of_input last reads).output output out
   pub message_is : AtFront (outputs_of_input last reads).message message out

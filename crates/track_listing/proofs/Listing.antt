@@ -11,12 +11,13 @@ use Rattle.track_file.specs.Portions.{start_of, start_cells, whole_of}
 use Rattle.file_reader.specs.declared.Reader.{Reader}
 use Rattle.track_input.specs.declared.Input.{Input}
 use Rattle.track_input.specs.declared.Input.TheVariants.{Open, Ended, Failed}
+use Rattle.track_input.specs.Formats.{track_file_steps}
 use Rattle.track_input.specs.Reading.{portions_of, ReadThrough}
-use Rattle.track_input.proofs.Reading.{all-from-start, reader-from-start, cells-from-start}
+use Rattle.track_input.proofs.TrackFiles.{all-from-start, reader-from-start, cells-from-start}
 use Rattle.track_listing.specs.InputListing.{listed_of, ListedInput}
 
 module _ (buffer : List ℕ) {first : Reader} {cleared : List ℕ} (started : (first ≡ start_of (length buffer)) × (cleared ≡ start_cells buffer))
-    {input : Input} {cells : List ℕ} (through : ReadThrough first cleared input cells) where
+    {input : Input Reader} {cells : List ℕ} (through : ReadThrough track_file_steps first cleared input cells) where
   listed : {answer : ℕ} {out : List ℕ} → answer ≡ length (listed_of (length buffer) input through.reads) → take answer out ≡ listed_of (length buffer) input through.reads
       → ListedInput buffer answer out
   listed a f = record { reads = through.reads; last = input; all = all-from-start buffer started through; answer_is = a; front_is = f }

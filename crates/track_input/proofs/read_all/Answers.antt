@@ -5,7 +5,7 @@ use Rattle.track_input.proofs.Reading.{no_reads, one-read, read-to-end, failed-r
 use Rattle.track_input.proofs.read_all.Goals as goal
 
 pub loop-init : goal.loop-init
-loop-init g c = no_reads _ _
+loop-init g c = no_reads _ _ _
 
 pub returns-in-Ended : goal.returns-in-Ended
 returns-in-Ended g c = read-to-end c.loop.invariant c.read_portion-input.ensures c.in-Ended.is

@@ -4,4 +4,4 @@ use Rattle.track_input.proofs.Reading.{Reading}
 use Rattle.track_input.proofs.read_all.Given as goal
 
 abbrev pub invariant-loop : goal.invariant-loop
-invariant-loop g l = Reading l.initial.at l.initial.cells l.at l.cells l.counter
+invariant-loop g l = Reading g.F.Format.steps l.initial.at l.initial.cells l.at l.cells l.counter

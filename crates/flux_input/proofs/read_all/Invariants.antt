@@ -1,7 +1,0 @@
--- `flux_input::read_all` meets its contract: the reads so far led to the reader and the cells. Assumes nothing but the contract of a
--- reader's `read`.
-use Rattle.flux_input.proofs.Reading.{Reading}
-use Rattle.flux_input.proofs.read_all.Given as goal
-
-abbrev pub invariant-loop : goal.invariant-loop
-invariant-loop g l = Reading l.initial.at l.initial.cells l.at l.cells l.counter
