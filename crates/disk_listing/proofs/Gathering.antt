@@ -24,7 +24,7 @@ use Rattle.track_input.proofs.TrackFiles.{all-from-start, reader-from-start, cel
 use Rattle.disk_listing.specs.declared.Disk.{Disk}
 use Rattle.disk_listing.specs.DiskOfFiles.File.{Track, Unreadable}
 use Rattle.disk_listing.specs.DiskOfFiles.File.{Refused as Refuses}
-use Rattle.disk_listing.specs.DiskOfFiles.{File, Outcome, outcome_of, OneFile, told, tracks_of, findings_of, TakenFile, left_out, not_read, Files, FilesTaken}
+use Rattle.disk_listing.specs.DiskOfFiles.{File, Outcome, outcome_of, OneFile, told, tracks_of, findings_of, TakenFile, left_out, not_read, Files, AllFiles}
 use Rattle.disk_listing.specs.DiskOfFiles.Outcome.{brings, unreadable}
 use Rattle.disk_listing.specs.DiskOfFiles.OneFile.{not_opened, opened}
 use Rattle.disk_listing.specs.DiskOfFiles.Files.{none, one_more}
@@ -176,19 +176,15 @@ pub gathered : (words : ℕ) {disk : Disk} {tracks findings : List ℕ} {next : 
     → (disk.tracks ≤ 504 → words ≤ next)
     → record {
       few : (disk.tracks ≤ 507) × (disk.findings ≤ 609076);
-      files : FilesTaken (take disk.tracks tracks) (take disk.findings findings) disk.left disk.unreadable;
+      files : AllFiles words (take disk.tracks tracks) (take disk.findings findings) disk.left disk.unreadable;
     }
 gathered words {disk} {tracks} {next = next} g long all =
     record {
       few = (g.few_tracks, omega (arith, g.few_tracks, g.few_findings));
       files =
           record {
-            words = words;
-            files =
-                record {
-                  next = next;
-                  files = g.files;
-                  all = λ h. all (omega (arith, h, length-take-le disk.tracks tracks (omega (arith, g.few_tracks, long))));
-                };
+            next = next;
+            files = g.files;
+            all = λ h. all (omega (arith, h, length-take-le disk.tracks tracks (omega (arith, g.few_tracks, long))));
           };
     }

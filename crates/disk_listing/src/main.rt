@@ -8,7 +8,7 @@
 #![tactic(auto)]
 
 ghost use Rattle.std.specs.Prelude.{◌≡◌, ◌+◌, ◌<◌, ◌≤◌, take};
-ghost use Rattle.disk_listing.specs.DiskOfFiles.{file_seen, printed_seen, TakenFile, FilesTaken, PagePrinted};
+ghost use Rattle.disk_listing.specs.DiskOfFiles.{file_seen, printed_seen, TakenFile, AllFiles, FilesTaken, PagePrinted};
 ghost use Rattle.disk_listing.specs.PrivateContracts.{with_file, Small, Gathered};
 
 use refusals::Refusal;
@@ -37,7 +37,8 @@ const FINDING_NUMBERS: usize = 609_076;
 // Room for the lines of any track: none is longer than 80 bytes, and a track has at most 901 findings.
 const PART_ROOM: usize = 72_080;
 
-// What a file brought: a track with so many findings, or a refusal.
+// What a file brought: a track with so many findings, a refusal, or nothing, where it cannot be read to its end.
+// Three ways, so neither Result nor Option.
 #[derive(Clone, Copy, Debug)]
 enum File {
     Track(usize),
@@ -54,7 +55,7 @@ struct Disk {
     unreadable: usize,
 }
 
-// How the page came to be printed: whole, with so many bytes.
+// How the printing ended: the page is whole, with so many bytes, or refused, or standard output did not take it.
 #[derive(Clone, Copy, Debug)]
 enum Printed {
     Whole(usize),
@@ -204,7 +205,32 @@ fn gather<S: Env + Files, P: Print>(
     ensures few { (result.tracks ≤ 507) × (result.findings ≤ 609076) }
     ensures files { FilesTaken (take result.tracks tracks.new) (take result.findings findings.new) result.left result.unreadable }
 {
-    let words = word_count(system);
+    gather_words(
+        system,
+        messages,
+        word_count(system),
+        name,
+        portion,
+        cells,
+        tracks,
+        findings,
+    )
+}
+
+// The same where there are so many words, of which the first is the program's name. Its promise is of this very number, so that no file is passed over.
+fn gather_words<S: Env + Files, P: Print>(
+    system: &S,
+    messages: &P,
+    words: usize,
+    name: &mut [u8; 4096],
+    portion: &mut [u8; 65536],
+    cells: &mut [u8; track_file::ROOM],
+    tracks: &mut [u32; TRACK_NUMBERS],
+    findings: &mut [u32; FINDING_NUMBERS],
+) -> Disk
+    ensures few { (result.tracks ≤ 507) × (result.findings ≤ 609076) }
+    ensures files { AllFiles words (take result.tracks tracks.new) (take result.findings findings.new) result.left result.unreadable }
+{
     let mut disk = Disk {
         tracks: 0,
         findings: 0,

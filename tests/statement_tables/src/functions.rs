@@ -17,11 +17,12 @@ pub struct Function {
 }
 
 /// Programs have no public function. These make their promises.
-const OF_PROGRAMS: [(&str, &str); 10] = [
+const OF_PROGRAMS: [(&str, &str); 11] = [
     ("track_listing", "list_input"),
     ("st_track", "image_input"),
     ("disk_listing", "take_file"),
     ("disk_listing", "gather"),
+    ("disk_listing", "gather_words"),
     ("disk_listing", "print_page"),
     ("flux_to_cells", "convert_input"),
     ("write_track", "read_place"),

