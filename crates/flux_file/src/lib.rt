@@ -32,6 +32,7 @@ pub fn feed(reader: FluxReader, portion: &[u8], cells: &mut [u8]) -> FluxReader
 {
     let mut at = reader;
     let mut rest = portion;
+    // No `for`: a turn takes the timings that follow the byte, too.
     while let Some((byte, behind)) = rest.split_first() {
         at = flux_reader::feed_byte(at, *byte, cells);
         let fed = feed_timings(at, behind, cells);

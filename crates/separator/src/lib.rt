@@ -41,6 +41,7 @@ impl BitWindow for DoubleDensity {
 
     #[tactic(auto, unfolding(crate::specs::Rule::is_border_by, crate::specs::Rule::border_pulses_at_by))]
     fn border_pulses(offset: i32) -> u32 {
+        // From 902 of the 1,000 ns to a border on, at either side.
         u32::from(offset <= -902 || 902 <= offset)
     }
 
@@ -54,6 +55,7 @@ impl BitWindow for SingleDensity {
 
     #[tactic(auto, unfolding(crate::specs::Rule::is_border_by, crate::specs::Rule::border_pulses_at_by))]
     fn border_pulses(offset: i32) -> u32 {
+        // From 1,804 of the 2,000 ns to a border on, at either side.
         u32::from(offset <= -1804 || 1804 <= offset)
     }
 
@@ -71,6 +73,13 @@ pub struct Separator {
 pub struct Step {
     pub cells: u32,
     pub offset: i32,
+}
+
+// A step by value: what it gives, and the next state.
+#[derive(Clone, Copy, Debug)]
+pub struct Advanced {
+    pub step: Result<Step, Refusal>,
+    pub next: Separator,
 }
 
 // The most residual that a step leaves, of either density.
@@ -96,6 +105,17 @@ impl Separator {
         }
         self.residual = usable_residual::<W>(self.residual);
         Ok(self.advance::<W>(timing))
+    }
+
+    // The same by value (rule 3.8): what the step gives, and the next state, which beside a refusal is the one that came.
+    pub fn stepped<W: BitWindow>(self, timing: u32) -> Advanced
+        ensures answer { taken_answer result.step ≡ step_answer_by W.HALF self.residual timing }
+        ensures offset { offset_given result.step ≡ step_offset_by W.HALF self.residual timing }
+        ensures state { result.next.residual ≡ step_residual_by W.HALF self.residual timing }
+    {
+        let mut next = self;
+        let step = next.step::<W>(timing);
+        Advanced { step, next }
     }
 
     // One timing from a residual that a step left: a loop over timings need not ask for that each time. Of another residual nothing is promised.

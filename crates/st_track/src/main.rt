@@ -13,6 +13,7 @@ use std::io::Read;
 use track_input::Input;
 
 // Where the bytes at the front of a buffer go, and how many they are: an image to standard output, or a line to standard error.
+// It is no Result: a line is written as what was asked for is, only elsewhere.
 #[derive(Clone, Copy, Debug)]
 enum Written {
     Output(usize),

@@ -6,7 +6,8 @@ ghost use Rattle.standard_input.specs.Reading.{bytes_read, is_end, TakenRead, So
 
 use std::io::Read;
 
-// What was read: so many bytes, and whether the input ended after them. One that failed or goes on has not ended.
+// What was read: so many bytes, and whether the input ended after them. One that failed or goes on has not ended. It is
+// no Result, since what came before a failure counts too.
 #[derive(Clone, Copy, Debug)]
 pub struct Input {
     pub count: usize,

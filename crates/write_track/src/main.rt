@@ -37,6 +37,7 @@ const CELL_ROOM: usize = 2 * track_writer::MOST_PIECES;
 const OUT_ROOM: usize = 65_536;
 
 // Where the bytes at the front of a buffer go, and how many they are: a track file to standard output, or a line to standard error.
+// It is no Result: a line is written as what was asked for is, only elsewhere.
 #[derive(Clone, Copy, Debug)]
 enum Written {
     Output(usize),
@@ -128,7 +129,8 @@ fn write_list(
     }
 }
 
-// Puts a track file at the front of `out`: the place, the cells, and no timings. The answer is how many bytes it has.
+// Puts a track file at the front of `out`: the place, the cells, and no timings. The answer is how many bytes it has. It is not track_file's, since that one
+// promises by the definition of a file that was read, and this one by what Write Track is to give (specs/FileOfList).
 fn write_file(track: u8, side: u8, count: usize, cells: &[u8], out: &mut [u8; OUT_ROOM]) -> usize
     requires count { count ≤ 131072 }
     requires cells { length cells.now ≤ 16384 }
