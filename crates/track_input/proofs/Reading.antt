@@ -12,7 +12,7 @@ use lib.Signed.{lt_z}
 use Rattle.system_calls.specs.Counts.{count_in}
 use Rattle.track_input.specs.declared.Input.{Input}
 use Rattle.track_input.specs.declared.Input.TheVariants.{Open, Ended, Failed}
-use Rattle.track_input.specs.Reading.{Steps, bytes_read, input_with, input_after, OneRead, Leads, portions_of, reader_after_all, cells_after_all, ReadThrough}
+use Rattle.track_input.specs.Reading.{Steps, bytes_read, input_with, input_after, OneRead, Leads, portions_of, cells_after_all, ReadThrough}
 use Rattle.track_input.specs.Reading.Leads.{none, one}
 use Rattle.track_input.specs.PrivateContracts.{TakenRead}
 
@@ -68,6 +68,11 @@ abbrev pub At : {A : Type 0} → A → Input A → Type 0
 At reader (Open at) = at ≡ reader
 At reader (Ended at) = at ≡ reader
 At reader Failed = Unit
+
+-- the reader after portions, one after another
+unfoldable pub reader_after_all : {A : Type 0} → Steps A → A → List (List ℕ) → A
+reader_after_all steps reader [] = reader
+reader_after_all steps reader (portion ∷ portions) = reader_after_all steps (steps.reader_after reader portion) portions
 
 module _ {A : Type 0} (steps : Steps A) where
   at_read : (reader : A) (got : ℤ) (portion : List ℕ) → At (steps.reader_after reader (bytes_read got portion)) (input_after steps reader got portion)

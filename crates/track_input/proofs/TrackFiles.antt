@@ -10,8 +10,9 @@ use Rattle.track_input.specs.declared.Input.{Input}
 use Rattle.track_input.specs.declared.Input.TheVariants.{Ended}
 use Rattle.track_input.specs.Formats.{track_file_steps}
 use Rattle.track_input.specs.Reading.{portions_of, AllReads, ReadThrough}
-use Rattle.track_input.specs.Reading.{reader_after_all as reader_of_all, cells_after_all as cells_of_all}
+use Rattle.track_input.specs.Reading.{cells_after_all as cells_of_all}
 use Rattle.track_input.proofs.Reading.{led}
+use Rattle.track_input.proofs.Reading.{reader_after_all as reader_of_all}
 
 pub reader-same : (reader : Reader) (portions : List (List ℕ)) → reader_of_all track_file_steps reader portions ≡ reader_after_all reader portions
 unfolding reader_of_all reader_after_all

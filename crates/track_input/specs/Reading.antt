@@ -52,11 +52,8 @@ pub record AllReads {A : Type 0} (steps : Steps A) (first : A) (reads : List One
   pub leads : Leads steps (Open first) reads last
   pub to_end : (reader : A) → last ≡ Open reader → length reads ≡ 18446744073709551615
 
--- 10.12, 18.9: portions, one after another. For the formats these are what track_file and flux_file say (proofs/TrackFiles, proofs/FluxFiles)
-unfoldable pub reader_after_all : {A : Type 0} → Steps A → A → List (List ℕ) → A
-reader_after_all steps reader [] = reader
-reader_after_all steps reader (portion ∷ portions) = reader_after_all steps (steps.reader_after reader portion) portions
-
+-- 10.12, 18.9: the cells after portions, one after another. For the formats they are those of track_file and of flux_file (proofs/TrackFiles,
+-- proofs/FluxFiles)
 unfoldable pub cells_after_all : {A : Type 0} → Steps A → A → List (List ℕ) → List ℕ → List ℕ
 cells_after_all steps reader [] buffer = buffer
 cells_after_all steps reader (portion ∷ portions) buffer =
