@@ -1,9 +1,6 @@
 -- The digits of a number. Assumes nothing.
-use Prim.Native.Nat.{ℕ, zero, suc, ◌*◌, ◌/◌, ◌%◌, ◌≤◌, ◌<◌}
-use native.Mathlib.Decide.{dec_le}
-use Rattle.std.specs.Fmt.{decimal}
-use Rattle.std.proofs.lemmas.Fmt.{decimal_digit, decimal_step}
-use mathlib.Core.Path.{◌≡◌, refl, sym, ap, ◌∙◌}
+use Prim.Native.Nat.{ℕ, zero, suc, ◌*◌, ◌/◌, ◌≤◌, ◌<◌}
+use mathlib.Core.Path.{◌≡◌, refl, ap, ◌∙◌}
 use mathlib.Core.Bool.{Bool, true, false, cond}
 use mathlib.Core.List.{List, [], ◌∷◌, ◌++◌}
 use native.Mathlib.Omega.{arith}
@@ -28,11 +25,11 @@ enough (suc k) (suc j) n h g = go (ltb n 10) refl (enough k j (n / 10))
         rw (before (omega arith) (omega arith))
 
 -- a number below 10, and any other
-decimal-small : (n : ℕ) → n < 10 → decimal_of n ≡ digit n ∷ []
+pub decimal-small : (n : ℕ) → n < 10 → decimal_of n ≡ digit n ∷ []
 unfolding decimal_of digits_within
 decimal-small n h = rw (lt-ltb n 10 h)
 
-decimal-more : (n : ℕ) → 10 ≤ n → decimal_of n ≡ decimal_of (n / 10) ++ (digit n ∷ [])
+pub decimal-more : (n : ℕ) → 10 ≤ n → decimal_of n ≡ decimal_of (n / 10) ++ (digit n ∷ [])
 unfolding decimal_of digits_within
 decimal-more zero h = absurd (omega arith)
 decimal-more (suc m) h =
@@ -58,17 +55,6 @@ decimal-within (suc k) n h = go (ltb n 10) refl (decimal-within k (n / 10))
 pub decimal-short : (n : ℕ) → n < 0x1_0000_0000 → length (decimal_of n) ≤ 10
 decimal-short n h = decimal-within 9 n (omega arith)
 
--- what std and its libraries write
-decimal_below : (k n : ℕ) → n < k → n < 0x1_0000_0000 → decimal_of n ≡ decimal n
-unfolding digit
-decimal_below zero n h fits = absurd (omega arith)
-decimal_below (suc k) n h fits = go (dec_le 10 n) (decimal_below k (n / 10))
-  where
-    go : Dec (10 ≤ n) → (n / 10 < k → n / 10 < 0x1_0000_0000 → decimal_of (n / 10) ≡ decimal (n / 10)) → decimal_of n ≡ decimal n
-    go (yes g) before = decimal-more n g ∙ ap (λ (l : List ℕ). l ++ (digit n ∷ [])) (before (omega arith) (omega arith)) ∙ sym (decimal_step n g (omega arith))
-    go (no g) before =
-        let e : n % 10 ≡ n = omega arith in
-        decimal-small n (omega arith) ∙ rw e (sym (decimal_digit n (omega arith)))
-
-pub decimal_is : (n : ℕ) → n < 0x1_0000_0000 → decimal_of n ≡ decimal n
-decimal_is n fits = decimal_below (suc n) n (omega arith) fits
+-- before the last digit of a number of 32 bits there are at most nine
+pub before_last : (n : ℕ) → n < 0x1_0000_0000 → length (decimal_of (n / 10)) ≤ 9
+before_last n fits = decimal-within 8 (n / 10) (omega arith)

@@ -7,8 +7,6 @@ ghost use Rattle.lines.specs.Lines.{digit, decimal_of, two_digits, name_of, head
 ghost use Rattle.lines.specs.Writing.{Wrote};
 ghost use Rattle.lines.specs.PrivateContracts.{WroteOn};
 
-use itoa::Buffer;
-
 // The header line.
 pub fn header(
     out: &mut [u8],
@@ -131,13 +129,15 @@ impl<'a> Line<'a> {
         self.byte(last_digit(n));
     }
 
-    // A number in decimal.
+    // A number in decimal: the digits before the last, and the last.
     fn number(&mut self, n: u32)
         requires { self.old.at + 10 ≤ 0x1_FFFF_FFFF }
         ensures { WroteOn self.old self.new (decimal_of n) 10 }
     {
-        let mut buffer = Buffer::new();
-        self.word(buffer.format(n).as_bytes());
+        if 10 <= n {
+            self.number(n / 10);
+        }
+        self.byte(last_digit(n));
     }
 
     // The bytes of a word.

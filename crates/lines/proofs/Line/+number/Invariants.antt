@@ -1,0 +1,5 @@
+-- The number falls with each call. Assumes nothing.
+use Rattle.lines.proofs.Line.+number.Given as goal
+
+abbrev pub decreases-number : goal.decreases-number
+decreases-number l = l.n
