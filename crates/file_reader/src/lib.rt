@@ -151,6 +151,6 @@ pub fn extend(number: Number, byte: u8) -> Extended
         Number::Empty => Extended::Part(Number::One(byte)),
         Number::One(a) => Extended::Part(Number::Two(a, byte)),
         Number::Two(a, b) => Extended::Part(Number::Three(a, b, byte)),
-        Number::Three(a, b, c) => Extended::Whole(u32::from_le_bytes([a, b, c, byte])),
+        Number::Three(a, b, c) => Extended::Whole(basis::four_bytes(a, b, c, byte)),
     }
 }

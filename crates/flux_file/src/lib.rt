@@ -103,7 +103,8 @@ fn feed_timings<'a>(reader: FluxReader, portion: &'a [u8], cells: &mut [u8]) -> 
     let end = (left.saturating_sub(1) as usize).min(whole.len());
     let mut taken = timings;
     for timing in &whole[..end] {
-        taken = taken_timings::take_timing(taken, u32::from_le_bytes(*timing), cells);
+        let number = basis::four_bytes(timing[0], timing[1], timing[2], timing[3]);
+        taken = taken_timings::take_timing(taken, number, cells);
     }
     Fed {
         reader: FluxReader::Timings(place, left - end as u32, Number::Empty, taken),

@@ -141,12 +141,12 @@ impl<'a> Head<'a> {
         ensures { result ≡ number (drop place self.entry.first.now) }
     {
         let first = self.first;
-        u32::from_le_bytes([
+        basis::four_bytes(
             first[place],
             first[place + 1],
             first[place + 2],
             first[place + 3],
-        ])
+        )
     }
 
     fn start_of(self, entry: usize) -> u32

@@ -129,6 +129,6 @@ impl<'a> Table<'a> {
         ensures { result ≡ number (drop at self.entry.block.now) }
     {
         let block = self.block;
-        u32::from_le_bytes([block[at], block[at + 1], block[at + 2], block[at + 3]])
+        basis::four_bytes(block[at], block[at + 1], block[at + 2], block[at + 3])
     }
 }

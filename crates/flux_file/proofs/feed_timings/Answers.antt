@@ -15,4 +15,4 @@ loop-timing-preserved c =
     let t = length-take end c.as_chunks.result.0.now in
     let step = c.take_timing-taken.ensures in
     timing-fed _ end c.loop-timing.invariant (omega (arith, t)) (omega (arith, c.min-end.ensures, k)) (omega arith) (omega (arith, t, c.min-end.ensures, c.saturating_sub.ensures)) (omega arith)
-    (ap (λ (l : List (List ℕ)). get_or (take end l) i []) c.as_chunks.ensures.front) (omega (arith, c.from_le_bytes.ensures)) step.taken step.buffer
+    (ap (λ (l : List (List ℕ)). get_or (take end l) i []) c.as_chunks.ensures.front) (omega (arith, c.four_bytes-number.ensures)) step.taken step.buffer
