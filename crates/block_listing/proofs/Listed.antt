@@ -7,9 +7,10 @@ use lib.ListN.{length}
 use Rattle.std.specs.Prelude.{Result, Ok, Err}
 use Rattle.listing.specs.Listing.{listing_of}
 use Rattle.lines.specs.Lines.{refused_line, out_after}
-use Rattle.lines.proofs.Lengths.{refused-few}
+use Rattle.lines.proofs.Lengths.{refused-few, some_refused}
+use Rattle.listing.proofs.Laws.{some_listed}
 use Rattle.refusals.specs.RefusedCalls.{Answer, refused_with, answer_of, number_of}
-use Rattle.refusals.specs.RefusedCalls.Answer.{gives}
+use Rattle.refusals.specs.RefusedCalls.Answer.{gives, refused}
 use Rattle.refusals.specs.declared.Refusal.{Refusal}
 use Rattle.block_cells.specs.BlockToCells.{block_separation, block_cells}
 use Rattle.block_listing.specs.BlockListing.{room_for_cells, printed_cells, block_listing}
@@ -50,3 +51,13 @@ module _ (block : List ℕ) (revolutions k T H : ℕ) where
         let l : block_listing block revolutions k T H ≡ refused_line number
         = listing-is (refused_with refusal) cells (ap answer_of (sym e) ∙ is) left ∙ ap refused_line (sym n) in
         record { answer = rw l a; few = omega (arith, a, refused-few number fits); out = rw l w }
+
+-- no listing is empty
+pub some_listed_block : (block : List ℕ) (revolutions k T H : ℕ) {n : ℕ} → n ≡ length (block_listing block revolutions k T H) → 0 < n
+unfolding block_listing printed_cells
+some_listed_block block revolutions k T H e =
+    omega (arith, e, go (block_separation block revolutions k (length room_for_cells)) (block_cells block revolutions k room_for_cells))
+  where
+    go : (answer : Answer ℕ) (cells : List ℕ) → 0 < length (printed_cells answer cells T H)
+    go (gives count) cells = some_listed cells count T H
+    go (refused number value) cells = some_refused number

@@ -1,14 +1,17 @@
 -- What is written of an input, from the reads that led to its end. Assumes nothing.
 use Prim.Native.Nat.{ℕ, ◌+◌, ◌≤◌, ◌<◌}
-use mathlib.Core.Path.{◌≡◌, refl, sym, ◌∙◌, ap, subst}
+use mathlib.Core.Path.{◌≡◌, refl, sym, ◌∙◌, ap}
+use mathlib.Core.Bool.{Bool, true, false, cond}
 use mathlib.Core.List.{List, [], ◌++◌}
 use mathlib.Core.Logic.{◌⊎◌, inl, inr}
 use native.Mathlib.Omega.{arith}
 use borrow.Author.Tests.{le-ltb}
-use lib.ListN.{length, take, drop, length-append}
+use lib.Dec.{ltb}
+use lib.ListN.{length, take, drop}
 use lib.Seq.{take_all, take_at}
 use Rattle.lines.specs.Lines.{refused_line, out_after}
 use Rattle.lines.proofs.Lengths.{refused-few}
+use Rattle.cells.specs.CellsAndBytes.{bytes_for}
 use Rattle.cells.proofs.Packing.{length-packed}
 use Rattle.separation.specs.Separation.{cells_of}
 use Rattle.refusals.specs.RefusedCalls.{Answer, number_of, value_of, answer_of, buffer_after}
@@ -24,13 +27,26 @@ use Rattle.flux_reader.specs.declared.FluxReader.{FluxReader}
 use Rattle.flux_file.specs.FluxFile.{timings, flux_answer, flux_cells}
 use Rattle.flux_file.specs.Portions.{start_of}
 use Rattle.flux_conversion.specs.Conversion.{new_file, new_length, in_room, conversion}
-use Rattle.flux_conversion.specs.Portions.{conversion_in, WholeConversion}
+use Rattle.flux_conversion.specs.Portions.{conversion_of, conversion_in, WholeConversion}
 use Rattle.flux_conversion.proofs.Accepted.{accepts}
 use Rattle.flux_conversion.proofs.Reading.{long-file}
 use Rattle.track_input.specs.declared.Input.{Input}
 use Rattle.track_input.specs.declared.Input.TheVariants.{Open, Ended, Failed}
 use Rattle.track_input.proofs.FluxFiles.{all-from-start, reader-from-start, cells-from-start}
 use Rattle.flux_to_cells.specs.OutputOfInput.{output_of, output_of_input, ConvertedInput}
+
+-- a new file has some bytes
+some-bytes : (b c : Bool) (k v l w m : ℕ) {n : ℕ} → ◌≡◌ {A = Answer ℕ} (gives n) (cond b (refused k v) (cond c (refused l w) (gives (14 + m)))) → 0 < n
+some-bytes true c k v l w m e = let z : ◌≡◌ {A = ℕ} 0 1 = cc in absurd (omega arith)
+some-bytes false true k v l w m e = let z : ◌≡◌ {A = ℕ} 0 1 = cc in absurd (omega arith)
+some-bytes false false k v l w m {n} e = let s : n ≡ 14 + m = cc in omega (arith, s)
+
+-- where a conversion gives a number of bytes, it is not 0
+pub some_converted : (given : Answer Content) (cells : List ℕ) (room : ℕ) {n : ℕ} → gives n ≡ conversion_of given cells room → 0 < n
+unfolding conversion_of in_room
+some_converted (gives content) cells room e =
+    some-bytes (ltb (length cells) 16384) (ltb room (new_length content.cells)) 10 16384 10 (new_length content.cells) (bytes_for content.cells) e
+some_converted (refused number value) cells room e = let z : ◌≡◌ {A = ℕ} 0 1 = cc in absurd (omega arith)
 
 -- so many bytes stand at the front of `out`
 record AtFront (made : List ℕ) (n : ℕ) (out : List ℕ) : Type 0 where

@@ -4,6 +4,7 @@
 // read to its end, nothing is known of the file: it says so on standard error, and writes no file.
 #![tactic(auto)]
 
+ghost use Rattle.std.specs.Prelude.{◌≢◌, Some};
 ghost use Rattle.system_calls.specs.Counts.{written_count};
 ghost use Rattle.flux_to_cells.specs.OutputOfInput.{ConvertedInput};
 
@@ -17,7 +18,8 @@ fn convert_input<R: Read>(
     cells: &mut [u8; track_file::ROOM],
     buffer: &mut [u8; 65536],
 ) -> Option<usize>
-    ensures { ConvertedInput (written_count result) buffer.new }
+    ensures file { ConvertedInput (written_count result) buffer.new }
+    ensures told { result ≢ Some 0 }
 {
     let start = flux_file::start(cells);
     match track_input::read_all(from, start, buffer, cells) {

@@ -3,19 +3,20 @@
 --   never-five         5 is never given: the room for 901 findings is always enough
 --   whole-in-room      in a buffer that is long enough a line or a listing is written whole
 --   front-in-room      so the front of the buffer is that line or listing
+--   some_listed        no listing is empty
 --
 -- That the listing of any track has at most 65,536 bytes is promised by `list_track` itself. Assumes nothing.
 use Rattle.layouts.specs.Layouts.{double_density}
 use Rattle.layouts.specs.declared.Density.TheVariants.{Double}
 use Rattle.layouts.proofs.Soundness.{sound}
-use Prim.Native.Nat.{ℕ, ◌≤◌}
+use Prim.Native.Nat.{ℕ, ◌<◌, ◌≤◌}
 use mathlib.Core.Path.{◌≡◌, refl, ap, ◌∙◌}
 use mathlib.Core.Bool.{Bool, true, false, cond, ◌||◌}
-use mathlib.Core.List.{List}
+use mathlib.Core.List.{List, ◌++◌}
 use native.Mathlib.Omega.{arith}
 use borrow.Author.Tests.{le-ltb, ltb-false}
 use lib.Dec.{ltb}
-use lib.ListN.{length, take, drop}
+use lib.ListN.{length, take, drop, length-append}
 use lib.Seq.{take_all, take_at}
 use Rattle.basis.specs.Lists.{written_over}
 use Rattle.cells.specs.CellsAndBytes.{bytes_for}
@@ -26,7 +27,9 @@ use Rattle.refusals.specs.RefusedCalls.{Answer}
 use Rattle.refusals.specs.RefusedCalls.Answer.{gives, refused}
 use Rattle.sectors.specs.Calls.{track_judged, count_judged}
 use Rattle.sector_records.specs.Sectors.{sectors_of}
-use Rattle.lines.specs.Lines.{out_after}
+use Rattle.lines.specs.Lines.{header_of, out_after}
+use Rattle.lines.proofs.Lengths.{some_header, some_refused}
+use Rattle.listing.specs.Listing.{lines_of, printed, listing_of}
 
 -- a buffer that is long enough
 module _ (made out : List ℕ) (h : length made ≤ length out) where
@@ -63,3 +66,24 @@ never-five bytes N T H =
     enough e =
         let few = findings-few double_density (sound Double) bytes N T (ltb-false 64 (length (sectors_of double_density bytes N)) e) in
         rw (le-ltb 901 (length (findings_of double_density bytes N T)) few) (never-given 5 (length (findings_of double_density bytes N T)))
+
+-- no listing is empty
+pub some_listed : (bytes : List ℕ) (N T H : ℕ) → 0 < length (listing_of bytes N T H)
+unfolding listing_of printed
+some_listed bytes N T H = go (findings_answer double_density bytes N T H 901)
+  where
+    sectors : ℕ
+    sectors = length (sectors_of double_density bytes N)
+
+    findings : ℕ
+    findings = length (findings_of double_density bytes N T)
+
+    header : List ℕ
+    header = header_of T H N sectors findings
+
+    rest : List ℕ
+    rest = lines_of (findings_of double_density bytes N T)
+
+    go : (answer : Answer ℕ) → 0 < length (printed answer (header ++ rest))
+    go (gives count) = omega (arith, some_header T H N sectors findings, length-append header rest)
+    go (refused number value) = some_refused number

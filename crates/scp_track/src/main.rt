@@ -8,7 +8,7 @@
 // input cannot be read to its end, or is longer than 4,194,304 bytes, it says so there, and lists nothing.
 #![tactic(auto)]
 
-ghost use Rattle.std.specs.Prelude.{◌≡◌, [], ◌≤◌, length};
+ghost use Rattle.std.specs.Prelude.{◌≡◌, ◌≢◌, [], ◌≤◌, length, Some};
 ghost use Rattle.block_choice.specs.Arguments.{choice_seen};
 ghost use Rattle.lines.specs.Lines.{out_after};
 ghost use Rattle.system_calls.specs.Counts.{written_count};
@@ -66,6 +66,7 @@ fn read_choice<E: Env>(
 fn list_read(choice: Choice, block: &[u8], ended: bool, out: &mut [u8]) -> Option<usize>
     ensures answer { written_count result ≡ length (input_listing ended block.now choice.revolutions choice.revolution choice.track choice.side) }
     ensures few { written_count result ≤ 65536 }
+    ensures told { result ≢ Some 0 }
     ensures out { out.new ≡ out_after (input_listing ended block.now choice.revolutions choice.revolution choice.track choice.side) out.old }
 {
     if !ended {
@@ -85,6 +86,7 @@ fn list_read(choice: Choice, block: &[u8], ended: bool, out: &mut [u8]) -> Optio
 // to its end, or has more bytes than the longest room: there is nothing to write then. A block of more revolutions than usual gets that at once.
 fn list_input<R: Read>(from: &mut R, choice: Choice, out: &mut [u8]) -> Option<usize>
     ensures few { written_count result ≤ 65536 }
+    ensures told { result ≢ Some 0 }
     ensures listing { ListedBlock 4194304 [] choice.revolutions choice.revolution choice.track choice.side out.old (written_count result) out.new }
 {
     if USUAL_REVOLUTIONS < choice.revolutions {
@@ -96,6 +98,7 @@ fn list_input<R: Read>(from: &mut R, choice: Choice, out: &mut [u8]) -> Option<u
 // An array so large is only made here, and lent whole: in the function that makes it, what stands in it is computed in a proof.
 fn list_usual<R: Read>(from: &mut R, choice: Choice, out: &mut [u8]) -> Option<usize>
     ensures few { written_count result ≤ 65536 }
+    ensures told { result ≢ Some 0 }
     ensures listing { ListedBlock 4194304 [] choice.revolutions choice.revolution choice.track choice.side out.old (written_count result) out.new }
 {
     let mut block = [0u8; USUAL_ROOM];
@@ -110,6 +113,7 @@ fn read_usual<R: Read>(
     out: &mut [u8],
 ) -> Option<usize>
     ensures few { written_count result ≤ 65536 }
+    ensures told { result ≢ Some 0 }
     ensures listing { ListedBlock 4194304 [] choice.revolutions choice.revolution choice.track choice.side out.old (written_count result) out.new }
 {
     let input = standard_input::read_on(from, block, 0);
@@ -123,6 +127,7 @@ fn read_usual<R: Read>(
 fn list_longer<R: Read>(from: &mut R, choice: Choice, front: &[u8], out: &mut [u8]) -> Option<usize>
     requires { length front.now ≤ 4194304 }
     ensures few { written_count result ≤ 65536 }
+    ensures told { result ≢ Some 0 }
     ensures listing { ListedBlock 4194304 front.now choice.revolutions choice.revolution choice.track choice.side out.old (written_count result) out.new }
 {
     let mut block = [0u8; LONGEST_ROOM];
@@ -139,6 +144,7 @@ fn read_longer<R: Read>(
 ) -> Option<usize>
     requires { length front.now ≤ 4194304 }
     ensures few { written_count result ≤ 65536 }
+    ensures told { result ≢ Some 0 }
     ensures listing { ListedBlock 4194304 front.now choice.revolutions choice.revolution choice.track choice.side out.old (written_count result) out.new }
 {
     basis::copy(front, block);

@@ -4,7 +4,7 @@
 // nothing is known of the file: it says so on standard error, and lists nothing.
 #![tactic(auto)]
 
-ghost use Rattle.std.specs.Prelude.{◌≤◌};
+ghost use Rattle.std.specs.Prelude.{◌≤◌, ◌≢◌, Some};
 ghost use Rattle.system_calls.specs.Counts.{written_count};
 ghost use Rattle.track_listing.specs.InputListing.{ListedInput};
 
@@ -20,6 +20,7 @@ fn list_input<R: Read>(
 ) -> Option<usize>
     ensures few { written_count result ≤ 65536 }
     ensures listing { ListedInput cells.old (written_count result) buffer.new }
+    ensures told { result ≢ Some 0 }
 {
     let start = track_file::start(cells);
     match track_input::read_all(from, start, buffer, cells) {
