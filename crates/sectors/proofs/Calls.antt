@@ -4,7 +4,7 @@ use mathlib.Core.Path.{◌≡◌, refl, sym, ap, ◌∙◌}
 use mathlib.Core.Bool.{Bool, true, false, cond, ◌||◌}
 use mathlib.Core.List.{List, []}
 use native.Mathlib.Omega.{arith}
-use borrow.Author.Tests.{lt-ltb, le-ltb, le-leb, lt-leb, ne_eqb, ltb-false}
+use borrow.Author.Tests.{lt-ltb, le-ltb, le-leb, lt-leb, eq-eqb, ne_eqb, ltb-false}
 use lib.Dec.{ltb, leb}
 use lib.ListN.{length}
 use Rattle.basis.proofs.Bools.{or_left, or_right}
@@ -21,14 +21,31 @@ use Rattle.sector_records.specs.declared.Sectors.{Sectors}
 pub most-cells : (n : ℕ) → (ltb n 20000 || ltb 131072 n) ≡ false → n ≤ 131072
 most-cells n e = ltb-false 131072 n (or_right (ltb n 20000) (ltb 131072 n) e)
 
--- each judgement, where it goes on
+-- each judgement, where it refuses and where it goes on
 module _ {A : Type 0} (bytes : List ℕ) (N T H : ℕ) (next : Answer A) where
+  pub refuses-1 : (ltb 83 T || ltb 1 H) ≡ true → refused 1 0 ≡ track_judged bytes N T H next
+  unfolding track_judged
+  refuses-1 e = rw e
+
+  pub refuses-2 : (ltb 83 T || ltb 1 H) ≡ false → (ltb N 20000 || ltb 131072 N) ≡ true → refused 2 N ≡ track_judged bytes N T H next
+  unfolding track_judged
+  refuses-2 e g = rw (e, g)
+
+  pub refuses-3 : (ltb 83 T || ltb 1 H) ≡ false → (ltb N 20000 || ltb 131072 N) ≡ false → length bytes < bytes_for N
+      → refused 3 (bytes_for N) ≡ track_judged bytes N T H next
+  unfolding track_judged
+  refuses-3 e g l = rw (e, g, lt-ltb (length bytes) (bytes_for N) l)
+
   pub track-accepted : (ltb 83 T || ltb 1 H) ≡ false → (ltb N 20000 || ltb 131072 N) ≡ false → bytes_for N ≤ length bytes
       → next ≡ track_judged bytes N T H next
   unfolding track_judged
   track-accepted e g l = rw (e, g, le-ltb (length bytes) (bytes_for N) l)
 
 module _ {A : Type 0} (count : ℕ) (next : Answer A) where
+  pub refuses-4 : 64 < count → refused 4 count ≡ count_judged count next
+  unfolding count_judged
+  refuses-4 l = rw (lt-ltb 64 count l)
+
   pub count-accepted : count ≤ 64 → next ≡ count_judged count next
   unfolding count_judged
   count-accepted l = rw (le-ltb 64 count l)
@@ -40,6 +57,15 @@ module _ {A : Type 0} (count : ℕ) (next : Answer A) where
   pub index-accepted : (index : ℕ) → index < count → next ≡ index_judged count index next
   unfolding index_judged
   index-accepted index l = rw (lt-leb count index l)
+
+module _ (s : Sector) (room : ℕ) where
+  pub refuses-12 : s.data_mark ≡ 0 → refused 12 0 ≡ data_judged s room
+  unfolding data_judged
+  refuses-12 e = rw (eq-eqb s.data_mark 0 e)
+
+  pub refuses-13 : (s.data_mark ≡ 0 → ⊥) → room < s.data_length → refused 13 s.data_length ≡ data_judged s room
+  unfolding data_judged
+  refuses-13 e l = rw (ne_eqb s.data_mark 0 e, lt-ltb room s.data_length l)
 
 pub data-accepted : (s : Sector) (room : ℕ) → (s.data_mark ≡ 0 → ⊥) → s.data_length ≤ room → gives (record { size = s.data_length; good = s.data_check_good }) ≡ data_judged s room
 unfolding data_judged

@@ -8,7 +8,7 @@ use native.Mathlib.Decide.{dec_le}
 use native.Mathlib.Nat.{lt_of_not-le}
 use native.Mathlib.Numerals.{add-one}
 use native.Mathlib.Omega.{arith}
-use borrow.Author.Tests.{ne_eqb, eqb-true}
+use borrow.Author.Tests.{ne_eqb, lt-ltb, le-ltb, eqb-true}
 use lib.Dec.{eqb}
 use lib.ListN.{length, take, drop, get_or, length-append, length-drop, drop_of_length-le, take-append-drop}
 use lib.Seq.{take_at, drop_at, drop-drop, drop-cons, length-take-le}
@@ -19,8 +19,10 @@ use Rattle.mfm.specs.Table.{cell_table, entry_of}
 use Rattle.mfm.proofs.ByTable.{entry-is}
 use Rattle.mfm.proofs.Cells.{bit-lt}
 use Rattle.track_writer.specs.declared.Writer.{Writer}
+use Rattle.refusals.specs.RefusedCalls.Answer.{gives, refused}
 use Rattle.track_writer.specs.WriteTrack.Piece.{coded, sync_a1, sync_c2}
-use Rattle.track_writer.specs.WriteTrack.{Piece, byte_of, pieces_from, pieces_of, piece_cells, packed_from, written}
+use Rattle.track_writer.specs.WriteTrack.{Piece, byte_of, pieces_from, pieces_of, piece_cells, packed_from, written, cell_count}
+use Rattle.track_writer.specs.Calls.{judged}
 use Rattle.track_writer.specs.PrivateContracts.{two_bytes, bit_before, packed_for, next, rest, pieces_for, UpToMost}
 
 -- a test for an odd number, as a bit
@@ -36,13 +38,41 @@ odd_is x = go (x % 2) (omega arith)
 pub cells_in : {table : List ℕ} → table ≡ cell_table → (before : Bool) (byte : ℕ) → byte < 256 → entry_of table (cond before 1 0) byte ≡ byte_cells (cond before 1 0) byte
 cells_in e before byte h = rw e (entry-is (cond before 1 0) byte (bit-lt before) h)
 
--- ---- a count that may stop early
+-- ---- a count that may stop early tells what the refusals ask
 counted-few : (n r : ℕ) → UpToMost n r → r ≤ 8192 → r ≡ n
 counted-few n r c h = go (dec_le n 8192)
   where
     go : Dec (n ≤ 8192) → r ≡ n
     go (yes l) = c.exact l
     go (no l) = absurd (omega (arith, c.more (lt_of_not-le l)))
+
+counted-many : (n r : ℕ) → UpToMost n r → 8192 < r → 8192 < n
+counted-many n r c h = go (dec_le n 8192)
+  where
+    go : Dec (n ≤ 8192) → 8192 < n
+    go (yes l) = absurd (omega (arith, c.exact l))
+    go (no l) = lt_of_not-le l
+
+module _ (list : List ℕ) (r room : ℕ) (c : UpToMost (length (pieces_of list)) r) where
+  pub too_many : 8192 < r → refused 20 0 ≡ judged (cell_count list) room
+  unfolding judged cell_count
+  too_many h = let l = counted-many (length (pieces_of list)) r c h in rw (lt-ltb 131072 (16 * length (pieces_of list)) (omega arith))
+
+  bytes_are : r ≤ 8192 → (16 * length (pieces_of list) + 7) / 8 ≡ 2 * r
+  bytes_are h = let e = counted-few (length (pieces_of list)) r c h in omega arith
+
+  pub no_room : r ≤ 8192 → room < 2 * r → refused 10 (2 * r) ≡ judged (cell_count list) room
+  unfolding judged cell_count
+  no_room h g =
+      let e = counted-few (length (pieces_of list)) r c h in
+      rw (le-ltb 131072 (16 * length (pieces_of list)) (omega arith), bytes_are h, lt-ltb room (2 * r) g)
+
+  pub in-room : r ≤ 8192 → 2 * r ≤ room → gives (16 * r) ≡ judged (cell_count list) room
+  unfolding judged cell_count
+  in-room h g =
+      let e = counted-few (length (pieces_of list)) r c h in
+      let s : 16 * length (pieces_of list) ≡ 16 * r = omega arith in
+      rw (le-ltb 131072 (16 * length (pieces_of list)) (omega arith), bytes_are h, le-ltb room (2 * r) g, s)
 
 -- ---- the pieces are counted by the bytes alone: neither the check word nor the runs change their number
 pub piece_count : List ℕ → ℕ
