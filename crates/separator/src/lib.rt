@@ -6,7 +6,7 @@ ghost use Rattle.std.specs.Int.Signed.{lt_z};
 ghost use Rattle.std.proofs.Common.{rules};
 ghost use Rattle.refusals.specs.RefusedCalls.Answer.{gives};
 ghost use Rattle.flux_timings.specs.Timings.{in_range};
-ghost use Rattle.separator.specs.Rule.{IsHalfWindow, usable, halved, taken_answer, offset_given, step_answer_by, step_offset_by, step_residual_by, border_pulses_at_by};
+ghost use Rattle.separator.specs.Rule.{double_half_window, single_half_window, IsHalfWindow, usable, halved, taken_answer, offset_given, step_answer_by, step_offset_by, step_residual_by, border_pulses_at_by};
 
 use flux_timings::timing_in_range;
 use refusals::Refusal;
@@ -35,7 +35,7 @@ pub struct DoubleDensity;
 pub struct SingleDensity;
 
 impl BitWindow for DoubleDensity {
-    ghost HALF = { 1000 };
+    ghost HALF = { double_half_window };
 
     const HALF: u32 = 1000;
 
@@ -49,7 +49,7 @@ impl BitWindow for DoubleDensity {
 }
 
 impl BitWindow for SingleDensity {
-    ghost HALF = { 2000 };
+    ghost HALF = { single_half_window };
 
     const HALF: u32 = 2000;
 
